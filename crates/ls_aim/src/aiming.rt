@@ -26,7 +26,9 @@ fn go_to(
     steps: &mut Schedule,
 ) -> Result<(), AimFault>
     requires { RunsNamed runner.old }
-    ensures { Gives (λ u. steps.new) result (gone_to (names_in runner.old) at target.entry.thread (run_in runner.old) (stop_of target.entry.stop) steps.old (room_after steps.old)) }
+    ensures { Gives (λ u. steps.new) result
+        (gone_to (names_in runner.old) at target.entry.thread (run_in runner.old) (stop_of target.entry.stop) steps.old
+        (room_after steps.old)) }
 {
     steps.fits();
     let mut stop = target.stop;
@@ -96,10 +98,10 @@ fn take(
     }
 }
 
-/// The schedule of a text with targets. Its items stand between gaps: items and groups of schedules, and targets. A target `A!`
-/// takes the fewest steps of thread A after which a step of it would change nothing, because it has ended or waits. A target
-/// `A:TEXT` takes the fewest after which the label of the next step has the text, and `A:2:TEXT` those to the second such step.
-/// The label is what the step's line in a trace has after its number and its thread.
+/// The schedule of a text with targets. Its items stand between gaps: items and groups of schedules, and targets. A
+/// target `A!` takes the fewest steps of thread A after which a step of it would change nothing, because it has ended
+/// or waits. A target `A:TEXT` takes the fewest after which the label of the next step has the text, and `A:2:TEXT`
+/// those to the second such step. The label is what the step's line in a trace has after its number and its thread.
 ///
 /// Refused with the first item of the text that can't be taken.
 pub fn aim(alloc: Global, names: Names, targets: &str) -> Result<Schedule, AimFault>

@@ -1,11 +1,14 @@
 // What an item with a target says.
 
-ghost use Rattle.std.specs.Prelude.{◌≡◌, ◌+◌, ◌<◌, ◌≤◌, ◌-◌, IfSome, ℕ, List, length, map, min, option_map, take, drop, Some};
+ghost use Rattle.std.specs.Prelude.{◌≡◌, ◌+◌, ◌<◌, ◌≤◌, ◌-◌, IfSome, ℕ, List, length, map, min, option_map, take};
+ghost use Rattle.std.specs.Prelude.{drop, Some};
 ghost use Rattle.std.specs.List.{position};
 ghost use Rattle.std.specs.Str.{bytes_eq};
 ghost use Rattle.ls_schedule.specs.Answers.{Says};
 ghost use Rattle.ls_schedule.specs.Reading.{count_of, thread_name};
-ghost use Rattle.ls_aim.specs.Reading.{bare, before, before_counted, before_said, closed_at, is_colon, is_mark, is_quote, mark_of, named, rest_said, stop_of, stop_said, target_of, target_said, text_said};
+ghost use Rattle.ls_aim.specs.Reading.{bare, before, before_counted, before_said, closed_at, is_colon, is_mark};
+ghost use Rattle.ls_aim.specs.Reading.{is_quote, mark_of, named, rest_said, stop_of, stop_said, target_of};
+ghost use Rattle.ls_aim.specs.Reading.{target_said, text_said};
 
 use crate::texts::opens_group;
 use ls_checked::program::ThreadProgram;
@@ -13,7 +16,8 @@ use ls_lexer::names::is_name_bytes;
 use ls_schedule::count;
 use ls_schedule::fault::ScheduleFault;
 
-/// Where a thread is to stop: at its end or where it waits, or before a step whose label has a text, of which it passes so many.
+/// Where a thread is to stop: at its end or where it waits, or before a step whose label has a text, of which it passes
+/// so many.
 #[derive(Clone, Copy)]
 pub enum Stop<'t> {
     Rest,

@@ -151,7 +151,8 @@ impl<'a> Runner<'a> {
         action: Action<Value>,
         answer: Answer<Value>,
     ) -> Result<String, AllocError>
-        ensures { IfOk result (λ l. string_bytes l ≡ performed_text (names_in self.now) (run_in self.now).labels thread action answer) }
+        ensures { IfOk result (λ l. string_bytes l ≡ performed_text (names_in self.now) (run_in self.now).labels thread
+            action answer) }
     {
         let mut label = String::new(alloc);
         push_performed(&mut label, self.names, &self.labels, thread, action, answer)?;
@@ -167,7 +168,8 @@ impl<'a> Runner<'a> {
         stop: Stop<'t>,
     ) -> Result<Sight<'t>, AllocError>
         requires { RunsNamed self.old }
-        ensures sight { IfOk result (λ s. sight_of s ≡ sight (names_in self.old) at (run_in self.old) thread (stop_of stop.entry)) }
+        ensures sight { IfOk result
+            (λ s. sight_of s ≡ sight (names_in self.old) at (run_in self.old) thread (stop_of stop.entry)) }
         ensures run { OnOk result (run_in self.new ≡ after_step (names_in self.old) (run_in self.old) thread) }
         ensures names { names_in self.new ≡ names_in self.old }
         ensures runs { OnOk result (RunsNamed self.new) }

@@ -6,11 +6,7 @@ ghost use Rattle.std.specs.Str.{bytes_eq};
 ghost use Rattle.ls_items.specs.Items.{is_gap};
 ghost use Rattle.ls_aim.specs.Texts.{group_len, item_len, items, items_of, depth_after, opens_group, word_len};
 
-pub fn is_gap(b: u8) -> bool
-    ensures { result ≡ is_gap b }
-{
-    b == b' ' || b == b'\t' || b == b'\r' || b == b'\n'
-}
+use ls_items::is_gap;
 
 pub fn opens_group(text: &[u8]) -> bool
     ensures { result ≡ opens_group text.now }

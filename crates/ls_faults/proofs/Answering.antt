@@ -7,7 +7,7 @@ use Rattle.ls_schedule.specs.declared.fault.ScheduleFault.{ScheduleFault}
 use Rattle.ls_schedule.specs.declared.fault.ScheduleFault.TheVariants as schedule
 use Rattle.ls_report.specs.Events.{Text}
 use Rattle.ls_faults.specs.Faults.{lifted_schedule}
-use Rattle.ls_faults.specs.Given.{Gives, GivesSeen}
+use Rattle.ls_faults.specs.Given.{GivesText, GivesOne}
 use Rattle.ls_faults.specs.declared.fault.ToolFault.{ToolFault}
 use Rattle.ls_faults.specs.declared.fault.ToolFault.TheVariants as fault
 
@@ -18,7 +18,7 @@ abbrev pub FailedSteps : ToolFault → Result (List ℕ) ToolFault
 FailedSteps f = Err f
 
 -- a fault that may be answered is one that is given, want of memory too
-pub fails : (May : Result Text ToolFault → Type 0) (f : ToolFault) → May (Err f) → Gives May (Failed f)
+pub fails : (May : Result Text ToolFault → Type 0) (f : ToolFault) → May (Err f) → GivesText May (Failed f)
 fails May fault.Memory h = tt
 fails May (fault.Text f) h = h
 fails May (fault.Check f) h = h
@@ -44,7 +44,7 @@ fails May fault.WriteFailed h = h
 -- the same of steps
 pub fails_steps : (May : Result (List ℕ) ToolFault → Type 0) (f : ToolFault) →
     May (Err f) →
-    GivesSeen (λ steps. steps) May (FailedSteps f)
+    GivesOne (λ steps. steps) May (FailedSteps f)
 fails_steps May fault.Memory h = tt
 fails_steps May (fault.Text f) h = h
 fails_steps May (fault.Check f) h = h
@@ -70,7 +70,7 @@ fails_steps May fault.WriteFailed h = h
 -- a fault that is given for steps is one that may be given for a text
 pub passed_on : (May : Result (List ℕ) ToolFault → Type 0) (May' : Result Text ToolFault → Type 0) (f : ToolFault) →
     (May (Err f) → May' (Err f)) →
-    GivesSeen (λ steps. steps) May (FailedSteps f) → Gives May' (Failed f)
+    GivesOne (λ steps. steps) May (FailedSteps f) → GivesText May' (Failed f)
 passed_on May May' fault.Memory g h = tt
 passed_on May May' (fault.Text f) g h = g h
 passed_on May May' (fault.Check f) g h = g h
@@ -96,8 +96,8 @@ passed_on May May' fault.WriteFailed g h = g h
 -- an answer that may be given may be given under a wider claim
 pub wider : (May May' : Result Text ToolFault → Type 0) (r : Result (String Global) ToolFault) →
     ((a : Result Text ToolFault) → May a → May' a) →
-    Gives May r →
-    Gives May' r
+    GivesText May r →
+    GivesText May' r
 wider May May' (Ok t) h g = h (Ok (string_bytes t)) g
 wider May May' (Err fault.Memory) h g = tt
 wider May May' (Err (fault.Text f)) h g = h (Err (fault.Text f)) g
@@ -125,7 +125,7 @@ wider May May' (Err fault.WriteFailed) h g = h (Err fault.WriteFailed) g
 pub unread : (May : Result (List ℕ) ScheduleFault → Result Text ToolFault → Type 0) →
     ((f : ScheduleFault) → May (Err f) (Err (lifted_schedule f))) →
     (read : Result (List ℕ) ScheduleFault) (f : ScheduleFault) → Fails f read →
-    Gives (May read) (Failed (lifted_schedule f))
+    GivesText (May read) (Failed (lifted_schedule f))
 unread May may read schedule.Memory r = tt
 unread May may read (schedule.BadItem at) r = rw r (may (schedule.BadItem at))
 unread May may read (schedule.UnknownThread at) r = rw r (may (schedule.UnknownThread at))

@@ -1,7 +1,10 @@
 // Faults of the program and of the layers below.
 
 ghost use Rattle.std.specs.Prelude.{◌≡◌};
-ghost use Rattle.ls_faults.specs.Faults.{lifted_aim, lifted_batch, lifted_build, lifted_cells, lifted_check, lifted_compile, lifted_explore, lifted_history, lifted_live, lifted_order, lifted_program, lifted_schedule, lifted_search, lifted_tally, lifted_text, lifted_translation, lifted_turns};
+ghost use Rattle.ls_faults.specs.Faults.{lifted_aim, lifted_batch, lifted_build, lifted_cells, lifted_check};
+ghost use Rattle.ls_faults.specs.Faults.{lifted_compile, lifted_explore, lifted_history, lifted_live, lifted_order};
+ghost use Rattle.ls_faults.specs.Faults.{lifted_program, lifted_schedule, lifted_search, lifted_tally, lifted_text};
+ghost use Rattle.ls_faults.specs.Faults.{lifted_translation, lifted_turns};
 ghost use Rattle.ls_faults.specs.declared.fault.ToolFault.TheVariants.{Memory};
 
 use ls_aim::fault::AimFault;
@@ -21,7 +24,7 @@ use ls_report::HistoryFault;
 use ls_schedule::fault::ScheduleFault;
 use ls_tallies_reading::TallyFault;
 use ls_translation::fault::TranslationFault;
-use ls_types::check::CheckFault;
+use ls_types::checked::CheckFault;
 use ls_types::fault::ProgramFault;
 use std::alloc::{AllocError, AllocFailed};
 use thiserror::Error;

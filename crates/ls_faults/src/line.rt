@@ -1,7 +1,9 @@
 // The line of a fault, made without memory.
 
 ghost use Rattle.std.specs.Prelude.{◌≡◌, ◌≤◌, length};
-ghost use Rattle.ls_faults.specs.Faults.{aim_line, batch_line, build_line, cells_line, check_line, explore_line, fault_line, live_line, placed, plain, program_line, rule_name, schedule_line, spanned, tally_line, text_line, translation_line, turns_line};
+ghost use Rattle.ls_faults.specs.Faults.{aim_line, batch_line, build_line, cells_line, check_line, explore_line};
+ghost use Rattle.ls_faults.specs.Faults.{fault_line, live_line, placed, plain, program_line, rule_name};
+ghost use Rattle.ls_faults.specs.Faults.{schedule_line, spanned, tally_line, text_line, translation_line, turns_line};
 
 use crate::fault::ToolFault;
 use ls_aim::fault::AimFault;
@@ -20,7 +22,7 @@ use ls_report::HistoryFault;
 use ls_schedule::fault::ScheduleFault;
 use ls_tallies_reading::TallyFault;
 use ls_translation::fault::TranslationFault;
-use ls_types::check::CheckFault;
+use ls_types::checked::CheckFault;
 use ls_types::fault::ProgramFault;
 use ls_types_elaboration::rule::Rule;
 use std::marker::Model;

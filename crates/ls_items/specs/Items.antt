@@ -1,5 +1,6 @@
 -- The items of a text: what is between gaps.
-use Rattle.std.specs.Prelude.{◌≡◌, ◌↔◌, ◌==◌, ◌||◌, ◌+◌, ℕ, Bool, true, false, List, [], ◌∷◌, ◌++◌, length, if◌then◌else◌}
+use Rattle.std.specs.Prelude.{◌≡◌, ◌↔◌, ◌==◌, ◌||◌, ◌+◌, ℕ, Bool, true, false, List, [], ◌∷◌, ◌++◌, length}
+use Rattle.std.specs.Prelude.{if◌then◌else◌}
 
 -- space, tab, CR and LF
 abbrev pub is_gap : ℕ → Bool
@@ -39,7 +40,10 @@ EndsItem (b ∷ bs) = is_gap b ≡ true
 -- the text, which begins at a place, is gaps and these items with their places
 pub data Divides : ℕ → List ℕ → List Item → Type 0 where
   ends : {at : ℕ} → Divides at [] []
-  gap : {at : ℕ} {bs : List ℕ} {is : List Item} (b : ℕ) → is_gap b ≡ true → Divides (at + 1) bs is → Divides at (b ∷ bs) is
+  gap : {at : ℕ} {bs : List ℕ} {is : List Item} (b : ℕ) →
+      is_gap b ≡ true →
+      Divides (at + 1) bs is →
+      Divides at (b ∷ bs) is
   item : {at : ℕ} {rest : List ℕ} {is : List Item} (b : ℕ) (w : List ℕ) → HasNoGap (b ∷ w) → EndsItem rest
       → Divides (at + length (b ∷ w)) rest is → Divides at (b ∷ w ++ rest) ((at, b ∷ w) ∷ is)
 

@@ -6,7 +6,8 @@ ghost use Rattle.std.specs.List.{position};
 ghost use Rattle.std.specs.Prelude.{◌≡◌, length, unwrap_or};
 ghost use Rattle.ls_items.specs.Items.{is_gap, ItemsAreDivided};
 
-fn is_gap(b: u8) -> bool
+/// Whether a byte is a space, a tab, a carriage return or a line feed.
+pub fn is_gap(b: u8) -> bool
     ensures { result ≡ is_gap b }
 {
     b == b' ' || b == b'\t' || b == b'\r' || b == b'\n'

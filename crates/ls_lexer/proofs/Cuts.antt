@@ -1,5 +1,6 @@
 -- Where a text may be cut.
-use Rattle.std.proofs.Common.{◌≡◌, ℕ, zero, suc, ◌+◌, ◌-◌, ◌<◌, ◌≤◌, Bool, true, false, List, [], ◌∷◌, length, get_or, Option, Some, None, IsUtf8, refl, sym, ap, ◌∙◌, subst, arith, not, inl, inr}
+use Rattle.std.proofs.Common.{◌≡◌, ℕ, zero, suc, ◌+◌, ◌-◌, ◌<◌, ◌≤◌, Bool, true, false, List, [], ◌∷◌, length, get_or}
+use Rattle.std.proofs.Common.{Option, Some, None, IsUtf8, refl, sym, ap, ◌∙◌, subst, arith, not, inl, inr}
 use Rattle.std.specs.Prelude.{◌==◌, ◌&&◌, ◌||◌, nat_le}
 use Rattle.std.specs.Str.{IsCharBoundary}
 use Rattle.std.proofs.lemmas.Bool.{leb-true, eqb-true, and_parts, or_cases, cases_Bool, cases_lt, not-false}
@@ -32,7 +33,11 @@ white_small b h =
     elim (or_cases (b == 32 || b == 9 || b == 12 || b == 13) (b == 10) h) [
       | inl l ↦ elim (or_cases (b == 32 || b == 9 || b == 12) (b == 13) l) [
         | inl m ↦ elim (or_cases (b == 32 || b == 9) (b == 12) m) [
-          | inl n ↦ elim (or_cases (b == 32) (b == 9) n) [ inl e ↦ omega (arith, eqb-true b 32 e) | inr e ↦ omega (arith, eqb-true b 9 e) ]
+          | inl n ↦ elim (or_cases (b == 32) (b == 9) n) [
+            | inl e ↦ omega (arith, eqb-true b 32 e)
+            | inr e ↦
+                omega (arith, eqb-true b 9 e)
+          ]
           | inr e ↦ omega (arith, eqb-true b 12 e)
         ]
         | inr e ↦ omega (arith, eqb-true b 13 e)
@@ -41,7 +46,11 @@ white_small b h =
     ]
 
 line_end_small : (b : ℕ) → is_line_end b ≡ true → b < 128
-line_end_small b h = elim (or_cases (b == 13) (b == 10) h) [ inl e ↦ omega (arith, eqb-true b 13 e) | inr e ↦ omega (arith, eqb-true b 10 e) ]
+line_end_small b h = elim (or_cases (b == 13) (b == 10) h) [
+  | inl e ↦ omega (arith, eqb-true b 13 e)
+  | inr e ↦
+      omega (arith, eqb-true b 10 e)
+]
 
 -- after a small byte
 pub cut_after : (xs : List ℕ) (n : ℕ) → IsUtf8 xs → n < length xs → get_or xs n 0 < 128 → IsCharBoundary xs (n + 1)
@@ -54,7 +63,11 @@ cut_white b bs utf8 h = IsCharBoundary-after_ascii (b ∷ bs) 0 utf8 (omega arit
 -- after a run that passes a test
 run_within : (test : ℕ → Bool) (xs : List ℕ) → run test xs ≤ length xs
 run_within test [] = omega arith
-run_within test (b ∷ bs) = elim (cases_Bool (test b)) [ inl h ↦ rw h (omega (arith, run_within test bs)) | inr h ↦ rw h (omega arith) ]
+run_within test (b ∷ bs) = elim (cases_Bool (test b)) [
+  | inl h ↦ rw h (omega (arith, run_within test bs))
+  | inr h ↦
+      rw h (omega arith)
+]
 
 run_yes : (test : ℕ → Bool) (b : ℕ) (bs : List ℕ) → test b ≡ true → run test (b ∷ bs) ≡ run test bs + 1
 run_yes test b bs h = rw h refl
@@ -64,7 +77,8 @@ run_no test b bs h = rw h refl
 
 run_passes : (test : ℕ → Bool) (xs : List ℕ) (n : ℕ) → n < run test xs → test (get_or xs n 0) ≡ true
 run_passes test [] n lt = absurd (omega arith)
-run_passes test (b ∷ bs) zero lt = elim (cases_Bool (test b)) [ inl h ↦ h | inr h ↦ absurd (omega (arith, run_no test b bs h)) ]
+run_passes test (b ∷ bs) zero lt =
+    elim (cases_Bool (test b)) [ inl h ↦ h | inr h ↦ absurd (omega (arith, run_no test b bs h)) ]
 run_passes test (b ∷ bs) (suc n) lt =
     elim (cases_Bool (test b)) [
       | inl h ↦ run_passes test bs n (omega (arith, run_yes test b bs h))
@@ -74,7 +88,8 @@ run_passes test (b ∷ bs) (suc n) lt =
 -- the byte after a run doesn't pass the test
 run_stops : (test : ℕ → Bool) (xs : List ℕ) (n : ℕ) → n ≡ run test xs → n < length xs → test (get_or xs n 0) ≡ false
 run_stops test [] n e lt = absurd (omega arith)
-run_stops test (b ∷ bs) zero e lt = elim (cases_Bool (test b)) [ inl h ↦ absurd (omega (arith, run_yes test b bs h)) | inr h ↦ h ]
+run_stops test (b ∷ bs) zero e lt =
+    elim (cases_Bool (test b)) [ inl h ↦ absurd (omega (arith, run_yes test b bs h)) | inr h ↦ h ]
 run_stops test (b ∷ bs) (suc n) e lt =
     elim (cases_Bool (test b)) [
       | inl h ↦ run_stops test bs n (omega (arith, run_yes test b bs h)) (omega arith)
@@ -86,7 +101,9 @@ pub cut_run : (xs : List ℕ) → IsUtf8 xs → 0 < run is_part xs → IsCharBou
 cut_run xs utf8 pos =
     let n : ℕ = run is_part xs - 1 in
     let is : n + 1 ≡ run is_part xs = omega arith in
-    subst (IsCharBoundary xs) is (IsCharBoundary-after_ascii xs n utf8 (omega (arith, run_within is_part xs)) (part_small _ (run_passes is_part xs n (omega arith))))
+    subst (IsCharBoundary xs) is
+    (IsCharBoundary-after_ascii xs n utf8 (omega (arith, run_within is_part xs))
+    (part_small _ (run_passes is_part xs n (omega arith))))
 
 -- after a comment up to the end of its line
 pub cut_line : (b : ℕ) (bs : List ℕ) → IsUtf8 (b ∷ bs) → IsCharBoundary (b ∷ bs) (run (λ x. not (is_line_end x)) bs + 1)
@@ -98,7 +115,8 @@ cut_line b bs utf8 =
           let stop : not (is_line_end (get_or bs n 0)) ≡ false = run_stops (λ x. not (is_line_end x)) bs n refl lt in
           let next : suc n ≡ n + 1 = omega arith in
           let at : get_or (b ∷ bs) (n + 1) 0 ≡ get_or bs n 0 = ap (λ (k : ℕ). get_or (b ∷ bs) k 0) (sym next) in
-          let small : get_or bs n 0 < 128 = line_end_small (get_or bs n 0) (not-false (is_line_end (get_or bs n 0)) stop) in
+          let small : get_or bs n 0 < 128 =
+          line_end_small (get_or bs n 0) (not-false (is_line_end (get_or bs n 0)) stop) in
           IsCharBoundary-before_ascii (b ∷ bs) (n + 1) (omega arith) (omega (arith, at, small))
       | inr le ↦
           let is : length (b ∷ bs) ≡ n + 1 = omega arith in
@@ -108,7 +126,10 @@ cut_line b bs utf8 =
 comment_two : (b c : ℕ) (xs : List ℕ) (m : ℕ) → (b == 42 && c == 47) ≡ true → comment (b ∷ c ∷ xs) ≡ Some m → 2 ≡ m
 comment_two b c xs m h e = let f = rw h at e in cc
 
-comment_goes_on : (b c : ℕ) (xs : List ℕ) (m : ℕ) → (b == 42 && c == 47) ≡ false → comment (b ∷ c ∷ xs) ≡ Some m → longer (comment (c ∷ xs)) ≡ Some m
+comment_goes_on : (b c : ℕ) (xs : List ℕ) (m : ℕ) →
+    (b == 42 && c == 47) ≡ false →
+    comment (b ∷ c ∷ xs) ≡ Some m →
+    longer (comment (c ∷ xs)) ≡ Some m
 comment_goes_on b c xs m h e = rw h at e
 
 longer_some : (o : Option ℕ) (m : ℕ) → longer o ≡ Some m → (n : ℕ) × (o ≡ Some n) × (n + 1 ≡ m)
@@ -124,7 +145,8 @@ comment_last (b ∷ c ∷ xs) m e =
       | inl h ↦
           let is : 2 ≡ m = comment_two b c xs m h e in
           let slash : c ≡ 47 = eqb-true c 47 (and_parts (b == 42) (c == 47) h).1 in
-          subst (λ (k : ℕ). (2 ≤ k) × (k ≤ length (b ∷ c ∷ xs)) × (get_or (b ∷ c ∷ xs) (k - 1) 0 ≡ 47)) is (omega arith, omega arith, slash)
+          subst (λ (k : ℕ). (2 ≤ k) × (k ≤ length (b ∷ c ∷ xs)) × (get_or (b ∷ c ∷ xs) (k - 1) 0 ≡ 47)) is
+          (omega arith, omega arith, slash)
       | inr h ↦
           let l = longer_some (comment (c ∷ xs)) m (comment_goes_on b c xs m h e) in
           let i = comment_last (c ∷ xs) l.0 l.1 in
@@ -132,13 +154,17 @@ comment_last (b ∷ c ∷ xs) m e =
           (omega (arith, i.0, l.2), omega (arith, i.1, l.2), ap (λ (k : ℕ). get_or (b ∷ c ∷ xs) k 0) (sym n) ∙ i.2)
     ]
 
-pub cut_comment : (b c : ℕ) (bs : List ℕ) (m : ℕ) → IsUtf8 (b ∷ c ∷ bs) → comment bs ≡ Some m → IsCharBoundary (b ∷ c ∷ bs) (2 + m)
+pub cut_comment : (b c : ℕ) (bs : List ℕ) (m : ℕ) →
+    IsUtf8 (b ∷ c ∷ bs) →
+    comment bs ≡ Some m →
+    IsCharBoundary (b ∷ c ∷ bs) (2 + m)
 cut_comment b c bs m utf8 e =
     let l = comment_last bs m e in
     let n : suc (suc (m - 1)) ≡ m + 1 = omega (arith, l.0) in
     let is : m + 1 + 1 ≡ 2 + m = omega arith in
     let slash : get_or (b ∷ c ∷ bs) (m + 1) 0 ≡ 47 = ap (λ (k : ℕ). get_or (b ∷ c ∷ bs) k 0) (sym n) ∙ l.2 in
-    subst (IsCharBoundary (b ∷ c ∷ bs)) is (IsCharBoundary-after_ascii (b ∷ c ∷ bs) (m + 1) utf8 (omega (arith, l.1)) (omega (arith, slash)))
+    subst (IsCharBoundary (b ∷ c ∷ bs)) is
+    (IsCharBoundary-after_ascii (b ∷ c ∷ bs) (m + 1) utf8 (omega (arith, l.1)) (omega (arith, slash)))
 
 some_is : {A : Type 0} (x y : A) → ◌≡◌ {A = Option A} (Some x) (Some y) → x ≡ y
 some_is x y e = cc
@@ -147,23 +173,45 @@ gap_some : (o : Option ℕ) (n : ℕ) → gap_of 2 o ≡ Some (None, n) → (m :
 gap_some None n e = absurd cc
 gap_some (Some m) n e = (m, refl, ap (λ (p : Option Lexeme × ℕ). p.1) (some_is (None, 2 + m) (None, n) e))
 
-cut_comment_at : (b : ℕ) (bs : List ℕ) (n : ℕ) → IsUtf8 (b ∷ bs) → comment_at bs ≡ Some (None, n) → (0 < n) × IsCharBoundary (b ∷ bs) n
+cut_comment_at : (b : ℕ) (bs : List ℕ) (n : ℕ) →
+    IsUtf8 (b ∷ bs) →
+    comment_at bs ≡ Some (None, n) →
+    (0 < n) × IsCharBoundary (b ∷ bs) n
 cut_comment_at b [] n utf8 e = absurd cc
 cut_comment_at b (c ∷ bs) n utf8 e =
     let g = gap_some (comment bs) n e in
     (omega (arith, g.2), subst (IsCharBoundary (b ∷ c ∷ bs)) g.2 (cut_comment b c bs g.0 utf8 g.1))
 
 -- after a comment that has an end
-pub comment_cut : (xs : List ℕ) (b : ℕ) (bs : List ℕ) (n : ℕ) → xs ≡ b ∷ bs → IsUtf8 xs → comment_at bs ≡ Some (None, n) → (0 < n) × IsCharBoundary xs n
-comment_cut xs b bs n is utf8 e = subst (λ (ys : List ℕ). (0 < n) × IsCharBoundary ys n) (sym is) (cut_comment_at b bs n (subst IsUtf8 is utf8) e)
+pub comment_cut : (xs : List ℕ) (b : ℕ) (bs : List ℕ) (n : ℕ) →
+    xs ≡ b ∷ bs →
+    IsUtf8 xs →
+    comment_at bs ≡ Some (None, n) →
+    (0 < n) × IsCharBoundary xs n
+comment_cut xs b bs n is utf8 e =
+    subst (λ (ys : List ℕ). (0 < n) × IsCharBoundary ys n) (sym is) (cut_comment_at b bs n (subst IsUtf8 is utf8) e)
 
 -- after a comment up to the end of its line
-pub line_cut : (xs : List ℕ) (b : ℕ) (bs : List ℕ) (n : ℕ) → xs ≡ b ∷ bs → IsUtf8 xs → n ≡ run (λ x. not (is_line_end x)) bs → (0 < n + 1) × IsCharBoundary xs (n + 1)
+pub line_cut : (xs : List ℕ) (b : ℕ) (bs : List ℕ) (n : ℕ) →
+    xs ≡ b ∷ bs →
+    IsUtf8 xs →
+    n ≡ run (λ x. not (is_line_end x)) bs →
+    (0 < n + 1) × IsCharBoundary xs (n + 1)
 line_cut xs b bs n is utf8 e = (omega arith, rw (is, e) (cut_line b bs (subst IsUtf8 is utf8)))
 
 -- after a sign
-pub sign_cut : (xs : List ℕ) (b : ℕ) (bs : List ℕ) (n : ℕ) → xs ≡ b ∷ bs → IsUtf8 xs → 0 < n → n ≤ length bs + 1 → get_or (b ∷ bs) (n - 1) 0 < 128 → (0 < n) × IsCharBoundary xs n
+pub sign_cut : (xs : List ℕ) (b : ℕ) (bs : List ℕ) (n : ℕ) →
+    xs ≡ b ∷ bs →
+    IsUtf8 xs →
+    0 < n →
+    n ≤ length bs + 1 →
+    get_or (b ∷ bs) (n - 1) 0 < 128 →
+    (0 < n) × IsCharBoundary xs n
 sign_cut xs b bs n is utf8 pos le small =
     let k : n - 1 + 1 ≡ n = omega arith in
-    let lt : n - 1 < length (b ∷ bs) = omega arith in
-    (pos, subst (IsCharBoundary xs) k (subst (λ (ys : List ℕ). IsCharBoundary ys (n - 1 + 1)) (sym is) (IsCharBoundary-after_ascii (b ∷ bs) (n - 1) (subst IsUtf8 is utf8) lt small)))
+    let lt : n - 1 < length (b ∷ bs) = omega arith in (
+      pos,
+      subst (IsCharBoundary xs) k
+          (subst (λ (ys : List ℕ). IsCharBoundary ys (n - 1 + 1)) (sym is)
+          (IsCharBoundary-after_ascii (b ∷ bs) (n - 1) (subst IsUtf8 is utf8) lt small)),
+    )

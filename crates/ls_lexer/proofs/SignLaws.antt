@@ -1,5 +1,6 @@
 -- Signs are read as they are spelled, by longest match.
-use Rattle.std.proofs.Common.{◌≡◌, ℕ, ◌≤◌, Bool, true, cond, List, [], ◌∷◌, ◌++◌, length, take, Option, Some, None, refl, sym, ap, ◌∙◌, subst, inl, inr, arith}
+use Rattle.std.proofs.Common.{◌≡◌, ℕ, ◌≤◌, Bool, true, cond, List, [], ◌∷◌, ◌++◌, length, take, Option, Some, None}
+use Rattle.std.proofs.Common.{refl, sym, ap, ◌∙◌, subst, inl, inr, arith}
 use Rattle.std.specs.Prelude.{◌==◌, ◌&&◌, if◌then◌else◌}
 use Rattle.std.proofs.lemmas.Bool.{eqb-true, and_parts, cases_Bool}
 use Rattle.ls_lexer.specs.declared.sign.Sign.{Sign}
@@ -16,7 +17,10 @@ none front s e = absurd cc
 some_is : {A : Type 0} (x y : A) → ◌≡◌ {A = Option A} (Some x) (Some y) → x ≡ y
 some_is x y e = cc
 
-one : (front : List ℕ) (test : Bool) (v : Sign) (o : Option Sign) → (test ≡ true → front ≡ spelled_sign v) → Reads front o → Reads front (if test then Some v else o)
+one : (front : List ℕ) (test : Bool) (v : Sign) (o : Option Sign) →
+    (test ≡ true → front ≡ spelled_sign v) →
+    Reads front o →
+    Reads front (if test then Some v else o)
 one front test v o is rest s e =
     elim (cases_Bool test) [
       | inl h ↦
@@ -112,17 +116,26 @@ three_of_reads b c d =
 
 four_of_reads : (b c d e : ℕ) → Reads (b ∷ c ∷ d ∷ e ∷ []) (four_of b c d e)
 four_of_reads b c d e =
-    one (b ∷ c ∷ d ∷ e ∷ []) (b == 62 && c == 62 && d == 62 && e == 61) signs.UnsignedShiftRightAssign _ (is4 b c d e 62 62 62 61)
+    one (b ∷ c ∷ d ∷ e ∷ []) (b == 62 && c == 62 && d == 62 && e == 61) signs.UnsignedShiftRightAssign _
+    (is4 b c d e 62 62 62 61)
     (none (b ∷ c ∷ d ∷ e ∷ []))
 
 abbrev Found : List ℕ → Option (Sign × ℕ) → Type 0
 Found text o = (found : Sign × ℕ) → o ≡ Some found → IsSpelledThere text found
 
-sized_found : (n : ℕ) (o : Option Sign) (front text : List ℕ) → Reads front o → take n text ≡ front → length front ≡ n → Found text (sized n o)
+sized_found : (n : ℕ) (o : Option Sign) (front text : List ℕ) →
+    Reads front o →
+    take n text ≡ front →
+    length front ≡ n →
+    Found text (sized n o)
 sized_found n None front text reads is size found e = absurd cc
 sized_found n (Some s) front text reads is size found e =
     let spelled : front ≡ spelled_sign s = reads s refl in
-    subst (IsSpelledThere text) (some_is (s, n) found e) (sym size ∙ ap (λ (l : List ℕ). length l) spelled, is ∙ spelled)
+    subst (IsSpelledThere text) (some_is (s, n) found e) (
+      sym size ∙ ap (λ (l : List ℕ). length l) spelled,
+      is ∙
+          spelled,
+    )
 
 or_found : (text : List ℕ) (a b : Option (Sign × ℕ)) → Found text a → Found text b → Found text (or_next a b)
 or_found text None b f g found e = g found e
@@ -133,18 +146,26 @@ one_found b bs = sized_found 1 (single_of b) (b ∷ []) (b ∷ bs) (single_of_re
 
 two_found : (b : ℕ) (bs : List ℕ) → Found (b ∷ bs) (up_to_two b bs)
 two_found b [] = one_found b []
-two_found b (c ∷ bs) = or_found (b ∷ c ∷ bs) _ _ (sized_found 2 (pair_of b c) (b ∷ c ∷ []) (b ∷ c ∷ bs) (pair_of_reads b c) refl refl) (one_found b (c ∷ bs))
+two_found b (c ∷ bs) =
+    or_found (b ∷ c ∷ bs) _ _ (sized_found 2 (pair_of b c) (b ∷ c ∷ []) (b ∷ c ∷ bs) (pair_of_reads b c) refl refl)
+    (one_found b (c ∷ bs))
 
 three_found : (b : ℕ) (bs : List ℕ) → Found (b ∷ bs) (up_to_three b bs)
 three_found b [] = two_found b []
 three_found b (c ∷ []) = two_found b (c ∷ [])
-three_found b (c ∷ d ∷ bs) = or_found (b ∷ c ∷ d ∷ bs) _ _ (sized_found 3 (three_of b c d) (b ∷ c ∷ d ∷ []) (b ∷ c ∷ d ∷ bs) (three_of_reads b c d) refl refl) (two_found b (c ∷ d ∷ bs))
+three_found b (c ∷ d ∷ bs) =
+    or_found (b ∷ c ∷ d ∷ bs) _ _
+    (sized_found 3 (three_of b c d) (b ∷ c ∷ d ∷ []) (b ∷ c ∷ d ∷ bs) (three_of_reads b c d) refl refl)
+    (two_found b (c ∷ d ∷ bs))
 
 four_found : (b : ℕ) (bs : List ℕ) → Found (b ∷ bs) (sign_at b bs)
 four_found b [] = three_found b []
 four_found b (c ∷ []) = three_found b (c ∷ [])
 four_found b (c ∷ d ∷ []) = three_found b (c ∷ d ∷ [])
-four_found b (c ∷ d ∷ e ∷ bs) = or_found (b ∷ c ∷ d ∷ e ∷ bs) _ _ (sized_found 4 (four_of b c d e) (b ∷ c ∷ d ∷ e ∷ []) (b ∷ c ∷ d ∷ e ∷ bs) (four_of_reads b c d e) refl refl) (three_found b (c ∷ d ∷ e ∷ bs))
+four_found b (c ∷ d ∷ e ∷ bs) =
+    or_found (b ∷ c ∷ d ∷ e ∷ bs) _ _
+    (sized_found 4 (four_of b c d e) (b ∷ c ∷ d ∷ e ∷ []) (b ∷ c ∷ d ∷ e ∷ bs) (four_of_reads b c d e) refl refl)
+    (three_found b (c ∷ d ∷ e ∷ bs))
 
 -- a sign of at least this many bytes is found
 abbrev Least : ℕ → Option (Sign × ℕ) → Type 0
@@ -153,10 +174,15 @@ Least n o = (found : Sign × ℕ) × (o ≡ Some found) × (n ≤ found.1)
 here : (n : ℕ) (o : Option Sign) (s : Sign) → o ≡ Some s → Least n (sized n o)
 here n o s e = ((s, n), ap (sized n) e, omega arith)
 
-or_here : (n : ℕ) (o : Option Sign) (s : Sign) (next : Option (Sign × ℕ)) → o ≡ Some s → Least n (or_next (sized n o) next)
+or_here : (n : ℕ) (o : Option Sign) (s : Sign) (next : Option (Sign × ℕ)) →
+    o ≡ Some s →
+    Least n (or_next (sized n o) next)
 or_here n o s next e = ((s, n), ap (λ (x : Option Sign). or_next (sized n x) next) e, omega arith)
 
-or_later : (n k : ℕ) (o : Option Sign) (next : Option (Sign × ℕ)) → k ≤ n → Least k next → Least k (or_next (sized n o) next)
+or_later : (n k : ℕ) (o : Option Sign) (next : Option (Sign × ℕ)) →
+    k ≤ n →
+    Least k next →
+    Least k (or_next (sized n o) next)
 or_later n k None next le least = least
 or_later n k (Some s) next le least = ((s, n), refl, le)
 
@@ -179,7 +205,8 @@ at_one : (b : ℕ) (bs : List ℕ) (s : Sign) → single_of b ≡ Some s → Lea
 at_one b bs s e = four_least 1 b bs (omega arith) (three_least 1 b bs (omega arith) (two_least b bs s e))
 
 at_two : (b c : ℕ) (bs : List ℕ) (s : Sign) → pair_of b c ≡ Some s → Least 2 (sign_at b (c ∷ bs))
-at_two b c bs s e = four_least 2 b (c ∷ bs) (omega arith) (three_least 2 b (c ∷ bs) (omega arith) (or_here 2 (pair_of b c) s _ e))
+at_two b c bs s e =
+    four_least 2 b (c ∷ bs) (omega arith) (three_least 2 b (c ∷ bs) (omega arith) (or_here 2 (pair_of b c) s _ e))
 
 at_three : (b c d : ℕ) (bs : List ℕ) (s : Sign) → three_of b c d ≡ Some s → Least 3 (sign_at b (c ∷ d ∷ bs))
 at_three b c d bs s e = four_least 3 b (c ∷ d ∷ bs) (omega arith) (or_here 3 (three_of b c d) s _ e)
@@ -245,4 +272,5 @@ as_long signs.UnsignedShiftRightAssign rest = at_four 62 62 62 61 rest signs.Uns
 
 -- the law: the longest sign is read
 pub reads_longest_signs : ReadsLongestSigns
-reads_longest_signs = (four_found, λ b bs rest sign is. subst (λ (l : List ℕ). IsAsLong sign (sign_in l)) (sym is) (as_long sign rest))
+reads_longest_signs =
+    (four_found, λ b bs rest sign is. subst (λ (l : List ℕ). IsAsLong sign (sign_in l)) (sym is) (as_long sign rest))

@@ -1,5 +1,6 @@
 -- Counting the bytes of a run.
-use Rattle.std.proofs.Common.{◌≡◌, ℕ, suc, ◌+◌, ◌<◌, ◌≤◌, Bool, true, false, List, [], ◌∷◌, length, drop, get_or, Option, Some, None, refl, ap, ◌∙◌, arith, drop-cons, length-drop}
+use Rattle.std.proofs.Common.{◌≡◌, ℕ, suc, ◌+◌, ◌<◌, ◌≤◌, Bool, true, false, List, [], ◌∷◌, length, drop, get_or}
+use Rattle.std.proofs.Common.{Option, Some, None, refl, ap, ◌∙◌, arith, drop-cons, length-drop}
 use Rattle.std.specs.Prelude.{◌==◌, ◌&&◌}
 use Rattle.std.proofs.lemmas.List.{drop_all}
 use Rattle.ls_lexer.specs.Characters.{run}
@@ -15,15 +16,24 @@ pub ran_none : (test : ℕ → Bool) (xs : List ℕ) → Ran test xs 0
 ran_none test xs = record { within = omega arith; same = omega arith }
 
 -- one more byte passes it
-pub ran_more : {test : ℕ → Bool} {xs : List ℕ} {n : ℕ} → Ran test xs n → n < length xs → test (get_or xs n 0) ≡ true → Ran test xs (n + 1)
+pub ran_more : {test : ℕ → Bool} {xs : List ℕ} {n : ℕ} →
+    Ran test xs n →
+    n < length xs →
+    test (get_or xs n 0) ≡ true →
+    Ran test xs (n + 1)
 ran_more {test} {xs} {n} r lt h =
     let next : suc n ≡ n + 1 = omega arith in
-    let here : drop n xs ≡ get_or xs n 0 ∷ drop (n + 1) xs = drop-cons xs n 0 lt ∙ ap (λ (k : ℕ). get_or xs n 0 ∷ drop k xs) next in
+    let here : drop n xs ≡ get_or xs n 0 ∷ drop (n + 1) xs =
+    drop-cons xs n 0 lt ∙ ap (λ (k : ℕ). get_or xs n 0 ∷ drop k xs) next in
     let one : run test (drop n xs) ≡ run test (drop (n + 1) xs) + 1 = rw (here, h) refl in
     record { within = omega arith; same = omega (arith, r.same, one) }
 
 -- if the next byte doesn't pass the test, the run has n bytes
-pub ran_stops : {test : ℕ → Bool} {xs : List ℕ} {n : ℕ} → Ran test xs n → n < length xs → test (get_or xs n 0) ≡ false → n ≡ run test xs
+pub ran_stops : {test : ℕ → Bool} {xs : List ℕ} {n : ℕ} →
+    Ran test xs n →
+    n < length xs →
+    test (get_or xs n 0) ≡ false →
+    n ≡ run test xs
 ran_stops {test} {xs} {n} r lt h =
     let here : drop n xs ≡ get_or xs n 0 ∷ drop (suc n) xs = drop-cons xs n 0 lt in
     let one : run test (drop n xs) ≡ 0 = rw (here, h) refl in
@@ -74,11 +84,20 @@ one_left xs n lt =
     b ∙ ap (λ (k : ℕ). get_or xs (n + 1) 0 ∷ drop k xs) e2
 
 -- the comment ends here
-pub open_ends : {xs : List ℕ} {n : ℕ} → Open xs n → n + 1 < length xs → get_or xs n 0 ≡ 42 → get_or xs (n + 1) 0 ≡ 47 → comment xs ≡ Some (n + 2)
+pub open_ends : {xs : List ℕ} {n : ℕ} →
+    Open xs n →
+    n + 1 < length xs →
+    get_or xs n 0 ≡ 42 →
+    get_or xs (n + 1) 0 ≡ 47 →
+    comment xs ≡ Some (n + 2)
 open_ends {xs} {n} o lt a b = o.same ∙ rw (two xs n lt, a, b) refl
 
 -- the comment goes on
-pub open_goes_on : {xs : List ℕ} {n : ℕ} → Open xs n → n + 1 < length xs → (get_or xs n 0 == 42 && get_or xs (n + 1) 0 == 47) ≡ false → Open xs (n + 1)
+pub open_goes_on : {xs : List ℕ} {n : ℕ} →
+    Open xs n →
+    n + 1 < length xs →
+    (get_or xs n 0 == 42 && get_or xs (n + 1) 0 == 47) ≡ false →
+    Open xs (n + 1)
 open_goes_on {xs} {n} o lt h =
     let step : comment (drop n xs) ≡ longer (comment (drop (n + 1) xs)) = rw (two xs n lt, one_left xs n lt, h) refl in
     record { within = omega arith; same = o.same ∙ ap (shifted n) step ∙ shifted_longer n (comment (drop (n + 1) xs)) }

@@ -6,7 +6,8 @@ use Rattle.std.proofs.lemmas.Bool.{cases_Bool}
 use Rattle.std.proofs.lemmas.Slice.Eq.{bytes_eq-Decides}
 use Rattle.ls_lexer.specs.declared.word.Word.{Word}
 use Rattle.ls_lexer.specs.declared.word.Word.TheVariants as words
-use Rattle.ls_lexer.specs.Words.{or_else, first_words, second_words, third_words, fourth_words, fifth_words, sixth_words, seventh_words, reserved_word}
+use Rattle.ls_lexer.specs.Words.{or_else, first_words, second_words, third_words, fourth_words, fifth_words}
+use Rattle.ls_lexer.specs.Words.{sixth_words, seventh_words, reserved_word}
 use Rattle.ls_lexer.specs.Spelling.{spelled_word, ReadsWords}
 
 abbrev Reads : List ℕ → Option Word → Type 0
@@ -18,7 +19,10 @@ none text w e = absurd cc
 some_is : {A : Type 0} (x y : A) → ◌≡◌ {A = Option A} (Some x) (Some y) → x ≡ y
 some_is x y e = cc
 
-one : (text k : List ℕ) (v : Word) (o : Option Word) → k ≡ spelled_word v → Reads text o → Reads text (if bytes_eq text k then Some v else o)
+one : (text k : List ℕ) (v : Word) (o : Option Word) →
+    k ≡ spelled_word v →
+    Reads text o →
+    Reads text (if bytes_eq text k then Some v else o)
 one text k v o is rest w e =
     elim (cases_Bool (bytes_eq text k)) [
       | inl h ↦

@@ -13,4 +13,5 @@ IsFormed (Marked sign) = Unit {0}
 
 abbrev pub TokensAreFormed : Type 0
 TokensAreFormed =
-    (text : List ℕ) (ks : List Lexeme) → tokens_of text ≡ Some ks → (i : ℕ) (k : Lexeme) → slice_get ks i ≡ Some k → IsFormed k
+    (text : List ℕ) (ks : List Lexeme) → tokens_of text ≡ Some ks → (i : ℕ) (k : Lexeme) → slice_get ks i ≡ Some k →
+    IsFormed k

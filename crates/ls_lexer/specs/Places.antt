@@ -1,5 +1,6 @@
 -- Where faults and tokens are in a text.
-use Rattle.std.specs.Prelude.{◌≡◌, ◌↔◌, ℕ, ◌+◌, ◌<◌, ◌≤◌, ◌==◌, ◌&&◌, List, [], ◌∷◌, length, take, drop, Some, None, if◌then◌else◌}
+use Rattle.std.specs.Prelude.{◌≡◌, ◌↔◌, ℕ, ◌+◌, ◌<◌, ◌≤◌, ◌==◌, ◌&&◌, List, [], ◌∷◌, length, take, drop, Some, None}
+use Rattle.std.specs.Prelude.{if◌then◌else◌}
 use Rattle.ls_lexer.specs.declared.fault.TextFault.{TextFault}
 use Rattle.ls_lexer.specs.declared.fault.TextFault.TheVariants as faults
 use Rattle.ls_lexer.specs.declared.token.TokenKind.{TokenKind}
@@ -16,8 +17,14 @@ text_limit = 262144
 -- the text is gaps and tokens, and then the rest
 pub data Splits : List ℕ → List Lexeme → List ℕ → Type 0 where
   here : {text : List ℕ} → Splits text [] text
-  gap : {text rest : List ℕ} {ks : List Lexeme} (n : ℕ) → piece_at text ≡ Some (None, n) → Splits (drop n text) ks rest → Splits text ks rest
-  token : {text rest : List ℕ} {ks : List Lexeme} (k : Lexeme) (n : ℕ) → piece_at text ≡ Some (Some k, n) → Splits (drop n text) ks rest → Splits text (k ∷ ks) rest
+  gap : {text rest : List ℕ} {ks : List Lexeme} (n : ℕ) →
+      piece_at text ≡ Some (None, n) →
+      Splits (drop n text) ks rest →
+      Splits text ks rest
+  token : {text rest : List ℕ} {ks : List Lexeme} (k : Lexeme) (n : ℕ) →
+      piece_at text ≡ Some (Some k, n) →
+      Splits (drop n text) ks rest →
+      Splits text (k ∷ ks) rest
 
 -- A text has tokens exactly if it splits into gaps and those tokens, up to its end. So it splits in at most one way.
 abbrev pub TokensAreSplit : Type 0

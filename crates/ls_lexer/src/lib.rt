@@ -1,7 +1,7 @@
 //! Tokens of a class text or a program text.
 #![tactic(auto)]
 
-mod characters;
+pub mod characters;
 pub mod fault;
 pub mod laws;
 pub mod lexing;

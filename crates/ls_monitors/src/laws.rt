@@ -1,6 +1,7 @@
 // Laws of the statement: the functions compute nothing, and their contracts say the laws.
 
-ghost use Rattle.ls_monitors.specs.Laws.{CompletesAsItsBlock, BreaksAsItsBlock, TakesThreeMore, IsTypedByItsParts, JumpsAsItsBlock};
+ghost use Rattle.ls_monitors.specs.Laws.{CompletesAsItsBlock, BreaksAsItsBlock, TakesThreeMore, IsTypedByItsParts};
+ghost use Rattle.ls_monitors.specs.Laws.{JumpsAsItsBlock};
 ghost use Rattle.ls_monitors.specs.Meaning.{HoldsTheMonitor};
 ghost use Rattle.ls_monitors.specs.Kept.{KeepsTheSlot, MethodKeepsTheSlot, HoldsItsMonitor, FileHoldsMonitors};
 

@@ -1,5 +1,6 @@
 -- The places of a file, of its tokens and of its text.
-use Rattle.std.proofs.Common.{◌≡◌, ℕ, ◌+◌, ◌<◌, ◌≤◌, length, List, [], ◌∷◌, ◌++◌, drop, Option, Some, refl, sym, ap, subst, ◌∙◌, arith}
+use Rattle.std.proofs.Common.{◌≡◌, ℕ, ◌+◌, ◌<◌, ◌≤◌, length, List, [], ◌∷◌, ◌++◌, drop, Option, Some, refl, sym, ap}
+use Rattle.std.proofs.Common.{subst, ◌∙◌, arith}
 use Rattle.std.specs.List.{flat_map}
 use Rattle.ls_lexer.specs.declared.token.Token.{Token}
 use Rattle.ls_lexer.specs.Lexemes.{Lexeme, lexemes}
@@ -28,24 +29,35 @@ use Rattle.ls_parser.proofs.Spelled.{header_spells, import_spells}
 use Rattle.ls_parser.proofs.Leaving.{taken, spots_forgotten}
 
 -- a file at its places
-pub file_placed : (tokens behind inner : List Token) {name : Option Dotted} {imports : List Import} {classes : List ClassTree} →
+pub file_placed : (tokens behind inner : List Token) {name : Option Dotted} {imports : List Import}
+    {classes : List ClassTree} →
     header_at (lexemes tokens) ≡ Some (name, lexemes behind) → Leaves (spots tokens) (spots behind) →
-    many_at starts_import import_at (lexemes behind) ≡ Some (imports, lexemes inner) → Leaves (spots behind) (spots inner) →
+    many_at starts_import import_at (lexemes behind) ≡ Some (imports, lexemes inner) →
+    Leaves (spots behind) (spots inner) →
     ManyAt ClassAt classes (spots inner) [] → FileAt (record { classes = classes }) (spots tokens)
 file_placed tokens behind inner {name} {imports} header l many k cs =
     file_at name imports
     (taken (spell_package name) l
-    (spots_forgotten tokens ∙ header_sound (lexemes tokens) (name, lexemes behind) header ∙ header_spells name (lexemes behind) ∙ ap (λ (ks : List Lexeme). spell_package name ++ ks) (sym (spots_forgotten behind))))
+    (spots_forgotten tokens ∙ header_sound (lexemes tokens) (name, lexemes behind) header ∙
+    header_spells name (lexemes behind) ∙
+    ap (λ (ks : List Lexeme). spell_package name ++ ks) (sym (spots_forgotten behind))))
     (taken (flat_map spell_import imports) k
-    (spots_forgotten behind ∙ (many_sound onto_import Anything starts_import import_at import_sound (lexemes behind) (imports, lexemes inner) many).0.spelled
-    ∙ onto_all_spells onto_import spell_import import_spells imports (lexemes inner) ∙ ap (λ (ks : List Lexeme). flat_map spell_import imports ++ ks) (sym (spots_forgotten inner))))
+    (spots_forgotten behind ∙
+    (many_sound onto_import Anything starts_import import_at import_sound (lexemes behind) (imports, lexemes inner)
+    many).0.spelled
+    ∙ onto_all_spells onto_import spell_import import_spells imports (lexemes inner) ∙
+    ap (λ (ks : List Lexeme). flat_map spell_import imports ++ ks) (sym (spots_forgotten inner))))
     cs
 
 stand : (text : List ℕ) (from : ℕ) (ts : List Token) → InOrder text from ts (length text) → StandIn text from (spots ts)
 stand text from [] h = h
 stand text from (t ∷ ts) h = (h.0, h.1, h.2.within, (h.2.size, h.2.reaches, h.2.read), stand text t.span.end ts h.3)
 
-text_placed : {f : File} {text : List ℕ} (ts : List Token) → tokens_of text ≡ Some (lexemes ts) → InOrder text 0 ts (length text) → FileAt f (spots ts) → PlacedIn f text
+text_placed : {f : File} {text : List ℕ} (ts : List Token) →
+    tokens_of text ≡ Some (lexemes ts) →
+    InOrder text 0 ts (length text) →
+    FileAt f (spots ts) →
+    PlacedIn f text
 text_placed {text = text} ts all order places = record {
   tokens = spots ts;
   all = all ∙ ap Some (sym (spots_forgotten ts));
@@ -54,6 +66,10 @@ text_placed {text = text} ts all order places = record {
 }
 
 -- if a text spells a file, and these are its places, it is the file of the text
-pub text_file : (f : ClassFile) {text : List ℕ} (ts : List Token) → TextSpells (bare_file f) text → tokens_of text ≡ Some (lexemes ts) → InOrder text 0 ts (length text) → FileAt (placed_file f) (spots ts) →
+pub text_file : (f : ClassFile) {text : List ℕ} (ts : List Token) →
+    TextSpells (bare_file f) text →
+    tokens_of text ≡ Some (lexemes ts) →
+    InOrder text 0 ts (length text) →
+    FileAt (placed_file f) (spots ts) →
     IsFileOf text (placed_file f)
 text_file f ts spelled all order places = is_file_of f spelled (text_placed ts all order places)

@@ -1,5 +1,6 @@
 -- What reading a file says of spelling.
-use Rattle.std.proofs.Common.{◌≡◌, ℕ, ◌<◌, inl, inr, arith, length, List, Option, Some, None, IsSome, refl, sym, ap, subst, ◌∙◌}
+use Rattle.std.proofs.Common.{◌≡◌, ℕ, ◌<◌, inl, inr, arith, length, List, Option, Some, None, IsSome, refl, sym, ap}
+use Rattle.std.proofs.Common.{subst, ◌∙◌}
 use Rattle.ls_lexer.specs.declared.fault.TextFault.{TextFault}
 use Rattle.ls_lexer.specs.Lexemes.{Lexeme}
 use Rattle.ls_lexer.specs.Tokens.{tokens_of}
@@ -40,13 +41,19 @@ not_spelled ks h f s =
     cc (h, read)
 
 -- if the reading is refused, no file is spelled
-pub refused_is : (ks : List Lexeme) (e : TextFault) → Fails e (file_at ks) → RefusesTokens e ((f : File) → Spells f ks → ⊥)
+pub refused_is : (ks : List Lexeme) (e : TextFault) →
+    Fails e (file_at ks) →
+    RefusesTokens e ((f : File) → Spells f ks → ⊥)
 refused_is ks e h = means_map e (not_spelled ks) h
 
 -- ---- texts
 
 -- if tokens spell a file, so does their text
-pub text_found : (text : List ℕ) (f : File) (ks : List Lexeme) → (text_limit < length text → ⊥) → tokens_of text ≡ Some ks → Spells f ks → TextSpells f text
+pub text_found : (text : List ℕ) (f : File) (ks : List Lexeme) →
+    (text_limit < length text → ⊥) →
+    tokens_of text ≡ Some ks →
+    Spells f ks →
+    TextSpells f text
 text_found text f ks long tokens s = record {
   short = elim (cases_lt text_limit (length text)) [ inl lt ↦ absurd (long lt) | inr le ↦ le ];
   tokens = tokens ∙ ap Some s.spelled;
@@ -66,11 +73,20 @@ lexing_refused text (faults.BadNumber at) h = no_tokens text h.1
 lexing_refused text (faults.Syntax at) h = absurd h
 lexing_refused text (faults.TooDeep at) h = absurd h
 
-other_text : (text : List ℕ) (ks : List Lexeme) → tokens_of text ≡ Some ks → ((f : File) → Spells f ks → ⊥) → (f : File) → TextSpells f text → ⊥
-other_text text ks tokens none f s = none f (record { spelled = some_is ks (spell f) (sym tokens ∙ s.tokens); formed = s.formed })
+other_text : (text : List ℕ) (ks : List Lexeme) →
+    tokens_of text ≡ Some ks →
+    ((f : File) → Spells f ks → ⊥) →
+    (f : File) →
+    TextSpells f text →
+    ⊥
+other_text text ks tokens none f s =
+    none f (record { spelled = some_is ks (spell f) (sym tokens ∙ s.tokens); formed = s.formed })
 
 -- a text whose tokens are refused spells no file
-pub text_refused : (text : List ℕ) (ks : List Lexeme) (e : TextFault) → tokens_of text ≡ Some ks → RefusesTokens e ((f : File) → Spells f ks → ⊥) → Refuses e ((f : File) → TextSpells f text → ⊥)
+pub text_refused : (text : List ℕ) (ks : List Lexeme) (e : TextFault) →
+    tokens_of text ≡ Some ks →
+    RefusesTokens e ((f : File) → Spells f ks → ⊥) →
+    Refuses e ((f : File) → TextSpells f text → ⊥)
 text_refused text ks faults.Memory tokens h = tt
 text_refused text ks faults.TooLong tokens h = absurd h
 text_refused text ks (faults.BadByte at) tokens h = absurd h
@@ -93,7 +109,10 @@ has_tokens : (text : List ℕ) (ks : List Lexeme) → tokens_of text ≡ Some ks
 has_tokens text ks tokens = subst (λ (o : Option (List Lexeme)). IsSome o) (sym tokens) refl
 
 -- a fault of the grammar may come of its text
-pub parsing_may_come : (text : List ℕ) (ks : List Lexeme) (e : TextFault) → tokens_of text ≡ Some ks → RefusesTokens e ((f : File) → Spells f ks → ⊥) → MayCome text e
+pub parsing_may_come : (text : List ℕ) (ks : List Lexeme) (e : TextFault) →
+    tokens_of text ≡ Some ks →
+    RefusesTokens e ((f : File) → Spells f ks → ⊥) →
+    MayCome text e
 parsing_may_come text ks faults.Memory tokens h = tt
 parsing_may_come text ks faults.TooLong tokens h = absurd h
 parsing_may_come text ks (faults.BadByte at) tokens h = absurd h

@@ -30,11 +30,19 @@ pub taken_then : {s : Spot} {ss middle rest : List Spot} → ss ≡ s ∷ middle
 taken_then a l = leaves_then (one_taken a) l
 
 -- one token is taken, then others, and then a sign
-pub then_closed : {mark : Sign} {t : Spot} {ss middle end rest : List Spot} → ss ≡ t ∷ middle → Leaves middle end → (s : Span) × (end ≡ sign mark s ∷ rest) → Leaves ss rest
+pub then_closed : {mark : Sign} {t : Spot} {ss middle end rest : List Spot} →
+    ss ≡ t ∷ middle →
+    Leaves middle end →
+    (s : Span) × (end ≡ sign mark s ∷ rest) →
+    Leaves ss rest
 then_closed a l closed = leaves_then (taken_then a l) (one_taken closed.1)
 
 -- one token is taken, and then others twice
-pub taken_and_both : {s : Spot} {ss middle end rest : List Spot} → ss ≡ s ∷ middle → Leaves middle end → Leaves end rest → Leaves ss rest
+pub taken_and_both : {s : Spot} {ss middle end rest : List Spot} →
+    ss ≡ s ∷ middle →
+    Leaves middle end →
+    Leaves end rest →
+    Leaves ss rest
 taken_and_both a l m = leaves_then (taken_then a l) m
 
 -- ---- which tokens were taken
@@ -48,7 +56,10 @@ longer_append [] ls = omega arith
 longer_append (k ∷ ks) ls = omega (arith, longer_append ks ls)
 
 -- which tokens were taken
-pub taken : {ss rest : List Spot} (ks : List Lexeme) → Leaves ss rest → forgotten ss ≡ ks ++ forgotten rest → Anywhere ks ss rest
+pub taken : {ss rest : List Spot} (ks : List Lexeme) →
+    Leaves ss rest →
+    forgotten ss ≡ ks ++ forgotten rest →
+    Anywhere ks ss rest
 taken [] all_left e = nothing_more
 taken (k ∷ ks) (all_left {rest}) e = absurd (omega (arith, ap length e, longer_append ks (forgotten rest)))
 taken [] (one_less {s} {ss} {rest} l) e = absurd (omega (arith, ap length e, longer l))

@@ -3,10 +3,12 @@ use Rattle.std.specs.Prelude.{Bool, true, false, not, ◌||◌, List, [], ◌∷
 use Rattle.ls_lexer.specs.declared.word.Word.TheVariants as words
 use Rattle.ls_lexer.specs.declared.sign.Sign.TheVariants as signs
 use Rattle.ls_lexer.specs.Lexemes.{Lexeme}
-use Rattle.ls_tree.specs.Trees.{Text, Modifier, TypeName, Items, Parameter, Member, Fields, Method, Constructor, ClassTree, Dotted, Import, File}
+use Rattle.ls_tree.specs.Trees.{Text, Modifier, TypeName, Items, Parameter, Member, Fields, Method, Constructor}
+use Rattle.ls_tree.specs.Trees.{ClassTree, Dotted, Import, File}
 use Rattle.ls_tree.specs.PlacedTrees.{some_in}
 use Rattle.ls_tree.specs.WellFormed.{most_nodes}
-use Rattle.ls_parser_tokens.specs.Reading.{◌>>=◌, Reader, given, after_sign, after_word, name_at, starts, many_at, not_yet, group_at}
+use Rattle.ls_parser_tokens.specs.Reading.{◌>>=◌, Reader, given, after_sign, after_word, name_at, starts, many_at}
+use Rattle.ls_parser_tokens.specs.Reading.{not_yet, group_at}
 use Rattle.ls_parser_expressions.specs.ReadingExpressions.{expression_at}
 use Rattle.ls_parser_declarations.specs.ReadingDeclarations.{modifiers_at, type_at, declarators_at}
 use Rattle.ls_parser_statements.specs.ReadingStatements.{block_at}
@@ -51,7 +53,10 @@ all_locked_at ks = many_at starts_locked locked_at ks
 abbrev pub method_at : List Modifier → List (List Modifier) → Option TypeName → Reader Member
 method_at modifiers locked result ks =
     name_at ks >>= λ name. parameters_at name.1 >>= λ parameters.
-    block_at most_nodes parameters.1 >>= λ body. Some (Method modifiers locked result name.0 parameters.0 body.0, body.1)
+    block_at most_nodes parameters.1 >>= λ body. Some (
+      Method modifiers locked result name.0 parameters.0 body.0,
+      body.1,
+    )
 
 -- what comes after modifiers and a type
 abbrev pub typed_at : List Modifier → TypeName → Reader Member
@@ -72,7 +77,8 @@ abbrev pub locked_member_at : List Modifier → List (List Modifier) → Reader 
 locked_member_at modifiers locked ks =
     if starts_call ks then None else
     given (after_word words.Void ks) (λ rest. method_at modifiers locked None rest)
-    (type_at ks >>= λ type_name. if starts_call type_name.1 then method_at modifiers locked (Some type_name.0) type_name.1 else None)
+    (type_at ks >>= λ type_name. if starts_call type_name.1 then method_at modifiers locked (Some type_name.0)
+    type_name.1 else None)
 
 abbrev pub member_at : Reader Member
 member_at ks =
@@ -102,7 +108,8 @@ abbrev pub dotted_of : Text → List Text → Dotted
 dotted_of first more = record { first = first; more = more }
 
 abbrev pub dotted_at : (List Lexeme → Bool) → Reader Dotted
-dotted_at goes ks = name_at ks >>= λ first. many_at goes part_at first.1 >>= λ more. Some (dotted_of first.0 more.0, more.1)
+dotted_at goes ks =
+    name_at ks >>= λ first. many_at goes part_at first.1 >>= λ more. Some (dotted_of first.0 more.0, more.1)
 
 -- the tokens after `.*`
 abbrev pub after_star : List Lexeme → Option (List Lexeme)
@@ -122,7 +129,8 @@ import_at ks =
 
 -- what comes after `package`
 abbrev pub package_at : Reader Dotted
-package_at ks = dotted_at (not_yet signs.Semicolon) ks >>= λ name. after_sign signs.Semicolon name.1 >>= λ end. Some (name.0, end)
+package_at ks = dotted_at (not_yet signs.Semicolon) ks >>= λ name. after_sign signs.Semicolon name.1 >>= λ end. Some
+    (name.0, end)
 
 abbrev pub header_at : Reader (Option Dotted)
 header_at ks =

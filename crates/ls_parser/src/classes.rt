@@ -1,19 +1,26 @@
 // Members and classes.
 
-ghost use Rattle.std.specs.Prelude.{◌≡◌, ◌+◌, ◌-◌, ◌<◌, ◌≤◌, ◌^◌, ◌++◌, ◌∷◌, List, [], IfOk, Some, None, length, map, option_map, is_some};
+ghost use Rattle.std.specs.Prelude.{◌≡◌, ◌+◌, ◌-◌, ◌<◌, ◌≤◌, ◌^◌, ◌++◌, ◌∷◌, List, [], IfOk, Some, None, length, map};
+ghost use Rattle.std.specs.Prelude.{option_map, is_some};
 ghost use Rattle.ls_lexer.specs.Lexemes.{lexemes};
 ghost use Rattle.ls_lexer.specs.declared.sign.Sign.TheVariants as signs;
-ghost use Rattle.ls_tree.specs.Views.{name_text, bare_modifier, bare_modifiers, bare_type, bare_parameter, bare_block, bare_member, bare_class};
+ghost use Rattle.ls_tree.specs.Views.{name_text, bare_modifier, bare_modifiers, bare_type, bare_parameter};
+ghost use Rattle.ls_tree.specs.Views.{bare_block, bare_member, bare_class};
 ghost use Rattle.ls_tree.specs.Trees as trees;
 ghost use Rattle.ls_tree.specs.PlacedTrees.{some_in};
 ghost use Rattle.ls_tree.specs.Placed.{placed_name};
-ghost use Rattle.ls_tree.specs.PlacedStatements.{placed_type, placed_items, placed_parameter, placed_member, placed_class};
+ghost use Rattle.ls_tree.specs.PlacedStatements.{placed_type, placed_items, placed_parameter, placed_member};
+ghost use Rattle.ls_tree.specs.PlacedStatements.{placed_class};
 ghost use Rattle.ls_parser_spelling.specs.Places.{Spot, sign, spots};
 ghost use Rattle.ls_parser_spelling.specs.StatementPlaces.{ManyAt, ModifierAt, TypeAt};
-ghost use Rattle.ls_parser_spelling.specs.FilePlaces.{ParameterAt, SomeParametersAt, ParametersAt, CallableAt, ResultAt, LockedAt, MemberAt, BodyAt, ClassAt};
-ghost use Rattle.ls_parser_tokens.specs.Answers.{Gives, Finds};
+ghost use Rattle.ls_parser_spelling.specs.FilePlaces.{ParameterAt, SomeParametersAt, ParametersAt, CallableAt};
+ghost use Rattle.ls_parser_spelling.specs.FilePlaces.{ResultAt, LockedAt, MemberAt, BodyAt, ClassAt};
+ghost use Rattle.ls_parser_tokens.specs.Answers.{ReadsAs, Finds};
 ghost use Rattle.ls_parser_tokens.specs.Reading.{one_more, behind_comma, many_at, not_yet, group_at};
-ghost use Rattle.ls_parser.specs.ReadingClasses.{parameter_at, parameters_at, starts_call, callable_at, constructor_at, starts_locked, locked_at, method_at, typed_at, unmodified_at, locked_member_at, member_at, class_body_at, class_at, is_left};
+ghost use Rattle.ls_parser.specs.ReadingClasses.{parameter_at, parameters_at, starts_call, callable_at};
+ghost use Rattle.ls_parser.specs.ReadingClasses.{constructor_at, starts_locked, locked_at, method_at, typed_at};
+ghost use Rattle.ls_parser.specs.ReadingClasses.{unmodified_at, locked_member_at, member_at, class_body_at, class_at};
+ghost use Rattle.ls_parser.specs.ReadingClasses.{is_left};
 
 use ls_lexer::fault::TextFault;
 use ls_lexer::sign::Sign;
@@ -38,7 +45,8 @@ fn parameter<'t, 'a>(
     context: Context,
     tokens: &'t [Token<'a>],
 ) -> Result<Read<'t, 'a, Parameter>, TextFault>
-    ensures read { Gives (λ p. (bare_parameter p.tree, lexemes p.rest.now)) result (parameter_at (lexemes tokens.now)) }
+    ensures read { ReadsAs (λ p. (bare_parameter p.tree, lexemes p.rest.now)) result
+        (parameter_at (lexemes tokens.now)) }
     ensures places { IfOk result (λ p. ParameterAt (placed_parameter p.tree) (spots tokens.now) (spots p.rest.now)) }
 {
     let modifiers = modifiers(context, tokens)?;
@@ -60,8 +68,11 @@ fn parameter_group<'t, 'a>(
     context: Context,
     tokens: &'t [Token<'a>],
 ) -> Result<Read<'t, 'a, Vec<Parameter>>, TextFault>
-    ensures read { Gives (λ p. (map bare_parameter p.tree.items, lexemes p.rest.now)) result (group_at parameter_at (lexemes tokens.now)) }
-    ensures places { IfOk result (λ p. (opening : Span) → ParametersAt (map placed_parameter p.tree.items) (sign signs.OpenParen opening ∷ spots tokens.now) (spots p.rest.now)) }
+    ensures read { ReadsAs (λ p. (map bare_parameter p.tree.items, lexemes p.rest.now)) result
+        (group_at parameter_at (lexemes tokens.now)) }
+    ensures places { IfOk result (λ p. (opening : Span) →
+        ParametersAt (map placed_parameter p.tree.items) (sign signs.OpenParen opening ∷ spots tokens.now)
+        (spots p.rest.now)) }
 {
     if let Some(close) = sign_part(tokens, Sign::CloseParen) {
         return Ok(Read {
@@ -89,8 +100,12 @@ fn one_parameter<'t, 'a>(
     context: Context,
     before: Read<'t, 'a, Vec<Parameter>>,
 ) -> Result<Read<'t, 'a, Vec<Parameter>>, TextFault>
-    ensures read { Gives (λ p. (map bare_parameter p.tree.items, lexemes p.rest.now)) result (one_more (behind_comma parameter_at) (map bare_parameter before.entry.tree.items) (lexemes before.entry.rest.now)) }
-    ensures places { IfOk result (λ p. (ss : List Spot) → SomeParametersAt (map placed_parameter before.entry.tree.items) ss (spots before.entry.rest.now) → SomeParametersAt (map placed_parameter p.tree.items) ss (spots p.rest.now)) }
+    ensures read { ReadsAs (λ p. (map bare_parameter p.tree.items, lexemes p.rest.now)) result
+        (one_more (behind_comma parameter_at) (map bare_parameter before.entry.tree.items)
+        (lexemes before.entry.rest.now)) }
+    ensures places { IfOk result (λ p. (ss : List Spot) →
+        SomeParametersAt (map placed_parameter before.entry.tree.items) ss (spots before.entry.rest.now) →
+        SomeParametersAt (map placed_parameter p.tree.items) ss (spots p.rest.now)) }
 {
     let comma = expect(context, before.rest, Sign::Comma)?;
     let found = parameter(context, comma.rest)?;
@@ -104,8 +119,10 @@ fn parameters<'t, 'a>(
     context: Context,
     tokens: &'t [Token<'a>],
 ) -> Result<Read<'t, 'a, Vec<Parameter>>, TextFault>
-    ensures read { Gives (λ p. (map bare_parameter p.tree.items, lexemes p.rest.now)) result (parameters_at (lexemes tokens.now)) }
-    ensures places { IfOk result (λ p. ParametersAt (map placed_parameter p.tree.items) (spots tokens.now) (spots p.rest.now)) }
+    ensures read { ReadsAs (λ p. (map bare_parameter p.tree.items, lexemes p.rest.now)) result
+        (parameters_at (lexemes tokens.now)) }
+    ensures places { IfOk result
+        (λ p. ParametersAt (map placed_parameter p.tree.items) (spots tokens.now) (spots p.rest.now)) }
 {
     let open = expect(context, tokens, Sign::OpenParen)?;
     parameter_group(context, open.rest)
@@ -129,8 +146,12 @@ fn callable<'t, 'a>(
     context: Context,
     tokens: &'t [Token<'a>],
 ) -> Result<Read<'t, 'a, (Name, Vec<Parameter>, Block)>, TextFault>
-    ensures read { Gives (λ c. ((name_text c.tree.0, map bare_parameter c.tree.1.items, bare_block c.tree.2), lexemes c.rest.now)) result (callable_at (lexemes tokens.now)) }
-    ensures places { IfOk result (λ c. CallableAt (placed_name c.tree.0) (map placed_parameter c.tree.1.items) (placed_items c.tree.2.items.items) (spots tokens.now) (spots c.rest.now)) }
+    ensures read { ReadsAs
+        (λ c. ((name_text c.tree.0, map bare_parameter c.tree.1.items, bare_block c.tree.2), lexemes c.rest.now)) result
+        (callable_at (lexemes tokens.now)) }
+    ensures places { IfOk result
+        (λ c. CallableAt (placed_name c.tree.0) (map placed_parameter c.tree.1.items)
+        (placed_items c.tree.2.items.items) (spots tokens.now) (spots c.rest.now)) }
 {
     let name = name(context, tokens)?;
     let parameters = parameters(context, name.rest)?;
@@ -147,8 +168,10 @@ fn constructor<'t, 'a>(
     modifiers: Vec<Modifier>,
     tokens: &'t [Token<'a>],
 ) -> Result<Read<'t, 'a, Member>, TextFault>
-    ensures read { Gives (λ m. (bare_member m.tree, lexemes m.rest.now)) result (constructor_at (map bare_modifier modifiers.items) (lexemes tokens.now)) }
-    ensures places { IfOk result (λ m. (ms : List trees.Modifier) (ss : List Spot) → ManyAt ModifierAt ms ss (spots tokens.now) → MemberAt (placed_member m.tree) ss (spots m.rest.now)) }
+    ensures read { ReadsAs (λ m. (bare_member m.tree, lexemes m.rest.now)) result
+        (constructor_at (map bare_modifier modifiers.items) (lexemes tokens.now)) }
+    ensures places { IfOk result (λ m. (ms : List trees.Modifier) (ss : List Spot) →
+        ManyAt ModifierAt ms ss (spots tokens.now) → MemberAt (placed_member m.tree) ss (spots m.rest.now)) }
 {
     let found = callable(context, tokens)?;
     Ok(Read {
@@ -171,8 +194,13 @@ fn method<'t, 'a>(
     answer: Option<Type>,
     tokens: &'t [Token<'a>],
 ) -> Result<Read<'t, 'a, Member>, TextFault>
-    ensures read { Gives (λ m. (bare_member m.tree, lexemes m.rest.now)) result (method_at (map bare_modifier modifiers.items) (map bare_modifiers locked.items) (option_map bare_type answer) (lexemes tokens.now)) }
-    ensures places { IfOk result (λ m. (ms : List trees.Modifier) (ss inner middle : List Spot) → ManyAt ModifierAt ms ss inner → ManyAt LockedAt (map bare_modifiers locked.items) inner middle → ResultAt (option_map placed_type answer) middle (spots tokens.now) → MemberAt (placed_member m.tree) ss (spots m.rest.now)) }
+    ensures read { ReadsAs (λ m. (bare_member m.tree, lexemes m.rest.now)) result
+        (method_at (map bare_modifier modifiers.items) (map bare_modifiers locked.items) (option_map bare_type answer)
+        (lexemes tokens.now)) }
+    ensures places { IfOk result (λ m. (ms : List trees.Modifier) (ss inner middle : List Spot) →
+        ManyAt ModifierAt ms ss inner → ManyAt LockedAt (map bare_modifiers locked.items) inner middle →
+        ResultAt (option_map placed_type answer) middle (spots tokens.now) →
+        MemberAt (placed_member m.tree) ss (spots m.rest.now)) }
 {
     let found = callable(context, tokens)?;
     Ok(Read {
@@ -197,8 +225,11 @@ fn typed<'t, 'a>(
     type_name: Type,
     tokens: &'t [Token<'a>],
 ) -> Result<Read<'t, 'a, Member>, TextFault>
-    ensures read { Gives (λ m. (bare_member m.tree, lexemes m.rest.now)) result (typed_at (map bare_modifier modifiers.items) (bare_type type_name) (lexemes tokens.now)) }
-    ensures places { IfOk result (λ m. (ms : List trees.Modifier) (ss middle : List Spot) → ManyAt ModifierAt ms ss middle → TypeAt (placed_type type_name) middle (spots tokens.now) → MemberAt (placed_member m.tree) ss (spots m.rest.now)) }
+    ensures read { ReadsAs (λ m. (bare_member m.tree, lexemes m.rest.now)) result
+        (typed_at (map bare_modifier modifiers.items) (bare_type type_name) (lexemes tokens.now)) }
+    ensures places { IfOk result (λ m. (ms : List trees.Modifier) (ss middle : List Spot) →
+        ManyAt ModifierAt ms ss middle → TypeAt (placed_type type_name) middle (spots tokens.now) →
+        MemberAt (placed_member m.tree) ss (spots m.rest.now)) }
 {
     if starts_call(tokens) {
         return method(
@@ -223,8 +254,10 @@ fn unmodified<'t, 'a>(
     modifiers: Vec<Modifier>,
     tokens: &'t [Token<'a>],
 ) -> Result<Read<'t, 'a, Member>, TextFault>
-    ensures read { Gives (λ m. (bare_member m.tree, lexemes m.rest.now)) result (unmodified_at (map bare_modifier modifiers.items) (lexemes tokens.now)) }
-    ensures places { IfOk result (λ m. (ms : List trees.Modifier) (ss : List Spot) → ManyAt ModifierAt ms ss (spots tokens.now) → MemberAt (placed_member m.tree) ss (spots m.rest.now)) }
+    ensures read { ReadsAs (λ m. (bare_member m.tree, lexemes m.rest.now)) result
+        (unmodified_at (map bare_modifier modifiers.items) (lexemes tokens.now)) }
+    ensures places { IfOk result (λ m. (ms : List trees.Modifier) (ss : List Spot) →
+        ManyAt ModifierAt ms ss (spots tokens.now) → MemberAt (placed_member m.tree) ss (spots m.rest.now)) }
 {
     if starts_call(tokens) {
         return constructor(context, modifiers, tokens);
@@ -248,8 +281,10 @@ fn all_locked<'t, 'a>(
     context: Context,
     tokens: &'t [Token<'a>],
 ) -> Result<Read<'t, 'a, Vec<Vec<Modifier>>>, TextFault>
-    ensures read { Gives (λ l. (map bare_modifiers l.tree.items, lexemes l.rest.now)) result (many_at starts_locked locked_at (lexemes tokens.now)) }
-    ensures places { IfOk result (λ l. ManyAt LockedAt (map bare_modifiers l.tree.items) (spots tokens.now) (spots l.rest.now)) }
+    ensures read { ReadsAs (λ l. (map bare_modifiers l.tree.items, lexemes l.rest.now)) result
+        (many_at starts_locked locked_at (lexemes tokens.now)) }
+    ensures places { IfOk result
+        (λ l. ManyAt LockedAt (map bare_modifiers l.tree.items) (spots tokens.now) (spots l.rest.now)) }
 {
     let mut all = Read {
         tree: Vec::new(context.alloc),
@@ -266,8 +301,11 @@ fn one_locked<'t, 'a>(
     context: Context,
     before: Read<'t, 'a, Vec<Vec<Modifier>>>,
 ) -> Result<Read<'t, 'a, Vec<Vec<Modifier>>>, TextFault>
-    ensures read { Gives (λ l. (map bare_modifiers l.tree.items, lexemes l.rest.now)) result (one_more locked_at (map bare_modifiers before.entry.tree.items) (lexemes before.entry.rest.now)) }
-    ensures places { IfOk result (λ l. (ss : List Spot) → ManyAt LockedAt (map bare_modifiers before.entry.tree.items) ss (spots before.entry.rest.now) → ManyAt LockedAt (map bare_modifiers l.tree.items) ss (spots l.rest.now)) }
+    ensures read { ReadsAs (λ l. (map bare_modifiers l.tree.items, lexemes l.rest.now)) result
+        (one_more locked_at (map bare_modifiers before.entry.tree.items) (lexemes before.entry.rest.now)) }
+    ensures places { IfOk result (λ l. (ss : List Spot) →
+        ManyAt LockedAt (map bare_modifiers before.entry.tree.items) ss (spots before.entry.rest.now) →
+        ManyAt LockedAt (map bare_modifiers l.tree.items) ss (spots l.rest.now)) }
 {
     let word = expect_word(context, before.rest, Word::Synchronized)?;
     let found = modifiers(context, word.rest)?;
@@ -286,8 +324,11 @@ fn locked_member<'t, 'a>(
     locked: Vec<Vec<Modifier>>,
     tokens: &'t [Token<'a>],
 ) -> Result<Read<'t, 'a, Member>, TextFault>
-    ensures read { Gives (λ m. (bare_member m.tree, lexemes m.rest.now)) result (locked_member_at (map bare_modifier modifiers.items) (map bare_modifiers locked.items) (lexemes tokens.now)) }
-    ensures places { IfOk result (λ m. (ms : List trees.Modifier) (ss inner : List Spot) → ManyAt ModifierAt ms ss inner → ManyAt LockedAt (map bare_modifiers locked.items) inner (spots tokens.now) → MemberAt (placed_member m.tree) ss (spots m.rest.now)) }
+    ensures read { ReadsAs (λ m. (bare_member m.tree, lexemes m.rest.now)) result
+        (locked_member_at (map bare_modifier modifiers.items) (map bare_modifiers locked.items) (lexemes tokens.now)) }
+    ensures places { IfOk result (λ m. (ms : List trees.Modifier) (ss inner : List Spot) →
+        ManyAt ModifierAt ms ss inner → ManyAt LockedAt (map bare_modifiers locked.items) inner (spots tokens.now) →
+        MemberAt (placed_member m.tree) ss (spots m.rest.now)) }
 {
     if starts_call(tokens) {
         return Err(syntax(context, front));
@@ -319,7 +360,7 @@ fn member<'t, 'a>(
     context: Context,
     tokens: &'t [Token<'a>],
 ) -> Result<Read<'t, 'a, Member>, TextFault>
-    ensures read { Gives (λ m. (bare_member m.tree, lexemes m.rest.now)) result (member_at (lexemes tokens.now)) }
+    ensures read { ReadsAs (λ m. (bare_member m.tree, lexemes m.rest.now)) result (member_at (lexemes tokens.now)) }
     ensures places { IfOk result (λ m. MemberAt (placed_member m.tree) (spots tokens.now) (spots m.rest.now)) }
 {
     let modifiers = modifiers(context, tokens)?;
@@ -341,8 +382,10 @@ fn members<'t, 'a>(
     context: Context,
     tokens: &'t [Token<'a>],
 ) -> Result<Read<'t, 'a, Vec<Member>>, TextFault>
-    ensures read { Gives (λ m. (map bare_member m.tree.items, lexemes m.rest.now)) result (many_at (not_yet signs.CloseBrace) member_at (lexemes tokens.now)) }
-    ensures places { IfOk result (λ m. ManyAt MemberAt (map placed_member m.tree.items) (spots tokens.now) (spots m.rest.now)) }
+    ensures read { ReadsAs (λ m. (map bare_member m.tree.items, lexemes m.rest.now)) result
+        (many_at (not_yet signs.CloseBrace) member_at (lexemes tokens.now)) }
+    ensures places { IfOk result
+        (λ m. ManyAt MemberAt (map placed_member m.tree.items) (spots tokens.now) (spots m.rest.now)) }
 {
     let mut all = Read {
         tree: Vec::new(context.alloc),
@@ -359,8 +402,11 @@ fn one_member<'t, 'a>(
     context: Context,
     before: Read<'t, 'a, Vec<Member>>,
 ) -> Result<Read<'t, 'a, Vec<Member>>, TextFault>
-    ensures read { Gives (λ m. (map bare_member m.tree.items, lexemes m.rest.now)) result (one_more member_at (map bare_member before.entry.tree.items) (lexemes before.entry.rest.now)) }
-    ensures places { IfOk result (λ m. (ss : List Spot) → ManyAt MemberAt (map placed_member before.entry.tree.items) ss (spots before.entry.rest.now) → ManyAt MemberAt (map placed_member m.tree.items) ss (spots m.rest.now)) }
+    ensures read { ReadsAs (λ m. (map bare_member m.tree.items, lexemes m.rest.now)) result
+        (one_more member_at (map bare_member before.entry.tree.items) (lexemes before.entry.rest.now)) }
+    ensures places { IfOk result (λ m. (ss : List Spot) →
+        ManyAt MemberAt (map placed_member before.entry.tree.items) ss (spots before.entry.rest.now) →
+        ManyAt MemberAt (map placed_member m.tree.items) ss (spots m.rest.now)) }
 {
     let found = member(context, before.rest)?;
     Ok(Read {
@@ -377,7 +423,8 @@ fn class_body<'t, 'a>(
     context: Context,
     tokens: &'t [Token<'a>],
 ) -> Result<Read<'t, 'a, Vec<Member>>, TextFault>
-    ensures read { Gives (λ m. (map bare_member m.tree.items, lexemes m.rest.now)) result (class_body_at (lexemes tokens.now)) }
+    ensures read { ReadsAs (λ m. (map bare_member m.tree.items, lexemes m.rest.now)) result
+        (class_body_at (lexemes tokens.now)) }
     ensures places { IfOk result (λ m. BodyAt (map placed_member m.tree.items) (spots tokens.now) (spots m.rest.now)) }
 {
     let open = expect(context, tokens, Sign::OpenBrace)?;
@@ -391,7 +438,7 @@ fn class<'t, 'a>(
     context: Context,
     tokens: &'t [Token<'a>],
 ) -> Result<Read<'t, 'a, Class>, TextFault>
-    ensures read { Gives (λ c. (bare_class c.tree, lexemes c.rest.now)) result (class_at (lexemes tokens.now)) }
+    ensures read { ReadsAs (λ c. (bare_class c.tree, lexemes c.rest.now)) result (class_at (lexemes tokens.now)) }
     ensures places { IfOk result (λ c. ClassAt (placed_class c.tree) (spots tokens.now) (spots c.rest.now)) }
 {
     let modifiers = modifiers(context, tokens)?;
@@ -420,7 +467,8 @@ pub fn classes<'t, 'a>(
     context: Context,
     tokens: &'t [Token<'a>],
 ) -> Result<Read<'t, 'a, Vec<Class>>, TextFault>
-    ensures read { Gives (λ c. (map bare_class c.tree.items, lexemes c.rest.now)) result (many_at is_left class_at (lexemes tokens.now)) }
+    ensures read { ReadsAs (λ c. (map bare_class c.tree.items, lexemes c.rest.now)) result
+        (many_at is_left class_at (lexemes tokens.now)) }
     ensures places { IfOk result (λ c. ManyAt ClassAt (map placed_class c.tree.items) (spots tokens.now) []) }
 {
     let mut all = Read {
@@ -438,8 +486,11 @@ fn one_class<'t, 'a>(
     context: Context,
     before: Read<'t, 'a, Vec<Class>>,
 ) -> Result<Read<'t, 'a, Vec<Class>>, TextFault>
-    ensures read { Gives (λ c. (map bare_class c.tree.items, lexemes c.rest.now)) result (one_more class_at (map bare_class before.entry.tree.items) (lexemes before.entry.rest.now)) }
-    ensures places { IfOk result (λ c. (ss : List Spot) → ManyAt ClassAt (map placed_class before.entry.tree.items) ss (spots before.entry.rest.now) → ManyAt ClassAt (map placed_class c.tree.items) ss (spots c.rest.now)) }
+    ensures read { ReadsAs (λ c. (map bare_class c.tree.items, lexemes c.rest.now)) result
+        (one_more class_at (map bare_class before.entry.tree.items) (lexemes before.entry.rest.now)) }
+    ensures places { IfOk result (λ c. (ss : List Spot) →
+        ManyAt ClassAt (map placed_class before.entry.tree.items) ss (spots before.entry.rest.now) →
+        ManyAt ClassAt (map placed_class c.tree.items) ss (spots c.rest.now)) }
 {
     let found = class(context, before.rest)?;
     Ok(Read {

@@ -6,9 +6,10 @@ ghost use Rattle.ls_lexer.specs.declared.sign.Sign.TheVariants as signs;
 ghost use Rattle.ls_tree.specs.Views.{name_text, bare_dotted, bare_import};
 ghost use Rattle.ls_parser_spelling.specs.Places.{spots};
 ghost use Rattle.ls_parser.specs.Leaves.{Leaves};
-ghost use Rattle.ls_parser_tokens.specs.Answers.{Gives, Finds};
+ghost use Rattle.ls_parser_tokens.specs.Answers.{ReadsAs, Finds};
 ghost use Rattle.ls_parser_tokens.specs.Reading.{after_sign, one_more, many_at, not_yet};
-ghost use Rattle.ls_parser.specs.ReadingClasses.{part_at, dotted_at, after_star, more_path, import_of, import_at, package_at, header_at, starts_import};
+ghost use Rattle.ls_parser.specs.ReadingClasses.{part_at, dotted_at, after_star, more_path, import_of, import_at};
+ghost use Rattle.ls_parser.specs.ReadingClasses.{package_at, header_at, starts_import};
 
 use ls_lexer::fault::TextFault;
 use ls_lexer::sign::Sign;
@@ -25,7 +26,8 @@ fn package_parts<'t, 'a>(
     context: Context,
     tokens: &'t [Token<'a>],
 ) -> Result<Read<'t, 'a, Vec<Name>>, TextFault>
-    ensures read { Gives (λ d. (map name_text d.tree.items, lexemes d.rest.now)) result (many_at (not_yet signs.Semicolon) part_at (lexemes tokens.now)) }
+    ensures read { ReadsAs (λ d. (map name_text d.tree.items, lexemes d.rest.now)) result
+        (many_at (not_yet signs.Semicolon) part_at (lexemes tokens.now)) }
     ensures leaves { IfOk result (λ x. Leaves (spots tokens.now) (spots x.rest.now)) }
 {
     let mut all = Read {
@@ -44,7 +46,8 @@ fn import_parts<'t, 'a>(
     context: Context,
     tokens: &'t [Token<'a>],
 ) -> Result<Read<'t, 'a, Vec<Name>>, TextFault>
-    ensures read { Gives (λ d. (map name_text d.tree.items, lexemes d.rest.now)) result (many_at more_path part_at (lexemes tokens.now)) }
+    ensures read { ReadsAs (λ d. (map name_text d.tree.items, lexemes d.rest.now)) result
+        (many_at more_path part_at (lexemes tokens.now)) }
     ensures leaves { IfOk result (λ x. Leaves (spots tokens.now) (spots x.rest.now)) }
 {
     let mut all = Read {
@@ -62,7 +65,8 @@ fn one_part<'t, 'a>(
     context: Context,
     before: Read<'t, 'a, Vec<Name>>,
 ) -> Result<Read<'t, 'a, Vec<Name>>, TextFault>
-    ensures read { Gives (λ d. (map name_text d.tree.items, lexemes d.rest.now)) result (one_more part_at (map name_text before.entry.tree.items) (lexemes before.entry.rest.now)) }
+    ensures read { ReadsAs (λ d. (map name_text d.tree.items, lexemes d.rest.now)) result
+        (one_more part_at (map name_text before.entry.tree.items) (lexemes before.entry.rest.now)) }
     ensures leaves { IfOk result (λ x. Leaves (spots before.entry.rest.now) (spots x.rest.now)) }
 {
     let dot = expect(context, before.rest, Sign::Dot)?;
@@ -96,7 +100,8 @@ fn path<'t, 'a>(
     context: Context,
     tokens: &'t [Token<'a>],
 ) -> Result<Read<'t, 'a, Dotted>, TextFault>
-    ensures read { Gives (λ d. (bare_dotted d.tree, lexemes d.rest.now)) result (dotted_at more_path (lexemes tokens.now)) }
+    ensures read { ReadsAs (λ d. (bare_dotted d.tree, lexemes d.rest.now)) result
+        (dotted_at more_path (lexemes tokens.now)) }
     ensures leaves { IfOk result (λ x. Leaves (spots tokens.now) (spots x.rest.now)) }
 {
     let first = name(context, tokens)?;
@@ -118,7 +123,7 @@ fn imported<'t, 'a>(
     all: bool,
     tokens: &'t [Token<'a>],
 ) -> Result<Read<'t, 'a, Import>, TextFault>
-    ensures read { Gives (λ i. lexemes i.rest.now) result (after_sign signs.Semicolon (lexemes tokens.now)) }
+    ensures read { ReadsAs (λ i. lexemes i.rest.now) result (after_sign signs.Semicolon (lexemes tokens.now)) }
     ensures leaves { IfOk result (λ x. Leaves (spots tokens.now) (spots x.rest.now)) }
     ensures same { IfOk result (λ i. bare_import i.tree ≡ import_of (bare_dotted path) all) }
 {
@@ -134,7 +139,7 @@ fn import<'t, 'a>(
     context: Context,
     tokens: &'t [Token<'a>],
 ) -> Result<Read<'t, 'a, Import>, TextFault>
-    ensures read { Gives (λ i. (bare_import i.tree, lexemes i.rest.now)) result (import_at (lexemes tokens.now)) }
+    ensures read { ReadsAs (λ i. (bare_import i.tree, lexemes i.rest.now)) result (import_at (lexemes tokens.now)) }
     ensures leaves { IfOk result (λ x. Leaves (spots tokens.now) (spots x.rest.now)) }
 {
     let word = expect_word(context, tokens, Word::Import)?;
@@ -157,7 +162,8 @@ pub fn imports<'t, 'a>(
     context: Context,
     tokens: &'t [Token<'a>],
 ) -> Result<Read<'t, 'a, Vec<Import>>, TextFault>
-    ensures read { Gives (λ i. (map bare_import i.tree.items, lexemes i.rest.now)) result (many_at starts_import import_at (lexemes tokens.now)) }
+    ensures read { ReadsAs (λ i. (map bare_import i.tree.items, lexemes i.rest.now)) result
+        (many_at starts_import import_at (lexemes tokens.now)) }
     ensures leaves { IfOk result (λ x. Leaves (spots tokens.now) (spots x.rest.now)) }
 {
     let mut all = Read {
@@ -175,7 +181,8 @@ fn one_import<'t, 'a>(
     context: Context,
     before: Read<'t, 'a, Vec<Import>>,
 ) -> Result<Read<'t, 'a, Vec<Import>>, TextFault>
-    ensures read { Gives (λ i. (map bare_import i.tree.items, lexemes i.rest.now)) result (one_more import_at (map bare_import before.entry.tree.items) (lexemes before.entry.rest.now)) }
+    ensures read { ReadsAs (λ i. (map bare_import i.tree.items, lexemes i.rest.now)) result
+        (one_more import_at (map bare_import before.entry.tree.items) (lexemes before.entry.rest.now)) }
     ensures leaves { IfOk result (λ x. Leaves (spots before.entry.rest.now) (spots x.rest.now)) }
 {
     let found = import(context, before.rest)?;
@@ -191,7 +198,7 @@ fn package_name<'t, 'a>(
     context: Context,
     tokens: &'t [Token<'a>],
 ) -> Result<Read<'t, 'a, Dotted>, TextFault>
-    ensures read { Gives (λ d. (bare_dotted d.tree, lexemes d.rest.now)) result (package_at (lexemes tokens.now)) }
+    ensures read { ReadsAs (λ d. (bare_dotted d.tree, lexemes d.rest.now)) result (package_at (lexemes tokens.now)) }
     ensures leaves { IfOk result (λ x. Leaves (spots tokens.now) (spots x.rest.now)) }
 {
     let first = name(context, tokens)?;
@@ -212,7 +219,8 @@ pub fn header<'t, 'a>(
     context: Context,
     tokens: &'t [Token<'a>],
 ) -> Result<Read<'t, 'a, Option<Dotted>>, TextFault>
-    ensures read { Gives (λ h. (option_map bare_dotted h.tree, lexemes h.rest.now)) result (header_at (lexemes tokens.now)) }
+    ensures read { ReadsAs (λ h. (option_map bare_dotted h.tree, lexemes h.rest.now)) result
+        (header_at (lexemes tokens.now)) }
     ensures leaves { IfOk result (λ x. Leaves (spots tokens.now) (spots x.rest.now)) }
 {
     match word_part(tokens, Word::Package) {

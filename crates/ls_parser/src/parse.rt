@@ -11,7 +11,7 @@ ghost use Rattle.ls_tree.specs.PlacedStatements.{placed_class, placed_file};
 ghost use Rattle.ls_parser_spelling.specs.Places.{spots};
 ghost use Rattle.ls_parser_spelling.specs.FilePlaces.{FileAt};
 ghost use Rattle.ls_parser_placing.specs.Files.{IsFileOf};
-ghost use Rattle.ls_parser_tokens.specs.Answers.{Refuses, RefusesTokens, MayCome, Gives};
+ghost use Rattle.ls_parser_tokens.specs.Answers.{Refuses, RefusesTokens, MayCome, ReadsAs};
 ghost use Rattle.ls_parser.specs.ReadingClasses.{file_at};
 ghost use Rattle.ls_parser_spelling.specs.Spells.{Spells, TextSpells};
 ghost use Rattle.ls_parser.specs.Laws.{OneTree, OneFile};
@@ -34,8 +34,10 @@ struct Parts {
 
 #[tactic(auto, unfolding(crate::specs::ReadingClasses::file_at), using(crate::proofs::FilePlaces::file_placed))]
 fn read_parts(context: Context, tokens: &[Token]) -> Result<Parts, TextFault>
-    ensures read { Gives (λ p. file_of p.header p.imports.items p.classes.items) result (file_at (lexemes tokens.now)) }
-    ensures places { IfOk result (λ p. FileAt (record { classes = map placed_class p.classes.items }) (spots tokens.now)) }
+    ensures read { ReadsAs (λ p. file_of p.header p.imports.items p.classes.items) result
+        (file_at (lexemes tokens.now)) }
+    ensures places { IfOk result
+        (λ p. FileAt (record { classes = map placed_class p.classes.items }) (spots tokens.now)) }
 {
     let header = header(context, tokens)?;
     let imports = imports(context, header.rest)?;

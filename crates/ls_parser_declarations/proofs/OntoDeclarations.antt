@@ -3,7 +3,8 @@ use Rattle.std.proofs.Common.{◌<◌, ◌≤◌, length, List, ◌∷◌, Optio
 use Rattle.ls_lexer.specs.Lexemes.{Lexeme, Named, Reserved, Marked}
 use Rattle.ls_lexer.specs.declared.sign.Sign.TheVariants as signs
 use Rattle.ls_lexer.specs.declared.word.Word.TheVariants as words
-use Rattle.ls_tree.specs.Trees.{Expression, Modifier, Public, Protected, Private, Final, Volatile, Annotation, TypeName, Int, Boolean, BooleanArray, Class, Markable, Declarator, Declaration}
+use Rattle.ls_tree.specs.Trees.{Expression, Modifier, Public, Protected, Private, Final, Volatile, Annotation}
+use Rattle.ls_tree.specs.Trees.{TypeName, Int, Boolean, BooleanArray, Class, Markable, Declarator, Declaration}
 use Rattle.ls_parser_expressions.specs.ReadingExpressions.{markable_name}
 use Rattle.ls_parser_expressions.proofs.Onto.{onto, onto_class, onto_longer}
 use Rattle.ls_parser_expressions.proofs.Lists.{onto_all, onto_all_longer}
@@ -40,7 +41,10 @@ onto_next_declarator d rest = Marked signs.Comma ∷ onto_declarator d rest
 
 -- a declaration, spelled onto tokens
 abbrev pub onto_declaration : Declaration → List Lexeme → List Lexeme
-onto_declaration d rest = onto_all onto_modifier d.modifiers (onto_type d.type_name (onto_declarator d.first (onto_all onto_next_declarator d.more (Marked signs.Semicolon ∷ rest))))
+onto_declaration d rest =
+    onto_all onto_modifier d.modifiers
+    (onto_type d.type_name
+    (onto_declarator d.first (onto_all onto_next_declarator d.more (Marked signs.Semicolon ∷ rest))))
 
 -- ---- lengths
 
@@ -77,4 +81,11 @@ declaration_longer d rest =
     let ks1 : List Lexeme = onto_all onto_next_declarator d.more (Marked signs.Semicolon ∷ rest) in
     let ks2 : List Lexeme = onto_declarator d.first ks1 in
     let ks3 : List Lexeme = onto_type d.type_name ks2 in
-    omega (arith, onto_all_longer onto_modifier modifier_longer d.modifiers ks3, type_longer d.type_name ks2, declarator_longer d.first ks1, onto_all_longer onto_next_declarator next_declarator_longer d.more (Marked signs.Semicolon ∷ rest))
+    omega (
+      arith,
+      onto_all_longer onto_modifier modifier_longer d.modifiers ks3,
+      type_longer d.type_name ks2,
+      declarator_longer d.first ks1,
+      onto_all_longer onto_next_declarator next_declarator_longer d.more
+          (Marked signs.Semicolon ∷ rest),
+    )

@@ -4,8 +4,10 @@ use Rattle.ls_lexer.specs.declared.word.Word.{Word}
 use Rattle.ls_lexer.specs.declared.word.Word.TheVariants as words
 use Rattle.ls_lexer.specs.declared.sign.Sign.TheVariants as signs
 use Rattle.ls_lexer.specs.Lexemes.{Lexeme, Named, Numeral, Reserved, Marked}
-use Rattle.ls_tree.specs.Trees.{Text, Expression, Modifier, Public, Protected, Private, Final, Volatile, Annotation, TypeName, Int, Boolean, BooleanArray, Class, Markable, Declarator, Declaration}
-use Rattle.ls_parser_tokens.specs.Reading.{◌>>=◌, Reader, given, after_sign, after_word, name_at, starts, many_at, behind_comma, not_yet}
+use Rattle.ls_tree.specs.Trees.{Text, Expression, Modifier, Public, Protected, Private, Final, Volatile, Annotation}
+use Rattle.ls_tree.specs.Trees.{TypeName, Int, Boolean, BooleanArray, Class, Markable, Declarator, Declaration}
+use Rattle.ls_parser_tokens.specs.Reading.{◌>>=◌, Reader, given, after_sign, after_word, name_at, starts, many_at}
+use Rattle.ls_parser_tokens.specs.Reading.{behind_comma, not_yet}
 use Rattle.ls_parser_expressions.specs.ReadingExpressions.{is_markable, class_at}
 
 -- ---- modifiers and types
@@ -69,7 +71,8 @@ declarator_at value ks =
     (Some (declarator_of name.0 None, name.1))
 
 abbrev pub declaration_of : List Modifier → TypeName → Declarator → List Declarator → Declaration
-declaration_of modifiers type_name first more = record { modifiers = modifiers; type_name = type_name; first = first; more = more }
+declaration_of modifiers type_name first more =
+    record { modifiers = modifiers; type_name = type_name; first = first; more = more }
 
 -- declarators, each after a comma, and a semicolon
 abbrev pub more_declarators_at : Reader Expression → Reader (List Declarator)

@@ -1,6 +1,7 @@
 // Modifiers, types, and declarations of fields and locals.
 
-ghost use Rattle.std.specs.Prelude.{◌≡◌, ◌+◌, ◌-◌, ◌<◌, ◌≤◌, ◌^◌, ◌++◌, ◌∷◌, List, [], IfOk, IfSome, Some, length, map, option_map, max};
+ghost use Rattle.std.specs.Prelude.{◌≡◌, ◌+◌, ◌-◌, ◌<◌, ◌≤◌, ◌^◌, ◌++◌, ◌∷◌, List, [], IfOk, IfSome, Some, length};
+ghost use Rattle.std.specs.Prelude.{map, option_map, max};
 ghost use Rattle.ls_lexer.specs.Lexemes.{Named, Reserved, lexemes};
 ghost use Rattle.ls_lexer.specs.declared.word.Word.TheVariants as words;
 ghost use Rattle.ls_lexer.specs.declared.sign.Sign.TheVariants as signs;
@@ -11,11 +12,17 @@ ghost use Rattle.ls_tree.specs.PlacedTrees as placed_trees;
 ghost use Rattle.ls_tree.specs.PlacedStatements.{placed_type, placed_declarator, placed_declaration};
 ghost use Rattle.ls_parser_spelling.specs.Spelling.{spell_modifier};
 ghost use Rattle.ls_parser_spelling.specs.Places.{Spot, spot, spots};
-ghost use Rattle.ls_parser_spelling.specs.StatementPlaces.{word, ManyAt, BehindComma, ModifierAt, TypeAt, DeclaratorAt, DeclaratorsAt, DeclarationAt};
-ghost use Rattle.ls_parser_tokens.specs.Answers.{Gives, Finds};
+ghost use Rattle.ls_parser_spelling.specs.StatementPlaces.{word, ManyAt, BehindComma, ModifierAt, TypeAt};
+ghost use Rattle.ls_parser_spelling.specs.StatementPlaces.{DeclaratorAt, DeclaratorsAt, DeclarationAt};
+ghost use Rattle.ls_parser_tokens.specs.Answers.{ReadsAs, Finds};
 ghost use Rattle.ls_parser_tokens.specs.Reading.{one_more, behind_comma, many_at, not_yet};
 ghost use Rattle.ls_parser_expressions.specs.ReadingExpressions.{expression_at};
-ghost use Rattle.ls_parser_declarations.specs.ReadingDeclarations.{modifier_of_word, modifier_word_at, starts_modifier, modifier_at, modifiers_at, boolean_at, named_type_at, type_at, declarator_at, more_declarators_at, declarator_list_at, declarators_at, declaration_at, starts_type, named_declaration, starts_declaration};
+ghost use Rattle.ls_parser_declarations.specs.ReadingDeclarations.{modifier_of_word, modifier_word_at};
+ghost use Rattle.ls_parser_declarations.specs.ReadingDeclarations.{starts_modifier, modifier_at, modifiers_at};
+ghost use Rattle.ls_parser_declarations.specs.ReadingDeclarations.{boolean_at, named_type_at, type_at, declarator_at};
+ghost use Rattle.ls_parser_declarations.specs.ReadingDeclarations.{more_declarators_at, declarator_list_at};
+ghost use Rattle.ls_parser_declarations.specs.ReadingDeclarations.{declarators_at, declaration_at, starts_type};
+ghost use Rattle.ls_parser_declarations.specs.ReadingDeclarations.{named_declaration, starts_declaration};
 
 use ls_lexer::fault::TextFault;
 use ls_lexer::sign::Sign;
@@ -27,7 +34,7 @@ use ls_parser_tokens::tokens::{
     Context, NamePart, Part, Read, closed_part, expect, expect_word, make_name, name, name_part,
     push, sign_part, span_to, starts_with, word_part,
 };
-use ls_tree::tree::{Declaration, Declarator, Expr, Modifier, Name, Type};
+use ls_tree::tree::{Declaration, Declarator, Expression, Modifier, Name, Type};
 
 fn modifier_word(word: Word) -> Option<Modifier>
     ensures read { option_map bare_modifier result ≡ modifier_of_word word }
@@ -45,7 +52,8 @@ fn modifier_word(word: Word) -> Option<Modifier>
 
 #[tactic(auto, using(crate::proofs::Places::modifier_is))]
 fn modifier_part<'t, 'a>(tokens: &'t [Token<'a>]) -> Option<Read<'t, 'a, Modifier>>
-    ensures read { Finds (λ m. (bare_modifier m.tree, lexemes m.rest.now)) result (modifier_word_at (lexemes tokens.now)) }
+    ensures read { Finds (λ m. (bare_modifier m.tree, lexemes m.rest.now)) result
+        (modifier_word_at (lexemes tokens.now)) }
     ensures places { IfSome result (λ m. ModifierAt (bare_modifier m.tree) (spots tokens.now) (spots m.rest.now)) }
 {
     match tokens {
@@ -72,7 +80,7 @@ fn modifier<'t, 'a>(
     context: Context,
     tokens: &'t [Token<'a>],
 ) -> Result<Read<'t, 'a, Modifier>, TextFault>
-    ensures read { Gives (λ m. (bare_modifier m.tree, lexemes m.rest.now)) result (modifier_at (lexemes tokens.now)) }
+    ensures read { ReadsAs (λ m. (bare_modifier m.tree, lexemes m.rest.now)) result (modifier_at (lexemes tokens.now)) }
     ensures places { IfOk result (λ m. ModifierAt (bare_modifier m.tree) (spots tokens.now) (spots m.rest.now)) }
 {
     if let Some(found) = modifier_part(tokens) {
@@ -92,8 +100,10 @@ pub fn modifiers<'t, 'a>(
     context: Context,
     tokens: &'t [Token<'a>],
 ) -> Result<Read<'t, 'a, Vec<Modifier>>, TextFault>
-    ensures read { Gives (λ m. (map bare_modifier m.tree.items, lexemes m.rest.now)) result (modifiers_at (lexemes tokens.now)) }
-    ensures places { IfOk result (λ m. ManyAt ModifierAt (map bare_modifier m.tree.items) (spots tokens.now) (spots m.rest.now)) }
+    ensures read { ReadsAs (λ m. (map bare_modifier m.tree.items, lexemes m.rest.now)) result
+        (modifiers_at (lexemes tokens.now)) }
+    ensures places { IfOk result
+        (λ m. ManyAt ModifierAt (map bare_modifier m.tree.items) (spots tokens.now) (spots m.rest.now)) }
 {
     let mut all = Read {
         tree: Vec::new(context.alloc),
@@ -110,8 +120,11 @@ fn one_modifier<'t, 'a>(
     context: Context,
     before: Read<'t, 'a, Vec<Modifier>>,
 ) -> Result<Read<'t, 'a, Vec<Modifier>>, TextFault>
-    ensures read { Gives (λ m. (map bare_modifier m.tree.items, lexemes m.rest.now)) result (one_more modifier_at (map bare_modifier before.entry.tree.items) (lexemes before.entry.rest.now)) }
-    ensures places { IfOk result (λ m. (ss : List Spot) → ManyAt ModifierAt (map bare_modifier before.entry.tree.items) ss (spots before.entry.rest.now) → ManyAt ModifierAt (map bare_modifier m.tree.items) ss (spots m.rest.now)) }
+    ensures read { ReadsAs (λ m. (map bare_modifier m.tree.items, lexemes m.rest.now)) result
+        (one_more modifier_at (map bare_modifier before.entry.tree.items) (lexemes before.entry.rest.now)) }
+    ensures places { IfOk result (λ m. (ss : List Spot) →
+        ManyAt ModifierAt (map bare_modifier before.entry.tree.items) ss (spots before.entry.rest.now) →
+        ManyAt ModifierAt (map bare_modifier m.tree.items) ss (spots m.rest.now)) }
 {
     let found = modifier(context, before.rest)?;
     Ok(Read {
@@ -126,8 +139,9 @@ fn boolean_type<'t, 'a>(
     context: Context,
     tokens: &'t [Token<'a>],
 ) -> Result<Read<'t, 'a, Type>, TextFault>
-    ensures read { Gives (λ t. (bare_type t.tree, lexemes t.rest.now)) result (boolean_at (lexemes tokens.now)) }
-    ensures places { IfOk result (λ t. (s : Span) → TypeAt (placed_type t.tree) (word words.Boolean s ∷ spots tokens.now) (spots t.rest.now)) }
+    ensures read { ReadsAs (λ t. (bare_type t.tree, lexemes t.rest.now)) result (boolean_at (lexemes tokens.now)) }
+    ensures places { IfOk result (λ t. (s : Span) →
+        TypeAt (placed_type t.tree) (word words.Boolean s ∷ spots tokens.now) (spots t.rest.now)) }
 {
     match sign_part(tokens, Sign::OpenBracket) {
         Some(open) => Ok(Read {
@@ -147,8 +161,11 @@ fn named_type<'t, 'a>(
     context: Context,
     found: NamePart<'t, 'a>,
 ) -> Result<Read<'t, 'a, Type>, TextFault>
-    ensures read { Gives (λ t. (bare_type t.tree, lexemes t.rest.now)) result (named_type_at found.entry.text.now (lexemes found.entry.rest.now)) }
-    ensures places { IfOk result (λ t. TypeAt (placed_type t.tree) (spot (Named found.entry.text.now) found.entry.span ∷ spots found.entry.rest.now) (spots t.rest.now)) }
+    ensures read { ReadsAs (λ t. (bare_type t.tree, lexemes t.rest.now)) result
+        (named_type_at found.entry.text.now (lexemes found.entry.rest.now)) }
+    ensures places { IfOk result
+        (λ t. TypeAt (placed_type t.tree) (spot (Named found.entry.text.now) found.entry.span ∷
+        spots found.entry.rest.now) (spots t.rest.now)) }
 {
     if is_markable(found.text) && starts_with(found.rest, Sign::Less) {
         let name = class_name(context, found.rest)?;
@@ -171,7 +188,7 @@ pub fn type_name<'t, 'a>(
     context: Context,
     tokens: &'t [Token<'a>],
 ) -> Result<Read<'t, 'a, Type>, TextFault>
-    ensures read { Gives (λ t. (bare_type t.tree, lexemes t.rest.now)) result (type_at (lexemes tokens.now)) }
+    ensures read { ReadsAs (λ t. (bare_type t.tree, lexemes t.rest.now)) result (type_at (lexemes tokens.now)) }
     ensures places { IfOk result (λ t. TypeAt (placed_type t.tree) (spots tokens.now) (spots t.rest.now)) }
 {
     if let Some(found) = name_part(tokens) {
@@ -193,9 +210,11 @@ fn declarator<'t, 'a>(
     tokens: &'t [Token<'a>],
     limit: usize,
 ) -> Result<Part<'t, 'a, Declarator>, TextFault>
-    ensures read { Gives (λ d. (bare_declarator d.tree, lexemes d.rest.now)) result (declarator_at (expression_at limit) (lexemes tokens.now)) }
+    ensures read { ReadsAs (λ d. (bare_declarator d.tree, lexemes d.rest.now)) result
+        (declarator_at (expression_at limit) (lexemes tokens.now)) }
     ensures places { IfOk result (λ d. DeclaratorAt (placed_declarator d.tree) (spots tokens.now) (spots d.rest.now)) }
-    ensures height { IfOk result (λ d. (d.height ≡ value_height ((bare_declarator d.tree).value)) × (d.height ≤ limit)) }
+    ensures height { IfOk result (λ d. (d.height ≡ value_height ((bare_declarator d.tree).value)) ×
+        (d.height ≤ limit)) }
 {
     let name = name(context, tokens)?;
     match sign_part(name.rest, Sign::Assign) {
@@ -227,9 +246,13 @@ fn more_declarators<'t, 'a>(
     tokens: &'t [Token<'a>],
     limit: usize,
 ) -> Result<Part<'t, 'a, Vec<Declarator>>, TextFault>
-    ensures read { Gives (λ d. (map bare_declarator d.tree.items, lexemes d.rest.now)) result (many_at (not_yet signs.Semicolon) (behind_comma (declarator_at (expression_at limit))) (lexemes tokens.now)) }
-    ensures places { IfOk result (λ d. ManyAt (BehindComma DeclaratorAt) (map placed_declarator d.tree.items) (spots tokens.now) (spots d.rest.now)) }
-    ensures height { IfOk result (λ d. (d.height ≡ declarators_height (map bare_declarator d.tree.items)) × (d.height ≤ limit)) }
+    ensures read { ReadsAs (λ d. (map bare_declarator d.tree.items, lexemes d.rest.now)) result
+        (many_at (not_yet signs.Semicolon) (behind_comma (declarator_at (expression_at limit))) (lexemes tokens.now)) }
+    ensures places { IfOk result
+        (λ d. ManyAt (BehindComma DeclaratorAt) (map placed_declarator d.tree.items) (spots tokens.now)
+        (spots d.rest.now)) }
+    ensures height { IfOk result (λ d. (d.height ≡ declarators_height (map bare_declarator d.tree.items)) ×
+        (d.height ≤ limit)) }
 {
     let mut all = Part {
         tree: Vec::new(context.alloc),
@@ -248,10 +271,17 @@ fn one_declarator<'t, 'a>(
     before: Part<'t, 'a, Vec<Declarator>>,
     limit: usize,
 ) -> Result<Part<'t, 'a, Vec<Declarator>>, TextFault>
-    requires height { (before.height ≡ declarators_height (map bare_declarator before.tree.items)) × (before.height ≤ limit) }
-    ensures read { Gives (λ d. (map bare_declarator d.tree.items, lexemes d.rest.now)) result (one_more (behind_comma (declarator_at (expression_at limit))) (map bare_declarator before.entry.tree.items) (lexemes before.entry.rest.now)) }
-    ensures places { IfOk result (λ d. (ss : List Spot) → ManyAt (BehindComma DeclaratorAt) (map placed_declarator before.entry.tree.items) ss (spots before.entry.rest.now) → ManyAt (BehindComma DeclaratorAt) (map placed_declarator d.tree.items) ss (spots d.rest.now)) }
-    ensures height { IfOk result (λ d. (d.height ≡ declarators_height (map bare_declarator d.tree.items)) × (d.height ≤ limit)) }
+    requires height { (before.height ≡ declarators_height (map bare_declarator before.tree.items)) ×
+        (before.height ≤ limit) }
+    ensures read { ReadsAs (λ d. (map bare_declarator d.tree.items, lexemes d.rest.now)) result
+        (one_more (behind_comma (declarator_at (expression_at limit))) (map bare_declarator before.entry.tree.items)
+        (lexemes before.entry.rest.now)) }
+    ensures places { IfOk result (λ d. (ss : List Spot) →
+        ManyAt (BehindComma DeclaratorAt) (map placed_declarator before.entry.tree.items) ss
+        (spots before.entry.rest.now) →
+        ManyAt (BehindComma DeclaratorAt) (map placed_declarator d.tree.items) ss (spots d.rest.now)) }
+    ensures height { IfOk result (λ d. (d.height ≡ declarators_height (map bare_declarator d.tree.items)) ×
+        (d.height ≤ limit)) }
 {
     let comma = expect(context, before.rest, Sign::Comma)?;
     let found = declarator(context, comma.rest, limit)?;
@@ -271,10 +301,15 @@ fn with_declarators<'t, 'a, T: Drop>(
     limit: usize,
 ) -> Result<Part<'t, 'a, (T, Vec<Declarator>)>, TextFault>
     requires { held.height ≤ limit }
-    ensures read { Gives (λ d. (map bare_declarator d.tree.1.items, lexemes d.rest.now)) result (more_declarators_at (expression_at limit) (lexemes held.entry.rest.now)) }
-    ensures places { IfOk result (λ d. (first : placed_trees.Declarator) (ss : List Spot) → DeclaratorAt first ss (spots held.entry.rest.now) → DeclaratorsAt first (map placed_declarator d.tree.1.items) ss (spots d.rest.now)) }
+    ensures read { ReadsAs (λ d. (map bare_declarator d.tree.1.items, lexemes d.rest.now)) result
+        (more_declarators_at (expression_at limit) (lexemes held.entry.rest.now)) }
+    ensures places { IfOk result (λ d. (first : placed_trees.Declarator) (ss : List Spot) →
+        DeclaratorAt first ss (spots held.entry.rest.now) →
+        DeclaratorsAt first (map placed_declarator d.tree.1.items) ss (spots d.rest.now)) }
     ensures held { IfOk result (λ d. d.tree.0 ≡ held.entry.tree) }
-    ensures height { IfOk result (λ d. (d.height ≡ max held.entry.height (declarators_height (map bare_declarator d.tree.1.items))) × (d.height ≤ limit)) }
+    ensures height { IfOk result
+        (λ d. (d.height ≡ max held.entry.height (declarators_height (map bare_declarator d.tree.1.items))) ×
+        (d.height ≤ limit)) }
 {
     let more = more_declarators(context, held.rest, limit)?;
     let more = closed_part(context, more, Sign::Semicolon)?;
@@ -291,9 +326,14 @@ fn declarator_list<'t, 'a>(
     tokens: &'t [Token<'a>],
     limit: usize,
 ) -> Result<Part<'t, 'a, (Declarator, Vec<Declarator>)>, TextFault>
-    ensures read { Gives (λ d. ((bare_declarator d.tree.0, map bare_declarator d.tree.1.items), lexemes d.rest.now)) result (declarator_list_at (expression_at limit) (lexemes tokens.now)) }
-    ensures places { IfOk result (λ d. DeclaratorsAt (placed_declarator d.tree.0) (map placed_declarator d.tree.1.items) (spots tokens.now) (spots d.rest.now)) }
-    ensures height { IfOk result (λ d. (d.height ≡ max (value_height ((bare_declarator d.tree.0).value)) (declarators_height (map bare_declarator d.tree.1.items))) × (d.height ≤ limit)) }
+    ensures read { ReadsAs (λ d. ((bare_declarator d.tree.0, map bare_declarator d.tree.1.items), lexemes d.rest.now))
+        result (declarator_list_at (expression_at limit) (lexemes tokens.now)) }
+    ensures places { IfOk result (λ d. DeclaratorsAt (placed_declarator d.tree.0) (map placed_declarator d.tree.1.items)
+        (spots tokens.now) (spots d.rest.now)) }
+    ensures height { IfOk result
+        (λ d. (d.height ≡
+        max (value_height ((bare_declarator d.tree.0).value)) (declarators_height (map bare_declarator d.tree.1.items)))
+        × (d.height ≤ limit)) }
 {
     let first = declarator(context, tokens, limit)?;
     with_declarators(context, first, limit)
@@ -310,9 +350,16 @@ pub fn declarators<'t, 'a>(
     tokens: &'t [Token<'a>],
     limit: usize,
 ) -> Result<Part<'t, 'a, Declaration>, TextFault>
-    ensures read { Gives (λ d. (bare_declaration d.tree, lexemes d.rest.now)) result (declarators_at (expression_at limit) (map bare_modifier modifiers.items) (bare_type type_name) (lexemes tokens.now)) }
-    ensures places { IfOk result (λ d. (ms : List trees.Modifier) (ss middle : List Spot) → ManyAt ModifierAt ms ss middle → TypeAt (placed_type type_name) middle (spots tokens.now) → DeclarationAt (placed_declaration d.tree) ss (spots d.rest.now)) }
-    ensures height { IfOk result (λ d. (d.height ≡ max (value_height ((bare_declaration d.tree).first.value)) (declarators_height ((bare_declaration d.tree).more))) × (d.height ≤ limit)) }
+    ensures read { ReadsAs (λ d. (bare_declaration d.tree, lexemes d.rest.now)) result
+        (declarators_at (expression_at limit) (map bare_modifier modifiers.items) (bare_type type_name)
+        (lexemes tokens.now)) }
+    ensures places { IfOk result (λ d. (ms : List trees.Modifier) (ss middle : List Spot) →
+        ManyAt ModifierAt ms ss middle → TypeAt (placed_type type_name) middle (spots tokens.now) →
+        DeclarationAt (placed_declaration d.tree) ss (spots d.rest.now)) }
+    ensures height { IfOk result
+        (λ d. (d.height ≡
+        max (value_height ((bare_declaration d.tree).first.value))
+        (declarators_height ((bare_declaration d.tree).more))) × (d.height ≤ limit)) }
 {
     let list = declarator_list(context, tokens, limit)?;
     Ok(Part {
@@ -335,9 +382,14 @@ pub fn declaration<'t, 'a>(
     tokens: &'t [Token<'a>],
     limit: usize,
 ) -> Result<Part<'t, 'a, Declaration>, TextFault>
-    ensures read { Gives (λ d. (bare_declaration d.tree, lexemes d.rest.now)) result (declaration_at (expression_at limit) (lexemes tokens.now)) }
-    ensures places { IfOk result (λ d. DeclarationAt (placed_declaration d.tree) (spots tokens.now) (spots d.rest.now)) }
-    ensures height { IfOk result (λ d. (d.height ≡ max (value_height ((bare_declaration d.tree).first.value)) (declarators_height ((bare_declaration d.tree).more))) × (d.height ≤ limit)) }
+    ensures read { ReadsAs (λ d. (bare_declaration d.tree, lexemes d.rest.now)) result
+        (declaration_at (expression_at limit) (lexemes tokens.now)) }
+    ensures places { IfOk result
+        (λ d. DeclarationAt (placed_declaration d.tree) (spots tokens.now) (spots d.rest.now)) }
+    ensures height { IfOk result
+        (λ d. (d.height ≡
+        max (value_height ((bare_declaration d.tree).first.value))
+        (declarators_height ((bare_declaration d.tree).more))) × (d.height ≤ limit)) }
 {
     let modifiers = modifiers(context, tokens)?;
     let type_name = type_name(context, modifiers.rest)?;

@@ -1,6 +1,6 @@
 -- Lists in trees.
 use Rattle.std.proofs.Common.{◌≡◌, max, List, [], ◌∷◌, ◌++◌, refl, ap, arith, map}
-use Rattle.ls_tree.specs.declared.tree.Expr.{Expr}
+use Rattle.ls_tree.specs.declared.tree.Expression.{Expression as Tree}
 use Rattle.ls_tree.specs.Trees as trees
 use Rattle.ls_tree.specs.Trees.{Text, Expression, Expressions, MoreExpressions, listed}
 use Rattle.ls_tree.specs.WellFormed.{expression_height, expressions_height, value_height, declarators_height}
@@ -12,11 +12,14 @@ map_push f [] x = refl
 map_push {B = B} f (y ∷ ys) x = ap (λ (l : List B). f y ∷ l) (map_push f ys x)
 
 -- the height of one expression more
-pub expressions_height_push : (es : List Expr) (e : Expr) → expressions_height (expressions_of (es ++ e ∷ [])) ≡ max (expressions_height (expressions_of es)) (expression_height (bare e))
+pub expressions_height_push : (es : List Tree) (e : Tree) →
+    expressions_height (expressions_of (es ++ e ∷ [])) ≡
+    max (expressions_height (expressions_of es)) (expression_height (bare e))
 expressions_height_push [] e = omega arith
 expressions_height_push (x ∷ es) e = omega (arith, expressions_height_push es e)
 
 -- the height of one declarator more
-pub declarators_height_push : (ds : List trees.Declarator) (d : trees.Declarator) → declarators_height (ds ++ d ∷ []) ≡ max (declarators_height ds) (value_height d.value)
+pub declarators_height_push : (ds : List trees.Declarator) (d : trees.Declarator) →
+    declarators_height (ds ++ d ∷ []) ≡ max (declarators_height ds) (value_height d.value)
 declarators_height_push [] d = omega arith
 declarators_height_push (x ∷ ds) d = omega (arith, declarators_height_push ds d)

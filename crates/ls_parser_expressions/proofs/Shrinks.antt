@@ -12,7 +12,11 @@ abbrev pub Shrinks : {A : Type 0} → Reader A → Type 0
 Shrinks {A} item = (ks : List Lexeme) (x : A × List Lexeme) → item ks ≡ Some x → length x.1 < length ks
 
 -- one thing more takes a token
-pub one_more_shrinks : {A : Type 0} (item : Reader A) → Shrinks item → (front all : List A) (ks rest : List Lexeme) → one_more item front ks ≡ Some (all, rest) → length rest < length ks
+pub one_more_shrinks : {A : Type 0} (item : Reader A) →
+    Shrinks item →
+    (front all : List A) (ks rest : List Lexeme) →
+    one_more item front ks ≡ Some (all, rest) →
+    length rest < length ks
 one_more_shrinks item shrinks front all ks rest e =
     let b = bind_some (item ks) (λ x. Some (front ++ x.0 ∷ [], x.1)) (all, rest) e in
     let is = some_is (front ++ b.0.0 ∷ [], b.0.1) (all, rest) b.2 in

@@ -26,12 +26,16 @@ both_true true b h = (refl, h)
 both_true false b h = absurd cc
 
 -- two ways
-pub either : {A : Type 0} (b : Bool) (o p : A) (y : A) → cond b o p ≡ y → ((b ≡ true) × (o ≡ y)) ⊎ ((b ≡ false) × (p ≡ y))
+pub either : {A : Type 0} (b : Bool) (o p : A) (y : A) →
+    cond b o p ≡ y →
+    ((b ≡ true) × (o ≡ y)) ⊎ ((b ≡ false) × (p ≡ y))
 either true o p y e = inl (refl, e)
 either false o p y e = inr (refl, e)
 
 -- a value is there, or none is
-pub given_cases : {A B : Type 0} (o : Option A) (go : A → B) (other y : B) → given o go other ≡ y → ((o ≡ None) × (other ≡ y)) ⊎ ((x : A) × (o ≡ Some x) × (go x ≡ y))
+pub given_cases : {A B : Type 0} (o : Option A) (go : A → B) (other y : B) →
+    given o go other ≡ y →
+    ((o ≡ None) × (other ≡ y)) ⊎ ((x : A) × (o ≡ Some x) × (go x ≡ y))
 given_cases None go other y e = inl (refl, e)
 given_cases (Some x) go other y e = inr (x, refl, e)
 
@@ -46,7 +50,9 @@ sign_reads wanted (Marked sign ∷ ks) rest e =
     (λ i. Marked (same_true sign_type tt sign wanted g.0 i) ∷ g.1 i)
 
 -- if a word is read, it is the first token
-pub word_reads : (wanted : Word) (ks rest : List Lexeme) → after_word wanted ks ≡ Some rest → ks ≡ Reserved wanted ∷ rest
+pub word_reads : (wanted : Word) (ks rest : List Lexeme) →
+    after_word wanted ks ≡ Some rest →
+    ks ≡ Reserved wanted ∷ rest
 word_reads wanted [] rest e = absurd cc
 word_reads wanted (Named text ∷ ks) rest e = absurd cc
 word_reads wanted (Numeral text ∷ ks) rest e = absurd cc

@@ -1,5 +1,6 @@
 -- Reading of expressions.
-use Rattle.std.specs.Prelude.{ℕ, zero, suc, ◌+◌, nat_le, ◌==◌, Bool, false, not, ◌&&◌, ◌||◌, List, [], ◌∷◌, Option, Some, None, is_some, if◌then◌else◌, codes}
+use Rattle.std.specs.Prelude.{ℕ, zero, suc, ◌+◌, nat_le, ◌==◌, Bool, false, not, ◌&&◌, ◌||◌, List, [], ◌∷◌, Option}
+use Rattle.std.specs.Prelude.{Some, None, is_some, if◌then◌else◌, codes}
 use Rattle.std.specs.Str.{bytes_eq}
 use Rattle.ls_lexer.specs.declared.word.Word.{Word}
 use Rattle.ls_lexer.specs.declared.word.Word.TheVariants as words
@@ -10,9 +11,11 @@ use Rattle.ls_tree.specs.declared.tree.UnaryOp.{UnaryOp}
 use Rattle.ls_tree.specs.declared.tree.UnaryOp.TheVariants as unary
 use Rattle.ls_tree.specs.declared.tree.BinaryOp.{BinaryOp}
 use Rattle.ls_tree.specs.declared.tree.BinaryOp.TheVariants as binary
-use Rattle.ls_tree.specs.Trees.{Text, Expression, Number, True, False, Null, This, Name, Paren, Unary, Binary, Field, Call, CallOn, Item, New, NewMarkable, NewArray, Expressions, listed}
+use Rattle.ls_tree.specs.Trees.{Text, Expression, Number, True, False, Null, This, Name, Paren, Unary, Binary, Field}
+use Rattle.ls_tree.specs.Trees.{Call, CallOn, Item, New, NewMarkable, NewArray, Expressions, listed}
 use Rattle.ls_tree.specs.WellFormed.{rank_of, expression_height, is_new_array, is_minus}
-use Rattle.ls_parser_tokens.specs.Reading.{◌>>=◌, Reader, given, after_sign, after_word, name_at, starts, repeat, group_at}
+use Rattle.ls_parser_tokens.specs.Reading.{◌>>=◌, Reader, given, after_sign, after_word, name_at, starts, repeat}
+use Rattle.ls_parser_tokens.specs.Reading.{group_at}
 
 abbrev pub operator_of_sign : Sign → Option BinaryOp
 operator_of_sign signs.Or = Some binary.Or
@@ -91,7 +94,8 @@ item_at whole left ks =
 
 abbrev pub suffix_at : ℕ → Reader Expression → Expression → Reader Expression
 suffix_at limit whole left ks =
-    if below limit left then given (after_sign signs.Dot ks) (λ rest. member_at whole left rest) (item_at whole left ks) else None
+    if below limit left then given (after_sign signs.Dot ks) (λ rest. member_at whole left rest) (item_at whole left ks)
+    else None
 
 -- ---- primaries
 
@@ -139,7 +143,8 @@ named_at whole text ks =
 
 -- the arguments of a made object, with their parentheses
 abbrev pub made_at : Reader Expression → (Expressions → Expression) → Reader Expression
-made_at whole make ks = after_sign signs.OpenParen ks >>= λ rest. arguments_at whole rest >>= λ ts. Some (make ts.0, ts.1)
+made_at whole make ks =
+    after_sign signs.OpenParen ks >>= λ rest. arguments_at whole rest >>= λ ts. Some (make ts.0, ts.1)
 
 abbrev pub markable_name : Text
 markable_name = codes "AtomicMarkableReference"

@@ -10,8 +10,10 @@ ghost use Rattle.ls_tree.specs.Views.{bare};
 ghost use Rattle.ls_tree.specs.Placed.{placed};
 ghost use Rattle.ls_parser_spelling.specs.Spelling.{sign_of_unary};
 ghost use Rattle.ls_parser_spelling.specs.Places.{Spot, spot, sign, spots, At, OperandAt};
-ghost use Rattle.ls_parser_tokens.specs.Answers.{Gives};
-ghost use Rattle.ls_parser_expressions.specs.ReadingExpressions.{joined_at, binary_at, signed_at, unary_at, expression_at, post_at, primary_at, named_at, object_at, new_at, paren_at};
+ghost use Rattle.ls_parser_tokens.specs.Answers.{ReadsAs};
+ghost use Rattle.ls_parser_expressions.specs.ReadingExpressions.{joined_at, binary_at, signed_at, unary_at};
+ghost use Rattle.ls_parser_expressions.specs.ReadingExpressions.{expression_at, post_at, primary_at, named_at};
+ghost use Rattle.ls_parser_expressions.specs.ReadingExpressions.{object_at, new_at, paren_at};
 
 use crate::operators::{has_operator, join, operator_part, unary_op};
 use crate::primaries::{
@@ -26,7 +28,7 @@ use ls_parser_tokens::tokens::{
     Context, NamePart, Part, boxed_part, closed_part, expect, expect_word, make_name, name_part,
     sign_part, starts_with, syntax, too_deep, upto,
 };
-use ls_tree::tree::{BinaryOp, Expr, UnaryOp};
+use ls_tree::tree::{BinaryOp, Expression, UnaryOp};
 
 /// A chain of operators of each rank in turn, from the rank that binds most tightly. What is read of one rank is the
 /// first operand of the next.
@@ -37,9 +39,10 @@ pub fn binary<'t, 'a>(
     tokens: &'t [Token<'a>],
     wanted: usize,
     limit: usize,
-) -> Result<Part<'t, 'a, Expr>, TextFault>
+) -> Result<Part<'t, 'a, Expression>, TextFault>
     requires { wanted ≤ 6 }
-    ensures read { Gives (λ p. (bare p.tree, lexemes p.rest.now)) result (binary_at wanted limit (unary_at limit false) (lexemes tokens.now)) }
+    ensures read { ReadsAs (λ p. (bare p.tree, lexemes p.rest.now)) result
+        (binary_at wanted limit (unary_at limit false) (lexemes tokens.now)) }
     ensures places { IfOk result (λ p. At (placed p.tree) (spots tokens.now) (spots p.rest.now)) }
     ensures height { IfOk result (λ p. (p.height ≡ expression_height (bare p.tree)) × (p.height ≤ limit)) }
 {
@@ -60,15 +63,19 @@ pub fn binary<'t, 'a>(
 #[tactic(auto, using(crate::proofs::Places::binary_is))]
 fn joined<'t, 'a>(
     context: Context,
-    left: Part<'t, 'a, Expr>,
+    left: Part<'t, 'a, Expression>,
     wanted: usize,
     limit: usize,
-) -> Result<Part<'t, 'a, Expr>, TextFault>
+) -> Result<Part<'t, 'a, Expression>, TextFault>
     requires rank { (0 < wanted) × (wanted ≤ 6) }
     requires height { left.height ≡ expression_height (bare left.tree) }
-    ensures read { Gives (λ p. (bare p.tree, lexemes p.rest.now)) result (joined_at wanted limit (binary_at (wanted - 1) limit (unary_at limit false)) (bare left.entry.tree) (lexemes left.entry.rest.now)) }
-    ensures places { IfOk result (λ p. (ss : List Spot) → At (placed left.entry.tree) ss (spots left.entry.rest.now) → At (placed p.tree) ss (spots p.rest.now)) }
-    ensures height { IfOk result (λ p. (p.height ≡ expression_height (bare p.tree)) × (p.height ≤ limit) × (left.entry.height < p.height)) }
+    ensures read { ReadsAs (λ p. (bare p.tree, lexemes p.rest.now)) result
+        (joined_at wanted limit (binary_at (wanted - 1) limit (unary_at limit false)) (bare left.entry.tree)
+        (lexemes left.entry.rest.now)) }
+    ensures places { IfOk result (λ p. (ss : List Spot) → At (placed left.entry.tree) ss (spots left.entry.rest.now) →
+        At (placed p.tree) ss (spots p.rest.now)) }
+    ensures height { IfOk result (λ p. (p.height ≡ expression_height (bare p.tree)) × (p.height ≤ limit) ×
+        (left.entry.height < p.height)) }
 {
     let right = operand(context, &left, wanted, limit)?;
     let (op, operand) = right.tree;
@@ -84,15 +91,19 @@ fn joined<'t, 'a>(
 #[tactic(auto, using(crate::proofs::Chains::joined_is, crate::proofs::Chains::left_too_high, crate::proofs::Chains::right_too_high, crate::proofs::Places::operand_is))]
 fn operand<'t, 'a>(
     context: Context,
-    left: &Part<'t, 'a, Expr>,
+    left: &Part<'t, 'a, Expression>,
     wanted: usize,
     limit: usize,
-) -> Result<Part<'t, 'a, (BinaryOp, Expr)>, TextFault>
+) -> Result<Part<'t, 'a, (BinaryOp, Expression)>, TextFault>
     requires rank { (0 < wanted) × (wanted ≤ 6) }
     requires height { left.now.height ≡ expression_height (bare left.now.tree) }
-    ensures read { Gives (λ p. (Binary p.tree.0 (bare left.now.tree) (bare p.tree.1), lexemes p.rest.now)) result (joined_at wanted limit (binary_at (wanted - 1) limit (unary_at limit false)) (bare left.now.tree) (lexemes left.now.rest.now)) }
-    ensures places { IfOk result (λ p. OperandAt p.tree.0 (placed p.tree.1) (spots left.now.rest.now) (spots p.rest.now)) }
-    ensures height { IfOk result (λ p. (p.height ≡ expression_height (bare p.tree.1)) × (p.height < limit) × (left.now.height < limit)) }
+    ensures read { ReadsAs (λ p. (Binary p.tree.0 (bare left.now.tree) (bare p.tree.1), lexemes p.rest.now)) result
+        (joined_at wanted limit (binary_at (wanted - 1) limit (unary_at limit false)) (bare left.now.tree)
+        (lexemes left.now.rest.now)) }
+    ensures places { IfOk result
+        (λ p. OperandAt p.tree.0 (placed p.tree.1) (spots left.now.rest.now) (spots p.rest.now)) }
+    ensures height { IfOk result (λ p. (p.height ≡ expression_height (bare p.tree.1)) × (p.height < limit) ×
+        (left.now.height < limit)) }
 {
     let Some(operator) = operator_part(left.rest, wanted) else {
         return Err(syntax(context, left.rest));
@@ -118,8 +129,9 @@ fn unary<'t, 'a>(
     tokens: &'t [Token<'a>],
     limit: usize,
     after_minus: bool,
-) -> Result<Part<'t, 'a, Expr>, TextFault>
-    ensures read { Gives (λ p. (bare p.tree, lexemes p.rest.now)) result (unary_at limit after_minus (lexemes tokens.now)) }
+) -> Result<Part<'t, 'a, Expression>, TextFault>
+    ensures read { ReadsAs (λ p. (bare p.tree, lexemes p.rest.now)) result
+        (unary_at limit after_minus (lexemes tokens.now)) }
     ensures places { IfOk result (λ p. At (placed p.tree) (spots tokens.now) (spots p.rest.now)) }
     ensures height { IfOk result (λ p. (p.height ≡ expression_height (bare p.tree)) × (p.height ≤ limit)) }
 {
@@ -144,17 +156,19 @@ fn signed<'t, 'a>(
     limit: usize,
     op: UnaryOp,
     start: Span,
-) -> Result<Part<'t, 'a, Expr>, TextFault>
+) -> Result<Part<'t, 'a, Expression>, TextFault>
     requires { limit + 1 < 2 ^ 64 }
-    ensures read { Gives (λ p. (bare p.tree, lexemes p.rest.now)) result (signed_at op (unary_at limit (is_minus op)) (lexemes tokens.now)) }
-    ensures places { IfOk result (λ p. At (placed p.tree) (sign (sign_of_unary op) start ∷ spots tokens.now) (spots p.rest.now)) }
+    ensures read { ReadsAs (λ p. (bare p.tree, lexemes p.rest.now)) result
+        (signed_at op (unary_at limit (is_minus op)) (lexemes tokens.now)) }
+    ensures places { IfOk result
+        (λ p. At (placed p.tree) (sign (sign_of_unary op) start ∷ spots tokens.now) (spots p.rest.now)) }
     ensures height { IfOk result (λ p. (p.height ≡ expression_height (bare p.tree)) × (p.height ≤ limit + 1)) }
 {
     let operand = unary(context, tokens, limit, matches!(&op, UnaryOp::Minus))?;
     let span = upto(start, operand.tree.span());
     let operand = boxed_part(context.alloc, operand)?;
     Ok(Part {
-        tree: Expr::Unary {
+        tree: Expression::Unary {
             op,
             operand: operand.tree,
             span,
@@ -172,8 +186,9 @@ pub fn post<'t, 'a>(
     tokens: &'t [Token<'a>],
     limit: usize,
     after_minus: bool,
-) -> Result<Part<'t, 'a, Expr>, TextFault>
-    ensures read { Gives (λ p. (bare p.tree, lexemes p.rest.now)) result (post_at limit after_minus (lexemes tokens.now)) }
+) -> Result<Part<'t, 'a, Expression>, TextFault>
+    ensures read { ReadsAs (λ p. (bare p.tree, lexemes p.rest.now)) result
+        (post_at limit after_minus (lexemes tokens.now)) }
     ensures places { IfOk result (λ p. At (placed p.tree) (spots tokens.now) (spots p.rest.now)) }
     ensures height { IfOk result (λ p. (p.height ≡ expression_height (bare p.tree)) × (p.height ≤ limit)) }
 {
@@ -194,9 +209,10 @@ fn primary<'t, 'a>(
     tokens: &'t [Token<'a>],
     limit: usize,
     after_minus: bool,
-) -> Result<Part<'t, 'a, Expr>, TextFault>
+) -> Result<Part<'t, 'a, Expression>, TextFault>
     requires { limit + 1 < 2 ^ 64 }
-    ensures read { Gives (λ p. (bare p.tree, lexemes p.rest.now)) result (primary_at after_minus (expression_at limit) (lexemes tokens.now)) }
+    ensures read { ReadsAs (λ p. (bare p.tree, lexemes p.rest.now)) result
+        (primary_at after_minus (expression_at limit) (lexemes tokens.now)) }
     ensures places { IfOk result (λ p. At (placed p.tree) (spots tokens.now) (spots p.rest.now)) }
     ensures height { IfOk result (λ p. (p.height ≡ expression_height (bare p.tree)) × (p.height ≤ limit + 1)) }
 {
@@ -209,10 +225,10 @@ fn primary<'t, 'a>(
         TokenKind::Number(text) => return number(context, text, span, rest, after_minus),
         TokenKind::Word(Word::New) => return made(context, rest, limit, span),
         TokenKind::Sign(Sign::OpenParen) => return paren(context, rest, limit, span),
-        TokenKind::Word(Word::True) => Expr::True(span),
-        TokenKind::Word(Word::False) => Expr::False(span),
-        TokenKind::Word(Word::Null) => Expr::Null(span),
-        TokenKind::Word(Word::This) => Expr::This(span),
+        TokenKind::Word(Word::True) => Expression::True(span),
+        TokenKind::Word(Word::False) => Expression::False(span),
+        TokenKind::Word(Word::Null) => Expression::Null(span),
+        TokenKind::Word(Word::This) => Expression::This(span),
         _ => return Err(syntax(context, tokens)),
     };
     Ok(Part {
@@ -231,10 +247,12 @@ fn named<'t, 'a>(
     span: Span,
     tokens: &'t [Token<'a>],
     limit: usize,
-) -> Result<Part<'t, 'a, Expr>, TextFault>
+) -> Result<Part<'t, 'a, Expression>, TextFault>
     requires { limit + 1 < 2 ^ 64 }
-    ensures read { Gives (λ p. (bare p.tree, lexemes p.rest.now)) result (named_at (expression_at limit) text.now (lexemes tokens.now)) }
-    ensures places { IfOk result (λ p. At (placed p.tree) (spot (Named text.now) span ∷ spots tokens.now) (spots p.rest.now)) }
+    ensures read { ReadsAs (λ p. (bare p.tree, lexemes p.rest.now)) result
+        (named_at (expression_at limit) text.now (lexemes tokens.now)) }
+    ensures places { IfOk result
+        (λ p. At (placed p.tree) (spot (Named text.now) span ∷ spots tokens.now) (spots p.rest.now)) }
     ensures height { IfOk result (λ p. (p.height ≡ expression_height (bare p.tree)) × (p.height ≤ limit + 1)) }
 {
     let name = make_name(context, text, span)?;
@@ -249,7 +267,7 @@ fn named<'t, 'a>(
             })
         }
         None => Ok(Part {
-            tree: Expr::Name(name),
+            tree: Expression::Name(name),
             height: 1,
             rest: tokens,
         }),
@@ -263,17 +281,19 @@ fn paren<'t, 'a>(
     tokens: &'t [Token<'a>],
     limit: usize,
     start: Span,
-) -> Result<Part<'t, 'a, Expr>, TextFault>
+) -> Result<Part<'t, 'a, Expression>, TextFault>
     requires { limit + 1 < 2 ^ 64 }
-    ensures read { Gives (λ p. (bare p.tree, lexemes p.rest.now)) result (paren_at (expression_at limit) (lexemes tokens.now)) }
-    ensures places { IfOk result (λ p. At (placed p.tree) (sign signs.OpenParen start ∷ spots tokens.now) (spots p.rest.now)) }
+    ensures read { ReadsAs (λ p. (bare p.tree, lexemes p.rest.now)) result
+        (paren_at (expression_at limit) (lexemes tokens.now)) }
+    ensures places { IfOk result
+        (λ p. At (placed p.tree) (sign signs.OpenParen start ∷ spots tokens.now) (spots p.rest.now)) }
     ensures height { IfOk result (λ p. (p.height ≡ expression_height (bare p.tree)) × (p.height ≤ limit + 1)) }
 {
     let inner = binary(context, tokens, 6, limit)?;
     let inner = boxed_part(context.alloc, inner)?;
     let inner = closed_part(context, inner, Sign::CloseParen)?;
     Ok(Part {
-        tree: Expr::Paren {
+        tree: Expression::Paren {
             inner: inner.tree,
             span: upto(start, inner.end),
         },
@@ -290,10 +310,12 @@ fn made<'t, 'a>(
     tokens: &'t [Token<'a>],
     limit: usize,
     start: Span,
-) -> Result<Part<'t, 'a, Expr>, TextFault>
+) -> Result<Part<'t, 'a, Expression>, TextFault>
     requires { limit + 1 < 2 ^ 64 }
-    ensures read { Gives (λ p. (bare p.tree, lexemes p.rest.now)) result (new_at (expression_at limit) (lexemes tokens.now)) }
-    ensures places { IfOk result (λ p. At (placed p.tree) (spot (Reserved words.New) start ∷ spots tokens.now) (spots p.rest.now)) }
+    ensures read { ReadsAs (λ p. (bare p.tree, lexemes p.rest.now)) result
+        (new_at (expression_at limit) (lexemes tokens.now)) }
+    ensures places { IfOk result
+        (λ p. At (placed p.tree) (spot (Reserved words.New) start ∷ spots tokens.now) (spots p.rest.now)) }
     ensures height { IfOk result (λ p. (p.height ≡ expression_height (bare p.tree)) × (p.height ≤ limit + 1)) }
 {
     if let Some(class) = name_part(tokens) {
@@ -302,7 +324,7 @@ fn made<'t, 'a>(
     let word = expect_word(context, tokens, Word::Boolean)?;
     let length = index(context, word.rest, limit)?;
     Ok(Part {
-        tree: Expr::NewArray {
+        tree: Expression::NewArray {
             length: length.tree,
             span: upto(start, length.end),
         },
@@ -319,10 +341,13 @@ fn object<'t, 'a>(
     class: NamePart<'t, 'a>,
     limit: usize,
     start: Span,
-) -> Result<Part<'t, 'a, Expr>, TextFault>
+) -> Result<Part<'t, 'a, Expression>, TextFault>
     requires { limit + 1 < 2 ^ 64 }
-    ensures read { Gives (λ p. (bare p.tree, lexemes p.rest.now)) result (object_at (expression_at limit) class.entry.text.now (lexemes class.entry.rest.now)) }
-    ensures places { IfOk result (λ p. At (placed p.tree) (spot (Reserved words.New) start ∷ spot (Named class.entry.text.now) class.entry.span ∷ spots class.entry.rest.now) (spots p.rest.now)) }
+    ensures read { ReadsAs (λ p. (bare p.tree, lexemes p.rest.now)) result
+        (object_at (expression_at limit) class.entry.text.now (lexemes class.entry.rest.now)) }
+    ensures places { IfOk result
+        (λ p. At (placed p.tree) (spot (Reserved words.New) start ∷ spot (Named class.entry.text.now) class.entry.span ∷
+        spots class.entry.rest.now) (spots p.rest.now)) }
     ensures height { IfOk result (λ p. (p.height ≡ expression_height (bare p.tree)) × (p.height ≤ limit + 1)) }
 {
     if is_markable(class.text) && starts_with(class.rest, Sign::Less) {

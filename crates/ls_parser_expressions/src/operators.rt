@@ -17,7 +17,7 @@ use ls_lexer::sign::Sign;
 use ls_lexer::token::{Span, Token, TokenKind};
 use ls_lexer::word::Word;
 use ls_parser_tokens::tokens::{Context, two_boxed, upto};
-use ls_tree::tree::{BinaryOp, Expr, UnaryOp};
+use ls_tree::tree::{BinaryOp, Expression, UnaryOp};
 use std::alloc::AllocError;
 
 // ---- operators
@@ -126,13 +126,21 @@ pub fn unary_op(kind: TokenKind) -> Option<UnaryOp>
 
 /// A binary operator with its operands. Its span goes from the start of the left one to the end of the right one. The
 /// only refusal is that memory ran out.
-pub fn join(context: Context, op: BinaryOp, left: Expr, right: Expr) -> Result<Expr, AllocError>
+pub fn join(
+    context: Context,
+    op: BinaryOp,
+    left: Expression,
+    right: Expression,
+) -> Result<Expression, AllocError>
     ensures read { IfOk result (λ t. bare t ≡ Binary op (bare left) (bare right)) }
-    ensures placed { IfOk result (λ t. placed t ≡ trees.Binary op (placed left) (placed right) (upto (trees.span_of (placed left)) (trees.span_of (placed right)))) }
+    ensures placed { IfOk result
+        (λ t. placed t ≡
+        trees.Binary op (placed left) (placed right)
+        (upto (trees.span_of (placed left)) (trees.span_of (placed right)))) }
 {
     let span = upto(left.span(), right.span());
     let (left, right) = two_boxed(context.alloc, left, right)?;
-    Ok(Expr::Binary {
+    Ok(Expression::Binary {
         op,
         left,
         right,

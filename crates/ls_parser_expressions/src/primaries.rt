@@ -9,7 +9,7 @@ ghost use Rattle.ls_tree.specs.Placed.{placed, placed_name, placed_target, place
 ghost use Rattle.ls_tree.specs.Trees.{NewArray, New, NewMarkable};
 ghost use Rattle.ls_tree.specs.WellFormed.{expression_height, is_new_array};
 ghost use Rattle.ls_tree.specs.Views.{name_text, bare, bare_target, call_of, expressions_of};
-ghost use Rattle.ls_parser_tokens.specs.Answers.{Gives};
+ghost use Rattle.ls_parser_tokens.specs.Answers.{ReadsAs};
 ghost use Rattle.ls_parser_expressions.specs.ReadingExpressions.{is_markable, has_suffix, number_here, class_at};
 
 use ls_lexer::fault::TextFault;
@@ -18,7 +18,7 @@ use ls_lexer::token::{Span, Token};
 use ls_lexer::word::Word;
 use ls_parser_tokens::tokens::{Context, Part, Read, closed, expect, name, starts_with};
 use ls_tree::numbers::may_stand;
-use ls_tree::tree::{Expr, Name};
+use ls_tree::tree::{Expression, Name};
 use std::alloc::AllocError;
 
 // ---- what comes after a primary
@@ -31,18 +31,24 @@ pub fn has_suffix(tokens: &[Token]) -> bool
 }
 
 /// Whether a tree is the making of an array.
-pub fn is_new_array(tree: &Expr) -> bool
+pub fn is_new_array(tree: &Expression) -> bool
     ensures { result ≡ is_new_array (bare tree.now) }
 {
-    matches!(tree, Expr::NewArray { .. })
+    matches!(tree, Expression::NewArray { .. })
 }
 
 /// A call with its target, or without one.
-pub fn called(target: Option<Box<Expr>>, name: Name, arguments: Vec<Expr>, span: Span) -> Expr
+pub fn called(
+    target: Option<Box<Expression>>,
+    name: Name,
+    arguments: Vec<Expression>,
+    span: Span,
+) -> Expression
     ensures read { bare result ≡ call_of (bare_target target) (name_text name) (expressions_of arguments.items) }
-    ensures placed { placed result ≡ views.call_of (placed_target target) (placed_name name) (placed_all arguments.items) span }
+    ensures placed { placed result ≡
+        views.call_of (placed_target target) (placed_name name) (placed_all arguments.items) span }
 {
-    Expr::Call {
+    Expression::Call {
         target,
         name,
         arguments,
@@ -68,9 +74,11 @@ pub fn number<'t, 'a>(
     span: Span,
     rest: &'t [Token<'a>],
     after_minus: bool,
-) -> Result<Part<'t, 'a, Expr>, TextFault>
-    ensures read { Gives (λ p. (bare p.tree, lexemes p.rest.now)) result (number_here after_minus text.now (lexemes rest.now)) }
-    ensures placed { IfOk result (λ p. At (placed p.tree) (spot (Numeral text.now) span ∷ spots rest.now) (spots p.rest.now)) }
+) -> Result<Part<'t, 'a, Expression>, TextFault>
+    ensures read { ReadsAs (λ p. (bare p.tree, lexemes p.rest.now)) result
+        (number_here after_minus text.now (lexemes rest.now)) }
+    ensures placed { IfOk result
+        (λ p. At (placed p.tree) (spot (Numeral text.now) span ∷ spots rest.now) (spots p.rest.now)) }
     ensures height { IfOk result (λ p. (p.height ≡ expression_height (bare p.tree)) × (p.height ≡ 1)) }
 {
     if !may_stand(after_minus, text) {
@@ -78,7 +86,7 @@ pub fn number<'t, 'a>(
     }
     let text = String::from_str(context.alloc, text)?;
     Ok(Part {
-        tree: Expr::Number { text, span },
+        tree: Expression::Number { text, span },
         height: 1,
         rest,
     })
@@ -90,7 +98,7 @@ pub fn class_name<'t, 'a>(
     context: Context,
     tokens: &'t [Token<'a>],
 ) -> Result<Read<'t, 'a, Name>, TextFault>
-    ensures read { Gives (λ n. (name_text n.tree, lexemes n.rest.now)) result (class_at (lexemes tokens.now)) }
+    ensures read { ReadsAs (λ n. (name_text n.tree, lexemes n.rest.now)) result (class_at (lexemes tokens.now)) }
     ensures placed { IfOk result (λ n. ClassNameAt (placed_name n.tree) (spots tokens.now) (spots n.rest.now)) }
 {
     let open = expect(context, tokens, Sign::Less)?;
@@ -99,11 +107,11 @@ pub fn class_name<'t, 'a>(
 }
 
 /// The making of an object.
-pub fn new_object(class: Name, arguments: Vec<Expr>, span: Span) -> Expr
+pub fn new_object(class: Name, arguments: Vec<Expression>, span: Span) -> Expression
     ensures read { bare result ≡ New (name_text class) (expressions_of arguments.items) }
     ensures placed { placed result ≡ trees.New (placed_name class) (placed_all arguments.items) span }
 {
-    Expr::New {
+    Expression::New {
         class,
         arguments,
         span,
@@ -111,11 +119,11 @@ pub fn new_object(class: Name, arguments: Vec<Expr>, span: Span) -> Expr
 }
 
 /// The making of a markable.
-pub fn new_markable(class: Name, arguments: Vec<Expr>, span: Span) -> Expr
+pub fn new_markable(class: Name, arguments: Vec<Expression>, span: Span) -> Expression
     ensures read { bare result ≡ NewMarkable (name_text class) (expressions_of arguments.items) }
     ensures placed { placed result ≡ trees.NewMarkable (placed_name class) (placed_all arguments.items) span }
 {
-    Expr::NewMarkable {
+    Expression::NewMarkable {
         class,
         arguments,
         span,

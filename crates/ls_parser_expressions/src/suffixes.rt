@@ -7,9 +7,10 @@ ghost use Rattle.ls_tree.specs.WellFormed.{expression_height, expressions_height
 ghost use Rattle.ls_tree.specs.Views.{bare, expressions_of};
 ghost use Rattle.ls_tree.specs.Placed.{placed, placed_all};
 ghost use Rattle.ls_parser_spelling.specs.Places.{Spot, sign, spots, At, IndexAt, ArgumentsAt, SomeAt};
-ghost use Rattle.ls_parser_tokens.specs.Answers.{Gives};
+ghost use Rattle.ls_parser_tokens.specs.Answers.{ReadsAs};
 ghost use Rattle.ls_parser_tokens.specs.Reading.{one_more, behind_comma};
-ghost use Rattle.ls_parser_expressions.specs.ReadingExpressions.{expression_at, suffix_at, member_at, index_at, item_at, arguments_at};
+ghost use Rattle.ls_parser_expressions.specs.ReadingExpressions.{expression_at, suffix_at, member_at, index_at};
+ghost use Rattle.ls_parser_expressions.specs.ReadingExpressions.{item_at, arguments_at};
 
 use crate::expressions::binary;
 use crate::primaries::{called, is_new_array};
@@ -20,21 +21,24 @@ use ls_parser_tokens::tokens::{
     Context, Enclosed, Part, boxed_part, closed_part, expect, name, push, sign_part, starts_with,
     syntax, too_deep, upto,
 };
-use ls_tree::tree::Expr;
+use ls_tree::tree::Expression;
 
 // One suffix. What it belongs to is read already.
 #[cycle(expressions)]
 #[tactic(auto, using(crate::proofs::Posts::suffix_too_high, crate::proofs::Posts::suffix_fits, crate::proofs::Places::dotted))]
 pub(crate) fn suffix<'t, 'a>(
     context: Context,
-    left: Part<'t, 'a, Expr>,
+    left: Part<'t, 'a, Expression>,
     limit: usize,
-) -> Result<Part<'t, 'a, Expr>, TextFault>
+) -> Result<Part<'t, 'a, Expression>, TextFault>
     requires limit { 0 < limit }
     requires height { left.height ≡ expression_height (bare left.tree) }
-    ensures read { Gives (λ p. (bare p.tree, lexemes p.rest.now)) result (suffix_at limit (expression_at (limit - 1)) (bare left.entry.tree) (lexemes left.entry.rest.now)) }
-    ensures places { IfOk result (λ p. (ss : List Spot) → At (placed left.entry.tree) ss (spots left.entry.rest.now) → At (placed p.tree) ss (spots p.rest.now)) }
-    ensures height { IfOk result (λ p. (p.height ≡ expression_height (bare p.tree)) × (p.height ≤ limit) × (left.entry.height < p.height)) }
+    ensures read { ReadsAs (λ p. (bare p.tree, lexemes p.rest.now)) result
+        (suffix_at limit (expression_at (limit - 1)) (bare left.entry.tree) (lexemes left.entry.rest.now)) }
+    ensures places { IfOk result (λ p. (ss : List Spot) → At (placed left.entry.tree) ss (spots left.entry.rest.now) →
+        At (placed p.tree) ss (spots p.rest.now)) }
+    ensures height { IfOk result (λ p. (p.height ≡ expression_height (bare p.tree)) × (p.height ≤ limit) ×
+        (left.entry.height < p.height)) }
 {
     if left.height >= limit {
         return Err(too_deep(context, left.rest));
@@ -51,15 +55,19 @@ pub(crate) fn suffix<'t, 'a>(
 #[tactic(auto, using(crate::proofs::Places::field_is, crate::proofs::Places::call_on_is))]
 fn member<'t, 'a>(
     context: Context,
-    left: Part<'t, 'a, Box<Expr>>,
+    left: Part<'t, 'a, Box<Expression>>,
     tokens: &'t [Token<'a>],
     limit: usize,
-) -> Result<Part<'t, 'a, Expr>, TextFault>
+) -> Result<Part<'t, 'a, Expression>, TextFault>
     requires limit { limit + 1 < 2 ^ 64 }
     requires height { (left.height ≡ expression_height (bare left.tree.value)) × (left.height ≤ limit) }
-    ensures read { Gives (λ p. (bare p.tree, lexemes p.rest.now)) result (member_at (expression_at limit) (bare left.entry.tree.value) (lexemes tokens.now)) }
-    ensures places { IfOk result (λ p. (ss : List Spot) (dot : Span) → At (placed left.entry.tree.value) ss (sign signs.Dot dot ∷ spots tokens.now) → At (placed p.tree) ss (spots p.rest.now)) }
-    ensures height { IfOk result (λ p. (p.height ≡ expression_height (bare p.tree)) × (p.height ≤ limit + 1) × (left.entry.height < p.height)) }
+    ensures read { ReadsAs (λ p. (bare p.tree, lexemes p.rest.now)) result
+        (member_at (expression_at limit) (bare left.entry.tree.value) (lexemes tokens.now)) }
+    ensures places { IfOk result (λ p. (ss : List Spot) (dot : Span) →
+        At (placed left.entry.tree.value) ss (sign signs.Dot dot ∷ spots tokens.now) →
+        At (placed p.tree) ss (spots p.rest.now)) }
+    ensures height { IfOk result (λ p. (p.height ≡ expression_height (bare p.tree)) × (p.height ≤ limit + 1) ×
+        (left.entry.height < p.height)) }
 {
     let name = name(context, tokens)?;
     match sign_part(name.rest, Sign::OpenParen) {
@@ -75,7 +83,7 @@ fn member<'t, 'a>(
         None => {
             let span = upto(left.tree.span(), name.tree.span);
             Ok(Part {
-                tree: Expr::Field {
+                tree: Expression::Field {
                     target: left.tree,
                     name: name.tree,
                     span,
@@ -92,14 +100,17 @@ fn member<'t, 'a>(
 #[tactic(auto, using(crate::proofs::Places::item_is))]
 fn item<'t, 'a>(
     context: Context,
-    left: Part<'t, 'a, Box<Expr>>,
+    left: Part<'t, 'a, Box<Expression>>,
     limit: usize,
-) -> Result<Part<'t, 'a, Expr>, TextFault>
+) -> Result<Part<'t, 'a, Expression>, TextFault>
     requires limit { limit + 1 < 2 ^ 64 }
     requires height { (left.height ≡ expression_height (bare left.tree.value)) × (left.height ≤ limit) }
-    ensures read { Gives (λ p. (bare p.tree, lexemes p.rest.now)) result (item_at (expression_at limit) (bare left.entry.tree.value) (lexemes left.entry.rest.now)) }
-    ensures places { IfOk result (λ p. (ss : List Spot) → At (placed left.entry.tree.value) ss (spots left.entry.rest.now) → At (placed p.tree) ss (spots p.rest.now)) }
-    ensures height { IfOk result (λ p. (p.height ≡ expression_height (bare p.tree)) × (p.height ≤ limit + 1) × (left.entry.height < p.height)) }
+    ensures read { ReadsAs (λ p. (bare p.tree, lexemes p.rest.now)) result
+        (item_at (expression_at limit) (bare left.entry.tree.value) (lexemes left.entry.rest.now)) }
+    ensures places { IfOk result (λ p. (ss : List Spot) →
+        At (placed left.entry.tree.value) ss (spots left.entry.rest.now) → At (placed p.tree) ss (spots p.rest.now)) }
+    ensures height { IfOk result (λ p. (p.height ≡ expression_height (bare p.tree)) × (p.height ≤ limit + 1) ×
+        (left.entry.height < p.height)) }
 {
     if is_new_array(&left.tree) {
         return Err(syntax(context, left.rest));
@@ -107,7 +118,7 @@ fn item<'t, 'a>(
     let index = index(context, left.rest, limit)?;
     let span = upto(left.tree.span(), index.end);
     Ok(Part {
-        tree: Expr::Item {
+        tree: Expression::Item {
             array: left.tree,
             index: index.tree,
             span,
@@ -123,8 +134,9 @@ pub(crate) fn index<'t, 'a>(
     context: Context,
     tokens: &'t [Token<'a>],
     limit: usize,
-) -> Result<Enclosed<'t, 'a, Box<Expr>>, TextFault>
-    ensures read { Gives (λ p. (bare p.tree.value, lexemes p.rest.now)) result (index_at (expression_at limit) (lexemes tokens.now)) }
+) -> Result<Enclosed<'t, 'a, Box<Expression>>, TextFault>
+    ensures read { ReadsAs (λ p. (bare p.tree.value, lexemes p.rest.now)) result
+        (index_at (expression_at limit) (lexemes tokens.now)) }
     ensures places { IfOk result (λ p. IndexAt (placed p.tree.value) p.end (spots tokens.now) (spots p.rest.now)) }
     ensures height { IfOk result (λ p. (p.height ≡ expression_height (bare p.tree.value)) × (p.height ≤ limit)) }
 {
@@ -141,10 +153,13 @@ pub(crate) fn arguments<'t, 'a>(
     context: Context,
     tokens: &'t [Token<'a>],
     limit: usize,
-) -> Result<Enclosed<'t, 'a, Vec<Expr>>, TextFault>
-    ensures read { Gives (λ p. (expressions_of p.tree.items, lexemes p.rest.now)) result (arguments_at (expression_at limit) (lexemes tokens.now)) }
-    ensures places { IfOk result (λ p. ArgumentsAt (placed_all p.tree.items) p.end (spots tokens.now) (spots p.rest.now)) }
-    ensures height { IfOk result (λ p. (p.height ≡ expressions_height (expressions_of p.tree.items)) × (p.height ≤ limit)) }
+) -> Result<Enclosed<'t, 'a, Vec<Expression>>, TextFault>
+    ensures read { ReadsAs (λ p. (expressions_of p.tree.items, lexemes p.rest.now)) result
+        (arguments_at (expression_at limit) (lexemes tokens.now)) }
+    ensures places { IfOk result
+        (λ p. ArgumentsAt (placed_all p.tree.items) p.end (spots tokens.now) (spots p.rest.now)) }
+    ensures height { IfOk result (λ p. (p.height ≡ expressions_height (expressions_of p.tree.items)) ×
+        (p.height ≤ limit)) }
 {
     if let Some(close) = sign_part(tokens, Sign::CloseParen) {
         return Ok(Enclosed {
@@ -172,13 +187,19 @@ pub(crate) fn arguments<'t, 'a>(
 #[tactic(auto, using(crate::proofs::Rows::expressions_height_push, crate::proofs::Rows::map_push, crate::proofs::Places::pushed_is))]
 fn one_argument<'t, 'a>(
     context: Context,
-    before: Part<'t, 'a, Vec<Expr>>,
+    before: Part<'t, 'a, Vec<Expression>>,
     limit: usize,
-) -> Result<Part<'t, 'a, Vec<Expr>>, TextFault>
-    requires height { (before.height ≡ expressions_height (expressions_of before.tree.items)) × (before.height ≤ limit) }
-    ensures read { Gives (λ p. (map bare p.tree.items, lexemes p.rest.now)) result (one_more (behind_comma (expression_at limit)) (map bare before.entry.tree.items) (lexemes before.entry.rest.now)) }
-    ensures places { IfOk result (λ p. (ss : List Spot) → SomeAt (placed_all before.entry.tree.items) ss (spots before.entry.rest.now) → SomeAt (placed_all p.tree.items) ss (spots p.rest.now)) }
-    ensures height { IfOk result (λ p. (p.height ≡ expressions_height (expressions_of p.tree.items)) × (p.height ≤ limit)) }
+) -> Result<Part<'t, 'a, Vec<Expression>>, TextFault>
+    requires height { (before.height ≡ expressions_height (expressions_of before.tree.items)) ×
+        (before.height ≤ limit) }
+    ensures read { ReadsAs (λ p. (map bare p.tree.items, lexemes p.rest.now)) result
+        (one_more (behind_comma (expression_at limit)) (map bare before.entry.tree.items)
+        (lexemes before.entry.rest.now)) }
+    ensures places { IfOk result (λ p. (ss : List Spot) →
+        SomeAt (placed_all before.entry.tree.items) ss (spots before.entry.rest.now) →
+        SomeAt (placed_all p.tree.items) ss (spots p.rest.now)) }
+    ensures height { IfOk result (λ p. (p.height ≡ expressions_height (expressions_of p.tree.items)) ×
+        (p.height ≤ limit)) }
 {
     let comma = expect(context, before.rest, Sign::Comma)?;
     let argument = binary(context, comma.rest, 6, limit)?;

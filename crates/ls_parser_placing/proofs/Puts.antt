@@ -9,7 +9,11 @@ use Rattle.ls_tree.specs.Trees as bare
 use Rattle.ls_tree.specs.Trees.{Text}
 use Rattle.ls_tree.specs.PlacedTrees as trees
 use Rattle.ls_tree.specs.PlacedTrees.{Name, Expression, Expressions, End, More, span_of}
-use Rattle.ls_parser_spelling.specs.Places.{Spot, sign, named, upto, class_name_at, At, OperandAt, IndexAt, ArgumentsAt, SomeAt, number_at, true_at, false_at, null_at, this_at, name_at, paren_at, unary_at, binary_at, field_at, call_at, call_on_at, item_at, new_at, new_markable_at, new_array_at, operand_at, index_at, none_at, some_at, one_at, more_at}
+use Rattle.ls_parser_spelling.specs.Places.{Spot, sign, named, upto, class_name_at, At, OperandAt, IndexAt}
+use Rattle.ls_parser_spelling.specs.Places.{ArgumentsAt, SomeAt, number_at, true_at, false_at, null_at, this_at}
+use Rattle.ls_parser_spelling.specs.Places.{name_at, paren_at, unary_at, binary_at, field_at, call_at, call_on_at}
+use Rattle.ls_parser_spelling.specs.Places.{item_at, new_at, new_markable_at, new_array_at, operand_at, index_at}
+use Rattle.ls_parser_spelling.specs.Places.{none_at, some_at, one_at, more_at}
 use Rattle.ls_parser_placing.specs.Laws.{plain, all_plain, OnePlacing}
 
 -- the span of the first token
@@ -44,7 +48,8 @@ abbrev binary_of : BinaryOp → Put → Put → Put
 binary_of op x y = (trees.Binary op x.0 y.0 (upto (span_of x.0) (span_of y.0)), y.1)
 
 abbrev field_of : Text → Put → Put
-field_of text x = (trees.Field x.0 (name_of text (behind x.1)) (upto (span_of x.0) (here (behind x.1))), behind (behind x.1))
+field_of text x =
+    (trees.Field x.0 (name_of text (behind x.1)) (upto (span_of x.0) (here (behind x.1))), behind (behind x.1))
 
 abbrev call_of : Name → PutClosed → Put
 call_of name y = (trees.Call name y.0.0 (upto name.span y.0.1), y.1)
@@ -83,10 +88,14 @@ abbrev mutual
   put (bare.Binary op left right) ss = binary_of op (put left ss) (put right (behind (put left ss).1))
   put (bare.Field target text) ss = field_of text (put target ss)
   put (bare.Call text arguments) ss = call_of (name_of text ss) (put_arguments arguments (behind (behind ss)))
-  put (bare.CallOn target text arguments) ss = call_on_of text (put target ss) (put_arguments arguments (behind (behind (behind (put target ss).1))))
+  put (bare.CallOn target text arguments) ss =
+      call_on_of text (put target ss) (put_arguments arguments (behind (behind (behind (put target ss).1))))
   put (bare.Item array index) ss = item_of (put array ss) (put index (behind (put array ss).1))
-  put (bare.New text arguments) ss = new_of (name_of text (behind ss)) (here ss) (put_arguments arguments (behind (behind (behind ss))))
-  put (bare.NewMarkable text arguments) ss = new_markable_of (name_of text (behind (behind (behind ss)))) (here ss) (put_arguments arguments (behind (behind (behind (behind (behind (behind ss)))))))
+  put (bare.New text arguments) ss =
+      new_of (name_of text (behind ss)) (here ss) (put_arguments arguments (behind (behind (behind ss))))
+  put (bare.NewMarkable text arguments) ss =
+      new_markable_of (name_of text (behind (behind (behind ss)))) (here ss)
+      (put_arguments arguments (behind (behind (behind (behind (behind (behind ss)))))))
   put (bare.NewArray length) ss = new_array_of (here ss) (put length (behind (behind (behind ss))))
 
   put_arguments : bare.Expressions → List Spot → PutClosed
@@ -102,11 +111,15 @@ abbrev put_some : bare.Expressions → List Spot → PutMany
 put_some bare.NoExpression ss = (End, ss)
 put_some (bare.MoreExpressions t ts) ss = more_of (put t ss) (put_others ts (put t ss).1)
 
-others_are_some : {es : Expressions} {ss rest : List Spot} (comma : Spot) → SomeAt es ss rest → put_others (all_plain es) (comma ∷ ss) ≡ put_some (all_plain es) ss
+others_are_some : {es : Expressions} {ss rest : List Spot} (comma : Spot) →
+    SomeAt es ss rest →
+    put_others (all_plain es) (comma ∷ ss) ≡ put_some (all_plain es) ss
 others_are_some comma (one_at h) = refl
 others_are_some comma (more_at h k) = refl
 
-arguments_are_some : {es : Expressions} {ss rest : List Spot} → SomeAt es ss rest → put_arguments (all_plain es) ss ≡ closed_of (put_some (all_plain es) ss)
+arguments_are_some : {es : Expressions} {ss rest : List Spot} →
+    SomeAt es ss rest →
+    put_arguments (all_plain es) ss ≡ closed_of (put_some (all_plain es) ss)
 arguments_are_some (one_at h) = refl
 arguments_are_some (more_at h k) = refl
 
@@ -121,25 +134,35 @@ mutual
   puts (paren_at {from = from} h) = ap (paren_of from) (puts h)
   puts (unary_at {op} {from = from} h) = ap (unary_of op from) (puts h)
   puts (binary_at {op} {left} {right} {middle = middle} h g) =
-      ap (λ (x : Put). binary_of op x (put (plain right) (behind x.1))) (puts h) ∙ ap (binary_of op (left, middle)) (operand_puts g)
+      ap (λ (x : Put). binary_of op x (put (plain right) (behind x.1))) (puts h) ∙
+      ap (binary_of op (left, middle)) (operand_puts g)
   puts (field_at {name = name} h) = ap (field_of name.text) (puts h)
   puts (call_at {name} g) = ap (call_of name) (arguments_put g)
   puts (call_on_at {target} {name} {arguments} {dot} {opening} {middle = middle} h g) =
-      ap (λ (x : Put). call_on_of name.text x (put_arguments (all_plain arguments) (behind (behind (behind x.1))))) (puts h)
-      ∙ ap (call_on_of name.text (target, sign signs.Dot dot ∷ named name ∷ sign signs.OpenParen opening ∷ middle)) (arguments_put g)
+      ap (λ (x : Put). call_on_of name.text x (put_arguments (all_plain arguments) (behind (behind (behind x.1)))))
+      (puts h)
+      ∙ ap (call_on_of name.text (target, sign signs.Dot dot ∷ named name ∷ sign signs.OpenParen opening ∷ middle))
+      (arguments_put g)
   puts (item_at {array} {index} {middle = middle} h g) =
-      ap (λ (x : Put). item_of x (put (plain index) (behind x.1))) (puts h) ∙ ap (item_of (array, middle)) (index_puts g)
+      ap (λ (x : Put). item_of x (put (plain index) (behind x.1))) (puts h) ∙
+      ap (item_of (array, middle)) (index_puts g)
   puts (new_at {class} {from = from} g) = ap (new_of class from) (arguments_put g)
   puts (new_markable_at {class} {from = from} class_name_at g) = ap (new_markable_of class from) (arguments_put g)
   puts (new_array_at {from = from} g) = ap (new_array_of from) (index_puts g)
 
-  operand_puts : {op : BinaryOp} {right : Expression} {ss rest : List Spot} → OperandAt op right ss rest → put (plain right) (behind ss) ≡ (right, rest)
+  operand_puts : {op : BinaryOp} {right : Expression} {ss rest : List Spot} →
+      OperandAt op right ss rest →
+      put (plain right) (behind ss) ≡ (right, rest)
   operand_puts (operand_at h) = puts h
 
-  index_puts : {index : Expression} {last : Span} {ss rest : List Spot} → IndexAt index last ss rest → put (plain index) (behind ss) ≡ (index, sign signs.CloseBracket last ∷ rest)
+  index_puts : {index : Expression} {last : Span} {ss rest : List Spot} →
+      IndexAt index last ss rest →
+      put (plain index) (behind ss) ≡ (index, sign signs.CloseBracket last ∷ rest)
   index_puts (index_at h) = puts h
 
-  arguments_put : {es : Expressions} {last : Span} {ss rest : List Spot} → ArgumentsAt es last ss rest → put_arguments (all_plain es) ss ≡ ((es, last), rest)
+  arguments_put : {es : Expressions} {last : Span} {ss rest : List Spot} →
+      ArgumentsAt es last ss rest →
+      put_arguments (all_plain es) ss ≡ ((es, last), rest)
   arguments_put none_at = refl
   arguments_put (some_at h) = arguments_are_some h ∙ ap closed_of (some_put h)
 
@@ -151,4 +174,5 @@ mutual
 
 -- the law: tokens give an expression its places in at most one way
 pub one_placing : OnePlacing
-one_placing e f ss rest rest' h g same = ap (λ (x : Put). x.0) (sym (puts h) ∙ ap (λ (t : bare.Expression). put t ss) same ∙ puts g)
+one_placing e f ss rest rest' h g same =
+    ap (λ (x : Put). x.0) (sym (puts h) ∙ ap (λ (t : bare.Expression). put t ss) same ∙ puts g)

@@ -49,7 +49,8 @@ abbrev mutual
 
 -- if the places are left out, the tokens are those that spell the expression
 abbrev pub PlacesForgotten : Type 0
-PlacesForgotten = (e : Expression) (ss rest : List Spot) → At e ss rest → forgotten ss ≡ spell_expression (plain e) ++ forgotten rest
+PlacesForgotten = (e : Expression) (ss rest : List Spot) → At e ss rest → forgotten ss ≡ spell_expression (plain e) ++
+    forgotten rest
 
 -- tokens give an expression without places at most one way to have places
 abbrev pub OnePlacing : Type 0

@@ -3,7 +3,8 @@
 use Rattle.std.specs.Prelude.{map, option_map}
 use Rattle.ls_tree.specs.Trees as bare
 use Rattle.ls_tree.specs.PlacedTrees as Trees
-use Rattle.ls_tree.specs.PlacedTrees.{Text, Name, Expression, Expressions, TypeName, Declarator, Declaration, Simple, Opening, Statement, Items, Parameter, Member, ClassTree, File}
+use Rattle.ls_tree.specs.PlacedTrees.{Text, Name, Expression, Expressions, TypeName, Declarator, Declaration, Simple}
+use Rattle.ls_tree.specs.PlacedTrees.{Opening, Statement, Items, Parameter, Member, ClassTree, File}
 use Rattle.ls_parser_placing.specs.Unplaced.{nowhere}
 
 abbrev pub name_tree : Text → Name
@@ -22,7 +23,8 @@ abbrev mutual
   expression_tree (bare.Binary op left right) = Trees.Binary op (expression_tree left) (expression_tree right) nowhere
   expression_tree (bare.Field target n) = Trees.Field (expression_tree target) (name_tree n) nowhere
   expression_tree (bare.Call n es) = Trees.Call (name_tree n) (expressions_tree es) nowhere
-  expression_tree (bare.CallOn target n es) = Trees.CallOn (expression_tree target) (name_tree n) (expressions_tree es) nowhere
+  expression_tree (bare.CallOn target n es) =
+      Trees.CallOn (expression_tree target) (name_tree n) (expressions_tree es) nowhere
   expression_tree (bare.Item array index) = Trees.Item (expression_tree array) (expression_tree index) nowhere
   expression_tree (bare.New n es) = Trees.New (name_tree n) (expressions_tree es) nowhere
   expression_tree (bare.NewMarkable n es) = Trees.NewMarkable (name_tree n) (expressions_tree es) nowhere
@@ -65,9 +67,11 @@ abbrev mutual
   statement_tree bare.Empty = Trees.Empty
   statement_tree (bare.If c s) = Trees.If (expression_tree c) (statement_tree s)
   statement_tree (bare.IfElse c s t) = Trees.IfElse (expression_tree c) (statement_tree s) (statement_tree t)
-  statement_tree (bare.While label c s) = Trees.While (option_map name_tree label) (expression_tree c) (statement_tree s)
+  statement_tree (bare.While label c s) =
+      Trees.While (option_map name_tree label) (expression_tree c) (statement_tree s)
   statement_tree (bare.For label o c us s) =
-      Trees.For (option_map name_tree label) (opening_tree o) (option_map expression_tree c) (map simple_tree us) (statement_tree s)
+      Trees.For (option_map name_tree label) (opening_tree o) (option_map expression_tree c) (map simple_tree us)
+      (statement_tree s)
   statement_tree (bare.Break label) = Trees.Break (option_map name_tree label) nowhere
   statement_tree (bare.Continue label) = Trees.Continue (option_map name_tree label) nowhere
   statement_tree (bare.Return value) = Trees.Return (option_map expression_tree value) nowhere
@@ -86,8 +90,10 @@ parameter_tree p = record { type_name = type_tree p.type_name; name = name_tree 
 abbrev pub member_tree : bare.Member → Member
 member_tree (bare.Fields d) = Trees.Fields (declaration_tree d)
 member_tree (bare.Method modifiers locked result n ps body) =
-    Trees.Method (Trees.some_in locked) (option_map type_tree result) (name_tree n) (map parameter_tree ps) (items_tree body)
-member_tree (bare.Constructor modifiers n ps body) = Trees.Constructor (name_tree n) (map parameter_tree ps) (items_tree body)
+    Trees.Method (Trees.some_in locked) (option_map type_tree result) (name_tree n) (map parameter_tree ps)
+    (items_tree body)
+member_tree (bare.Constructor modifiers n ps body) =
+    Trees.Constructor (name_tree n) (map parameter_tree ps) (items_tree body)
 
 abbrev pub class_tree : bare.ClassTree → ClassTree
 class_tree c = record { name = name_tree c.name; members = map member_tree c.members }

@@ -2,7 +2,8 @@
 use Rattle.std.specs.Prelude.{map, option_map}
 use Rattle.ls_lexer.specs.declared.token.Span.{Span}
 use Rattle.ls_tree.specs.PlacedTrees as Trees
-use Rattle.ls_tree.specs.PlacedTrees.{Name, Expression, Expressions, TypeName, Declarator, Declaration, Simple, Opening, Statement, Items, Parameter, Member, ClassTree, File}
+use Rattle.ls_tree.specs.PlacedTrees.{Name, Expression, Expressions, TypeName, Declarator, Declaration, Simple}
+use Rattle.ls_tree.specs.PlacedTrees.{Opening, Statement, Items, Parameter, Member, ClassTree, File}
 
 abbrev pub nowhere : Span
 nowhere = record { start = 0; end = 0 }
@@ -66,9 +67,11 @@ abbrev mutual
   unplaced_statement Trees.Empty = Trees.Empty
   unplaced_statement (Trees.If c s) = Trees.If (unplaced c) (unplaced_statement s)
   unplaced_statement (Trees.IfElse c s t) = Trees.IfElse (unplaced c) (unplaced_statement s) (unplaced_statement t)
-  unplaced_statement (Trees.While label c s) = Trees.While (option_map unplaced_name label) (unplaced c) (unplaced_statement s)
+  unplaced_statement (Trees.While label c s) =
+      Trees.While (option_map unplaced_name label) (unplaced c) (unplaced_statement s)
   unplaced_statement (Trees.For label o c us s) =
-      Trees.For (option_map unplaced_name label) (unplaced_opening o) (option_map unplaced c) (map unplaced_simple us) (unplaced_statement s)
+      Trees.For (option_map unplaced_name label) (unplaced_opening o) (option_map unplaced c) (map unplaced_simple us)
+      (unplaced_statement s)
   unplaced_statement (Trees.Break label span) = Trees.Break (option_map unplaced_name label) nowhere
   unplaced_statement (Trees.Continue label span) = Trees.Continue (option_map unplaced_name label) nowhere
   unplaced_statement (Trees.Return value span) = Trees.Return (option_map unplaced value) nowhere
@@ -87,7 +90,8 @@ unplaced_parameter p = record { type_name = unplaced_type p.type_name; name = un
 abbrev pub unplaced_member : Member → Member
 unplaced_member (Trees.Fields d) = Trees.Fields (unplaced_declaration d)
 unplaced_member (Trees.Method sync result n ps body) =
-    Trees.Method sync (option_map unplaced_type result) (unplaced_name n) (map unplaced_parameter ps) (unplaced_items body)
+    Trees.Method sync (option_map unplaced_type result) (unplaced_name n) (map unplaced_parameter ps)
+    (unplaced_items body)
 unplaced_member (Trees.Constructor n ps body) =
     Trees.Constructor (unplaced_name n) (map unplaced_parameter ps) (unplaced_items body)
 

@@ -1,6 +1,9 @@
 -- How many nodes a tree has: the measure of the recursion on expressions and statements.
 use Rattle.std.proofs.Common.{◌≡◌, ℕ, ◌+◌, Option, Some, None, refl}
-use Rattle.ls_tree.specs.Trees.{Text, Expression, Number, True, False, Null, This, Name, Paren, Unary, Binary, Field, Call, CallOn, Item, New, NewMarkable, NewArray, Expressions, NoExpression, MoreExpressions, Statement, Block, Empty, If, IfElse, While, For, Break, Continue, Return, Try, Perform, Synchronized, Items, NoItem, Do, Declare}
+use Rattle.ls_tree.specs.Trees.{Text, Expression, Number, True, False, Null, This, Name, Paren, Unary, Binary, Field}
+use Rattle.ls_tree.specs.Trees.{Call, CallOn, Item, New, NewMarkable, NewArray, Expressions, NoExpression}
+use Rattle.ls_tree.specs.Trees.{MoreExpressions, Statement, Block, Empty, If, IfElse, While, For, Break, Continue}
+use Rattle.ls_tree.specs.Trees.{Return, Try, Perform, Synchronized, Items, NoItem, Do, Declare}
 use Rattle.ls_tree.specs.Views.{call_of}
 
 abbrev mutual
@@ -34,7 +37,8 @@ call_nodes None arguments = all_nodes arguments
 call_nodes (Some target) arguments = nodes target + all_nodes arguments
 
 -- a call has one node more than those below it
-pub nodes-call_of : (target : Option Expression) (name : Text) (arguments : Expressions) → nodes (call_of target name arguments) ≡ call_nodes target arguments + 1
+pub nodes-call_of : (target : Option Expression) (name : Text) (arguments : Expressions) →
+    nodes (call_of target name arguments) ≡ call_nodes target arguments + 1
 nodes-call_of None name arguments = refl
 nodes-call_of (Some target) name arguments = refl
 

@@ -48,7 +48,8 @@ pub data ClassNameAt : Name → List Spot → List Spot → Type 0 where
 -- The tokens begin with those of the expression, and then the rest is left.
 mutual
   pub data At : Expression → List Spot → List Spot → Type 0 where
-    number_at : {text : List ℕ} {s : Span} {rest : List Spot} → At (trees.Number text s) (spot (Numeral text) s ∷ rest) rest
+    number_at : {text : List ℕ} {s : Span} {rest : List Spot} →
+        At (trees.Number text s) (spot (Numeral text) s ∷ rest) rest
     true_at : {s : Span} {rest : List Spot} → At (trees.True s) (spot (Reserved words.True) s ∷ rest) rest
     false_at : {s : Span} {rest : List Spot} → At (trees.False s) (spot (Reserved words.False) s ∷ rest) rest
     null_at : {s : Span} {rest : List Spot} → At (trees.Null s) (spot (Reserved words.Null) s ∷ rest) rest
@@ -69,22 +70,27 @@ mutual
     call_at : {name : Name} {arguments : Expressions} {opening last : Span} {ss rest : List Spot} →
         ArgumentsAt arguments last ss rest →
         At (trees.Call name arguments (upto name.span last)) (named name ∷ sign signs.OpenParen opening ∷ ss) rest
-    call_on_at : {target : Expression} {name : Name} {arguments : Expressions} {dot opening last : Span} {ss middle rest : List Spot} →
-        At target ss (sign signs.Dot dot ∷ named name ∷ sign signs.OpenParen opening ∷ middle) → ArgumentsAt arguments last middle rest →
+    call_on_at : {target : Expression} {name : Name} {arguments : Expressions} {dot opening last : Span}
+        {ss middle rest : List Spot} →
+        At target ss (sign signs.Dot dot ∷ named name ∷ sign signs.OpenParen opening ∷ middle) →
+        ArgumentsAt arguments last middle rest →
         At (trees.CallOn target name arguments (upto (span_of target) last)) ss rest
     item_at : {array index : Expression} {last : Span} {ss middle rest : List Spot} →
         At array ss middle → IndexAt index last middle rest →
         At (trees.Item array index (upto (span_of array) last)) ss rest
     new_at : {class : Name} {arguments : Expressions} {from opening last : Span} {ss rest : List Spot} →
         ArgumentsAt arguments last ss rest →
-        At (trees.New class arguments (upto from last)) (spot (Reserved words.New) from ∷ named class ∷ sign signs.OpenParen opening ∷ ss) rest
-    new_markable_at : {class : Name} {arguments : Expressions} {from word opening last : Span} {ss middle rest : List Spot} →
+        At (trees.New class arguments (upto from last)) (spot (Reserved words.New) from ∷ named class ∷
+        sign signs.OpenParen opening ∷ ss) rest
+    new_markable_at : {class : Name} {arguments : Expressions} {from word opening last : Span}
+        {ss middle rest : List Spot} →
         ClassNameAt class ss (sign signs.OpenParen opening ∷ middle) → ArgumentsAt arguments last middle rest →
         At (trees.NewMarkable class arguments (upto from last))
         (spot (Reserved words.New) from ∷ spot (Named (codes "AtomicMarkableReference")) word ∷ ss) rest
     new_array_at : {length : Expression} {from word last : Span} {ss rest : List Spot} →
         IndexAt length last ss rest →
-        At (trees.NewArray length (upto from last)) (spot (Reserved words.New) from ∷ spot (Reserved words.Boolean) word ∷ ss) rest
+        At (trees.NewArray length (upto from last)) (spot (Reserved words.New) from ∷ spot (Reserved words.Boolean) word
+        ∷ ss) rest
 
   -- an operator and its right operand
   pub data OperandAt : BinaryOp → Expression → List Spot → List Spot → Type 0 where
@@ -94,7 +100,8 @@ mutual
   -- an index in brackets; the closing bracket is at the span
   pub data IndexAt : Expression → Span → List Spot → List Spot → Type 0 where
     index_at : {index : Expression} {opening last : Span} {ss rest : List Spot} →
-        At index ss (sign signs.CloseBracket last ∷ rest) → IndexAt index last (sign signs.OpenBracket opening ∷ ss) rest
+        At index ss (sign signs.CloseBracket last ∷ rest) →
+        IndexAt index last (sign signs.OpenBracket opening ∷ ss) rest
 
   -- arguments, and after them the closing parenthesis, which is at the span
   pub data ArgumentsAt : Expressions → Span → List Spot → List Spot → Type 0 where

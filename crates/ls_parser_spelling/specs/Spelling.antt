@@ -9,7 +9,14 @@ use Rattle.ls_tree.specs.declared.tree.UnaryOp.{UnaryOp}
 use Rattle.ls_tree.specs.declared.tree.UnaryOp.TheVariants as unary
 use Rattle.ls_tree.specs.declared.tree.BinaryOp.{BinaryOp}
 use Rattle.ls_tree.specs.declared.tree.BinaryOp.TheVariants as binary
-use Rattle.ls_tree.specs.Trees.{Text, Expression, Number, True, False, Null, This, Name, Paren, Unary, Binary, Field, Call, CallOn, Item, New, NewMarkable, NewArray, Expressions, NoExpression, MoreExpressions, Modifier, Public, Protected, Private, Final, Volatile, Annotation, TypeName, Int, Boolean, BooleanArray, Class, Markable, Declarator, Declaration, Statement, Block, Empty, If, IfElse, While, For, Break, Continue, Return, Try, Perform, Simple, Synchronized, Assign, Add, Count, Evaluate, Opening, Declares, Performs, Items, NoItem, Do, Declare, Piece, Doing, Declaring, Parameter, Member, Fields, Method, Constructor, ClassTree, Dotted, Import, File}
+use Rattle.ls_tree.specs.Trees.{Text, Expression, Number, True, False, Null, This, Name, Paren, Unary, Binary, Field}
+use Rattle.ls_tree.specs.Trees.{Call, CallOn, Item, New, NewMarkable, NewArray, Expressions, NoExpression}
+use Rattle.ls_tree.specs.Trees.{MoreExpressions, Modifier, Public, Protected, Private, Final, Volatile, Annotation}
+use Rattle.ls_tree.specs.Trees.{TypeName, Int, Boolean, BooleanArray, Class, Markable, Declarator, Declaration}
+use Rattle.ls_tree.specs.Trees.{Statement, Block, Empty, If, IfElse, While, For, Break, Continue, Return, Try}
+use Rattle.ls_tree.specs.Trees.{Perform, Simple, Synchronized, Assign, Add, Count, Evaluate, Opening, Declares}
+use Rattle.ls_tree.specs.Trees.{Performs, Items, NoItem, Do, Declare, Piece, Doing, Declaring, Parameter, Member}
+use Rattle.ls_tree.specs.Trees.{Fields, Method, Constructor, ClassTree, Dotted, Import, File}
 
 abbrev pub sign_of_unary : UnaryOp → Sign
 sign_of_unary unary.Minus = signs.Minus
@@ -54,11 +61,15 @@ abbrev mutual
   spell_expression (Binary op left right) = spell_expression left ++ Marked (sign_of op) ∷ spell_expression right
   spell_expression (Field target name) = spell_expression target ++ Marked signs.Dot ∷ Named name ∷ []
   spell_expression (Call name arguments) = Named name ∷ in_parens (spell_expressions arguments)
-  spell_expression (CallOn target name arguments) = spell_expression target ++ Marked signs.Dot ∷ Named name ∷ in_parens (spell_expressions arguments)
-  spell_expression (Item array index) = spell_expression array ++ Marked signs.OpenBracket ∷ (spell_expression index ++ Marked signs.CloseBracket ∷ [])
+  spell_expression (CallOn target name arguments) = spell_expression target ++ Marked signs.Dot ∷ Named name ∷
+      in_parens (spell_expressions arguments)
+  spell_expression (Item array index) = spell_expression array ++ Marked signs.OpenBracket ∷
+      (spell_expression index ++ Marked signs.CloseBracket ∷ [])
   spell_expression (New class arguments) = Reserved words.New ∷ Named class ∷ in_parens (spell_expressions arguments)
-  spell_expression (NewMarkable class arguments) = Reserved words.New ∷ (markable class ++ in_parens (spell_expressions arguments))
-  spell_expression (NewArray length) = Reserved words.New ∷ Reserved words.Boolean ∷ Marked signs.OpenBracket ∷ (spell_expression length ++ Marked signs.CloseBracket ∷ [])
+  spell_expression (NewMarkable class arguments) =
+      Reserved words.New ∷ (markable class ++ in_parens (spell_expressions arguments))
+  spell_expression (NewArray length) = Reserved words.New ∷ Reserved words.Boolean ∷ Marked signs.OpenBracket ∷
+      (spell_expression length ++ Marked signs.CloseBracket ∷ [])
 
   pub spell_expressions : Expressions → List Lexeme
   spell_expressions NoExpression = []
@@ -130,22 +141,30 @@ spell_opening (Performs simples) = spell_simples simples ++ Marked signs.Semicol
 
 -- what is in the parentheses of a `for`
 abbrev pub spell_head : Opening → Option Expression → List Simple → List Lexeme
-spell_head opening condition updates = spell_opening opening ++ spell_value condition ++ Marked signs.Semicolon ∷ spell_simples updates
+spell_head opening condition updates = spell_opening opening ++ spell_value condition ++ Marked signs.Semicolon ∷
+    spell_simples updates
 
 abbrev mutual
   pub spell_statement : Statement → List Lexeme
   spell_statement (Block items) = in_braces (spell_items items)
   spell_statement Empty = Marked signs.Semicolon ∷ []
-  spell_statement (If condition first) = Reserved words.If ∷ (in_parens (spell_expression condition) ++ spell_statement first)
-  spell_statement (IfElse condition first second) = Reserved words.If ∷ (in_parens (spell_expression condition) ++ spell_statement first ++ Reserved words.Else ∷ spell_statement second)
-  spell_statement (While label condition body) = spell_label_before label ++ Reserved words.While ∷ (in_parens (spell_expression condition) ++ spell_statement body)
+  spell_statement (If condition first) =
+      Reserved words.If ∷ (in_parens (spell_expression condition) ++ spell_statement first)
+  spell_statement (IfElse condition first second) =
+      Reserved words.If ∷ (in_parens (spell_expression condition) ++ spell_statement first ++ Reserved words.Else ∷
+      spell_statement second)
+  spell_statement (While label condition body) = spell_label_before label ++ Reserved words.While ∷
+      (in_parens (spell_expression condition) ++ spell_statement body)
   spell_statement (For label opening condition updates body) =
-      spell_label_before label ++ Reserved words.For ∷ (in_parens (spell_head opening condition updates) ++ spell_statement body)
+      spell_label_before label ++ Reserved words.For ∷
+      (in_parens (spell_head opening condition updates) ++ spell_statement body)
   spell_statement (Break label) = Reserved words.Break ∷ (spell_label label ++ Marked signs.Semicolon ∷ [])
   spell_statement (Continue label) = Reserved words.Continue ∷ (spell_label label ++ Marked signs.Semicolon ∷ [])
   spell_statement (Return value) = Reserved words.Return ∷ (spell_value value ++ Marked signs.Semicolon ∷ [])
-  spell_statement (Try body finally) = Reserved words.Try ∷ (in_braces (spell_items body) ++ Reserved words.Finally ∷ in_braces (spell_items finally))
-  spell_statement (Synchronized target body) = Reserved words.Synchronized ∷ (in_parens (spell_expression target) ++ in_braces (spell_items body))
+  spell_statement (Try body finally) =
+      Reserved words.Try ∷ (in_braces (spell_items body) ++ Reserved words.Finally ∷ in_braces (spell_items finally))
+  spell_statement (Synchronized target body) =
+      Reserved words.Synchronized ∷ (in_parens (spell_expression target) ++ in_braces (spell_items body))
   spell_statement (Perform simple) = spell_simple simple ++ Marked signs.Semicolon ∷ []
 
   pub spell_items : Items → List Lexeme
@@ -175,12 +194,15 @@ spell_locked ms = Reserved words.Synchronized ∷ flat_map spell_modifier ms
 abbrev pub spell_member : Member → List Lexeme
 spell_member (Fields declaration) = spell_declaration declaration
 spell_member (Method modifiers locked result name parameters body) =
-    flat_map spell_modifier modifiers ++ flat_map spell_locked locked ++ spell_result result ++ Named name ∷ (in_parens (spell_parameters parameters) ++ in_braces (spell_items body))
+    flat_map spell_modifier modifiers ++ flat_map spell_locked locked ++ spell_result result ++ Named name ∷
+    (in_parens (spell_parameters parameters) ++ in_braces (spell_items body))
 spell_member (Constructor modifiers name parameters body) =
-    flat_map spell_modifier modifiers ++ Named name ∷ (in_parens (spell_parameters parameters) ++ in_braces (spell_items body))
+    flat_map spell_modifier modifiers ++ Named name ∷
+    (in_parens (spell_parameters parameters) ++ in_braces (spell_items body))
 
 abbrev pub spell_class : ClassTree → List Lexeme
-spell_class c = flat_map spell_modifier c.modifiers ++ Reserved words.Class ∷ Named c.name ∷ in_braces (flat_map spell_member c.members)
+spell_class c = flat_map spell_modifier c.modifiers ++ Reserved words.Class ∷ Named c.name ∷
+    in_braces (flat_map spell_member c.members)
 
 abbrev pub spell_dotted : Dotted → List Lexeme
 spell_dotted d = Named d.first ∷ flat_map (λ name. Marked signs.Dot ∷ Named name ∷ []) d.more

@@ -6,8 +6,11 @@ ghost use Rattle.ls_lexer.specs.Lexemes.{Named, Marked};
 ghost use Rattle.ls_lexer.specs.declared.sign.Sign.TheVariants as signs;
 ghost use Rattle.ls_parser_spelling.specs.Kinds.{lexemes_of};
 ghost use Rattle.ls_tree.specs.Trees.{Method as a_method, Constructor as a_constructor};
-ghost use Rattle.ls_tree.specs.Views.{name_text, bare_modifier, bare_modifiers, bare_type, bare_block, bare_parameter, bare_member, bare_class, bare_dotted, bare_import};
-ghost use Rattle.ls_parser_spelling.specs.Spelling.{in_parens, in_braces, spell_parameter, spell_parameters, spell_result, spell_locked, spell_member, spell_class, spell_dotted, spell_all, spell_import, spell_package};
+ghost use Rattle.ls_tree.specs.Views.{name_text, bare_modifier, bare_modifiers, bare_type, bare_block};
+ghost use Rattle.ls_tree.specs.Views.{bare_parameter, bare_member, bare_class, bare_dotted, bare_import};
+ghost use Rattle.ls_parser_spelling.specs.Spelling.{in_parens, in_braces, spell_parameter, spell_parameters};
+ghost use Rattle.ls_parser_spelling.specs.Spelling.{spell_result, spell_locked, spell_member, spell_class};
+ghost use Rattle.ls_parser_spelling.specs.Spelling.{spell_dotted, spell_all, spell_import, spell_package};
 
 use crate::declarations::{put_declaration, put_modifiers, put_type};
 use crate::kinds::{put_name, put_sign, put_word};
@@ -24,7 +27,8 @@ fn put_parameter<'a>(
     out: &mut Vec<TokenKind<'a>>,
     parameter: &'a Parameter,
 ) -> Result<(), AllocError>
-    ensures { OnOk result (lexemes_of out.new.items ≡ lexemes_of out.old.items ++ spell_parameter (bare_parameter parameter.now)) }
+    ensures { OnOk result (lexemes_of out.new.items ≡ lexemes_of out.old.items ++
+        spell_parameter (bare_parameter parameter.now)) }
 {
     put_modifiers(out, &parameter.modifiers)?;
     put_type(out, &parameter.type_name)?;
@@ -36,7 +40,8 @@ fn put_more_parameters<'a>(
     out: &mut Vec<TokenKind<'a>>,
     more: &'a [Parameter],
 ) -> Result<(), AllocError>
-    ensures { OnOk result (lexemes_of out.new.items ≡ lexemes_of out.old.items ++ flat_map (λ p. Marked signs.Comma ∷ spell_parameter p) (map bare_parameter more.now)) }
+    ensures { OnOk result (lexemes_of out.new.items ≡ lexemes_of out.old.items ++
+        flat_map (λ p. Marked signs.Comma ∷ spell_parameter p) (map bare_parameter more.now)) }
 {
     for parameter in more {
         put_sign(out, Sign::Comma)?;
@@ -49,7 +54,8 @@ fn put_parameters<'a>(
     out: &mut Vec<TokenKind<'a>>,
     parameters: &'a [Parameter],
 ) -> Result<(), AllocError>
-    ensures { OnOk result (lexemes_of out.new.items ≡ lexemes_of out.old.items ++ spell_parameters (map bare_parameter parameters.now)) }
+    ensures { OnOk result (lexemes_of out.new.items ≡ lexemes_of out.old.items ++
+        spell_parameters (map bare_parameter parameters.now)) }
 {
     match parameters {
         [] => Ok(()),
@@ -65,7 +71,8 @@ fn put_group<'a>(
     out: &mut Vec<TokenKind<'a>>,
     parameters: &'a [Parameter],
 ) -> Result<(), AllocError>
-    ensures { OnOk result (lexemes_of out.new.items ≡ lexemes_of out.old.items ++ in_parens (spell_parameters (map bare_parameter parameters.now))) }
+    ensures { OnOk result (lexemes_of out.new.items ≡ lexemes_of out.old.items ++
+        in_parens (spell_parameters (map bare_parameter parameters.now))) }
 {
     put_sign(out, Sign::OpenParen)?;
     put_parameters(out, parameters)?;
@@ -73,7 +80,8 @@ fn put_group<'a>(
 }
 
 fn put_result<'a>(out: &mut Vec<TokenKind<'a>>, of: &'a Option<Type>) -> Result<(), AllocError>
-    ensures { OnOk result (lexemes_of out.new.items ≡ lexemes_of out.old.items ++ spell_result (option_map bare_type of.now)) }
+    ensures { OnOk result (lexemes_of out.new.items ≡ lexemes_of out.old.items ++
+        spell_result (option_map bare_type of.now)) }
 {
     match of {
         Some(type_name) => put_type(out, type_name),
@@ -86,7 +94,8 @@ fn put_locked<'a>(
     out: &mut Vec<TokenKind<'a>>,
     locked: &'a [Vec<Modifier>],
 ) -> Result<(), AllocError>
-    ensures { OnOk result (lexemes_of out.new.items ≡ lexemes_of out.old.items ++ flat_map spell_locked (map bare_modifiers locked.now)) }
+    ensures { OnOk result (lexemes_of out.new.items ≡ lexemes_of out.old.items ++
+        flat_map spell_locked (map bare_modifiers locked.now)) }
 {
     for modifiers in locked {
         put_word(out, Word::Synchronized)?;
@@ -96,7 +105,10 @@ fn put_locked<'a>(
 }
 
 fn put_method<'a>(out: &mut Vec<TokenKind<'a>>, m: &'a Method) -> Result<(), AllocError>
-    ensures { OnOk result (lexemes_of out.new.items ≡ lexemes_of out.old.items ++ spell_member (a_method (map bare_modifier m.now.modifiers.items) (map bare_modifiers m.now.locked.items) (option_map bare_type m.now.result) (name_text m.now.name) (map bare_parameter m.now.parameters.items) (bare_block m.now.body))) }
+    ensures { OnOk result (lexemes_of out.new.items ≡ lexemes_of out.old.items ++
+        spell_member (a_method (map bare_modifier m.now.modifiers.items) (map bare_modifiers m.now.locked.items)
+        (option_map bare_type m.now.result) (name_text m.now.name) (map bare_parameter m.now.parameters.items)
+        (bare_block m.now.body))) }
 {
     put_modifiers(out, &m.modifiers)?;
     put_locked(out, &m.locked)?;
@@ -107,7 +119,9 @@ fn put_method<'a>(out: &mut Vec<TokenKind<'a>>, m: &'a Method) -> Result<(), All
 }
 
 fn put_constructor<'a>(out: &mut Vec<TokenKind<'a>>, c: &'a Constructor) -> Result<(), AllocError>
-    ensures { OnOk result (lexemes_of out.new.items ≡ lexemes_of out.old.items ++ spell_member (a_constructor (map bare_modifier c.now.modifiers.items) (name_text c.now.name) (map bare_parameter c.now.parameters.items) (bare_block c.now.body))) }
+    ensures { OnOk result (lexemes_of out.new.items ≡ lexemes_of out.old.items ++
+        spell_member (a_constructor (map bare_modifier c.now.modifiers.items) (name_text c.now.name)
+        (map bare_parameter c.now.parameters.items) (bare_block c.now.body))) }
 {
     put_modifiers(out, &c.modifiers)?;
     put_name(out, &c.name)?;
@@ -116,7 +130,8 @@ fn put_constructor<'a>(out: &mut Vec<TokenKind<'a>>, c: &'a Constructor) -> Resu
 }
 
 fn put_member<'a>(out: &mut Vec<TokenKind<'a>>, member: &'a Member) -> Result<(), AllocError>
-    ensures { OnOk result (lexemes_of out.new.items ≡ lexemes_of out.old.items ++ spell_member (bare_member member.now)) }
+    ensures { OnOk result (lexemes_of out.new.items ≡ lexemes_of out.old.items ++
+        spell_member (bare_member member.now)) }
 {
     match member {
         Member::Field(declaration) => put_declaration(out, declaration),
@@ -126,7 +141,8 @@ fn put_member<'a>(out: &mut Vec<TokenKind<'a>>, member: &'a Member) -> Result<()
 }
 
 fn put_members<'a>(out: &mut Vec<TokenKind<'a>>, members: &'a [Member]) -> Result<(), AllocError>
-    ensures { OnOk result (lexemes_of out.new.items ≡ lexemes_of out.old.items ++ flat_map spell_member (map bare_member members.now)) }
+    ensures { OnOk result (lexemes_of out.new.items ≡ lexemes_of out.old.items ++
+        flat_map spell_member (map bare_member members.now)) }
 {
     for member in members {
         put_member(out, member)?;
@@ -147,7 +163,8 @@ fn put_class<'a>(out: &mut Vec<TokenKind<'a>>, class: &'a Class) -> Result<(), A
 
 /// Puts the tokens of classes after those in `out`. The only refusal is that memory ran out.
 pub fn put_classes<'a>(out: &mut Vec<TokenKind<'a>>, classes: &'a [Class]) -> Result<(), AllocError>
-    ensures { OnOk result (lexemes_of out.new.items ≡ lexemes_of out.old.items ++ flat_map spell_class (map bare_class classes.now)) }
+    ensures { OnOk result (lexemes_of out.new.items ≡ lexemes_of out.old.items ++
+        flat_map spell_class (map bare_class classes.now)) }
 {
     for class in classes {
         put_class(out, class)?;
@@ -157,7 +174,8 @@ pub fn put_classes<'a>(out: &mut Vec<TokenKind<'a>>, classes: &'a [Class]) -> Re
 
 // The names after the first, each after a dot.
 fn put_parts<'a>(out: &mut Vec<TokenKind<'a>>, parts: &'a [Name]) -> Result<(), AllocError>
-    ensures { OnOk result (lexemes_of out.new.items ≡ lexemes_of out.old.items ++ flat_map (λ name. Marked signs.Dot ∷ Named name ∷ []) (map name_text parts.now)) }
+    ensures { OnOk result (lexemes_of out.new.items ≡ lexemes_of out.old.items ++
+        flat_map (λ name. Marked signs.Dot ∷ Named name ∷ []) (map name_text parts.now)) }
 {
     for part in parts {
         put_sign(out, Sign::Dot)?;
@@ -167,7 +185,8 @@ fn put_parts<'a>(out: &mut Vec<TokenKind<'a>>, parts: &'a [Name]) -> Result<(), 
 }
 
 fn put_dotted<'a>(out: &mut Vec<TokenKind<'a>>, dotted: &'a Dotted) -> Result<(), AllocError>
-    ensures { OnOk result (lexemes_of out.new.items ≡ lexemes_of out.old.items ++ spell_dotted (bare_dotted dotted.now)) }
+    ensures { OnOk result (lexemes_of out.new.items ≡ lexemes_of out.old.items ++
+        spell_dotted (bare_dotted dotted.now)) }
 {
     put_name(out, &dotted.first)?;
     put_parts(out, &dotted.more)
@@ -198,7 +217,8 @@ pub fn put_imports<'a>(
     out: &mut Vec<TokenKind<'a>>,
     imports: &'a [Import],
 ) -> Result<(), AllocError>
-    ensures { OnOk result (lexemes_of out.new.items ≡ lexemes_of out.old.items ++ flat_map spell_import (map bare_import imports.now)) }
+    ensures { OnOk result (lexemes_of out.new.items ≡ lexemes_of out.old.items ++
+        flat_map spell_import (map bare_import imports.now)) }
 {
     for line in imports {
         put_import(out, line)?;
@@ -211,7 +231,8 @@ pub fn put_package<'a>(
     out: &mut Vec<TokenKind<'a>>,
     name: &'a Option<Dotted>,
 ) -> Result<(), AllocError>
-    ensures { OnOk result (lexemes_of out.new.items ≡ lexemes_of out.old.items ++ spell_package (option_map bare_dotted name.now)) }
+    ensures { OnOk result (lexemes_of out.new.items ≡ lexemes_of out.old.items ++
+        spell_package (option_map bare_dotted name.now)) }
 {
     match name {
         Some(dotted) => {

@@ -7,13 +7,15 @@ ghost use Rattle.ls_lexer.specs.declared.word.Word.TheVariants as words;
 ghost use Rattle.ls_parser_spelling.specs.Kinds.{lexemes_of};
 ghost use Rattle.ls_tree.specs.Trees.{New, NewMarkable};
 ghost use Rattle.ls_tree.specs.Views.{bare, bare_target, call_of, name_text, expressions_of};
-ghost use Rattle.ls_parser_spelling.specs.Spelling.{sign_of as the_sign, sign_of_unary as the_unary, markable, in_parens, spell_expression, spell_expressions, spell_others, spell_value};
+ghost use Rattle.ls_parser_spelling.specs.Spelling.{sign_of as the_sign, sign_of_unary as the_unary, markable};
+ghost use Rattle.ls_parser_spelling.specs.Spelling.{in_parens, spell_expression, spell_expressions, spell_others};
+ghost use Rattle.ls_parser_spelling.specs.Spelling.{spell_value};
 
 use crate::kinds::{put_name, put_number, put_sign, put_text, put_word};
 use ls_lexer::sign::Sign;
 use ls_lexer::token::TokenKind;
 use ls_lexer::word::Word;
-use ls_tree::tree::{BinaryOp, Expr, Name, UnaryOp};
+use ls_tree::tree::{BinaryOp, Expression, Name, UnaryOp};
 use std::alloc::AllocError;
 
 fn sign_of_unary(op: UnaryOp) -> Sign
@@ -55,7 +57,8 @@ pub fn put_markable<'a>(out: &mut Vec<TokenKind<'a>>, class: &'a Name) -> Result
 }
 
 fn put_in_angles<'a>(out: &mut Vec<TokenKind<'a>>, class: &'a Name) -> Result<(), AllocError>
-    ensures { OnOk result (lexemes_of out.new.items ≡ lexemes_of out.old.items ++ Marked signs.Less ∷ Named (name_text class.now) ∷ Marked signs.Greater ∷ []) }
+    ensures { OnOk result (lexemes_of out.new.items ≡ lexemes_of out.old.items ++ Marked signs.Less ∷
+        Named (name_text class.now) ∷ Marked signs.Greater ∷ []) }
 {
     put_sign(out, Sign::Less)?;
     put_name(out, class)?;
@@ -64,22 +67,27 @@ fn put_in_angles<'a>(out: &mut Vec<TokenKind<'a>>, class: &'a Name) -> Result<()
 
 /// The tokens of an expression. The only refusal is that memory ran out.
 #[cycle(expressions)]
-pub fn put_expression<'a>(out: &mut Vec<TokenKind<'a>>, e: &'a Expr) -> Result<(), AllocError>
+pub fn put_expression<'a>(out: &mut Vec<TokenKind<'a>>, e: &'a Expression) -> Result<(), AllocError>
     ensures { OnOk result (lexemes_of out.new.items ≡ lexemes_of out.old.items ++ spell_expression (bare e.now)) }
 {
     match e {
-        Expr::Number { text, .. } => put_number(out, text.as_str()),
-        Expr::True(_) => put_word(out, Word::True),
-        Expr::False(_) => put_word(out, Word::False),
-        Expr::Null(_) => put_word(out, Word::Null),
-        Expr::This(_) => put_word(out, Word::This),
-        Expr::Name(name) => put_name(out, name),
-        Expr::Paren { inner, .. } => put_between(out, Sign::OpenParen, inner, Sign::CloseParen),
-        Expr::Unary { op, operand, .. } => {
+        Expression::Number { text, .. } => put_number(out, text.as_str()),
+        Expression::True(_) => put_word(out, Word::True),
+        Expression::False(_) => put_word(out, Word::False),
+        Expression::Null(_) => put_word(out, Word::Null),
+        Expression::This(_) => put_word(out, Word::This),
+        Expression::Name(name) => put_name(out, name),
+        Expression::Paren { inner, .. } => put_between(
+            out,
+            Sign::OpenParen,
+            inner,
+            Sign::CloseParen,
+        ),
+        Expression::Unary { op, operand, .. } => {
             put_sign(out, sign_of_unary(*op))?;
             put_expression(out, operand)
         }
-        Expr::Binary {
+        Expression::Binary {
             op,
             left,
             right,
@@ -89,12 +97,12 @@ pub fn put_expression<'a>(out: &mut Vec<TokenKind<'a>>, e: &'a Expr) -> Result<(
             put_sign(out, sign_of(*op))?;
             put_expression(out, right)
         }
-        Expr::Field { target, name, .. } => {
+        Expression::Field { target, name, .. } => {
             put_expression(out, target)?;
             put_sign(out, Sign::Dot)?;
             put_name(out, name)
         }
-        Expr::Call {
+        Expression::Call {
             target,
             name,
             arguments,
@@ -103,11 +111,11 @@ pub fn put_expression<'a>(out: &mut Vec<TokenKind<'a>>, e: &'a Expr) -> Result<(
             put_call(out, target, name, arguments)?;
             Ok(())
         }
-        Expr::Item { array, index, .. } => {
+        Expression::Item { array, index, .. } => {
             put_expression(out, array)?;
             put_between(out, Sign::OpenBracket, index, Sign::CloseBracket)
         }
-        Expr::New {
+        Expression::New {
             class,
             arguments,
             ..
@@ -115,7 +123,7 @@ pub fn put_expression<'a>(out: &mut Vec<TokenKind<'a>>, e: &'a Expr) -> Result<(
             put_made(out, class, arguments)?;
             Ok(())
         }
-        Expr::NewMarkable {
+        Expression::NewMarkable {
             class,
             arguments,
             ..
@@ -123,7 +131,7 @@ pub fn put_expression<'a>(out: &mut Vec<TokenKind<'a>>, e: &'a Expr) -> Result<(
             put_made_markable(out, class, arguments)?;
             Ok(())
         }
-        Expr::NewArray { length, .. } => {
+        Expression::NewArray { length, .. } => {
             put_word(out, Word::New)?;
             put_word(out, Word::Boolean)?;
             put_between(out, Sign::OpenBracket, length, Sign::CloseBracket)
@@ -136,10 +144,11 @@ pub fn put_expression<'a>(out: &mut Vec<TokenKind<'a>>, e: &'a Expr) -> Result<(
 fn put_between<'a>(
     out: &mut Vec<TokenKind<'a>>,
     opening: Sign,
-    inner: &'a Expr,
+    inner: &'a Expression,
     closing: Sign,
 ) -> Result<(), AllocError>
-    ensures { OnOk result (lexemes_of out.new.items ≡ lexemes_of out.old.items ++ Marked opening ∷ (spell_expression (bare inner.now) ++ Marked closing ∷ [])) }
+    ensures { OnOk result (lexemes_of out.new.items ≡ lexemes_of out.old.items ++ Marked opening ∷
+        (spell_expression (bare inner.now) ++ Marked closing ∷ [])) }
 {
     put_sign(out, opening)?;
     put_expression(out, inner)?;
@@ -149,11 +158,12 @@ fn put_between<'a>(
 #[cycle(expressions)]
 fn put_call<'a>(
     out: &mut Vec<TokenKind<'a>>,
-    target: &'a Option<Box<Expr>>,
+    target: &'a Option<Box<Expression>>,
     name: &'a Name,
-    arguments: &'a [Expr],
+    arguments: &'a [Expression],
 ) -> Result<(), AllocError>
-    ensures { OnOk result (lexemes_of out.new.items ≡ lexemes_of out.old.items ++ spell_expression (call_of (bare_target target.now) (name_text name.now) (expressions_of arguments.now))) }
+    ensures { OnOk result (lexemes_of out.new.items ≡ lexemes_of out.old.items ++
+        spell_expression (call_of (bare_target target.now) (name_text name.now) (expressions_of arguments.now))) }
 {
     if let Some(target) = target {
         put_expression(out, target)?;
@@ -167,9 +177,10 @@ fn put_call<'a>(
 fn put_made<'a>(
     out: &mut Vec<TokenKind<'a>>,
     class: &'a Name,
-    arguments: &'a [Expr],
+    arguments: &'a [Expression],
 ) -> Result<(), AllocError>
-    ensures { OnOk result (lexemes_of out.new.items ≡ lexemes_of out.old.items ++ spell_expression (New (name_text class.now) (expressions_of arguments.now))) }
+    ensures { OnOk result (lexemes_of out.new.items ≡ lexemes_of out.old.items ++
+        spell_expression (New (name_text class.now) (expressions_of arguments.now))) }
 {
     put_word(out, Word::New)?;
     put_name(out, class)?;
@@ -180,9 +191,10 @@ fn put_made<'a>(
 fn put_made_markable<'a>(
     out: &mut Vec<TokenKind<'a>>,
     class: &'a Name,
-    arguments: &'a [Expr],
+    arguments: &'a [Expression],
 ) -> Result<(), AllocError>
-    ensures { OnOk result (lexemes_of out.new.items ≡ lexemes_of out.old.items ++ spell_expression (NewMarkable (name_text class.now) (expressions_of arguments.now))) }
+    ensures { OnOk result (lexemes_of out.new.items ≡ lexemes_of out.old.items ++
+        spell_expression (NewMarkable (name_text class.now) (expressions_of arguments.now))) }
 {
     put_word(out, Word::New)?;
     put_markable(out, class)?;
@@ -191,8 +203,12 @@ fn put_made_markable<'a>(
 
 // Arguments with their parentheses.
 #[cycle(expressions)]
-fn put_arguments<'a>(out: &mut Vec<TokenKind<'a>>, arguments: &'a [Expr]) -> Result<(), AllocError>
-    ensures { OnOk result (lexemes_of out.new.items ≡ lexemes_of out.old.items ++ in_parens (spell_expressions (expressions_of arguments.now))) }
+fn put_arguments<'a>(
+    out: &mut Vec<TokenKind<'a>>,
+    arguments: &'a [Expression],
+) -> Result<(), AllocError>
+    ensures { OnOk result (lexemes_of out.new.items ≡ lexemes_of out.old.items ++
+        in_parens (spell_expressions (expressions_of arguments.now))) }
 {
     put_sign(out, Sign::OpenParen)?;
     if let [first, others @ ..] = arguments {
@@ -204,8 +220,9 @@ fn put_arguments<'a>(out: &mut Vec<TokenKind<'a>>, arguments: &'a [Expr]) -> Res
 
 // The arguments after the first, each after a comma.
 #[cycle(expressions)]
-fn put_others<'a>(out: &mut Vec<TokenKind<'a>>, others: &'a [Expr]) -> Result<(), AllocError>
-    ensures { OnOk result (lexemes_of out.new.items ≡ lexemes_of out.old.items ++ spell_others (expressions_of others.now)) }
+fn put_others<'a>(out: &mut Vec<TokenKind<'a>>, others: &'a [Expression]) -> Result<(), AllocError>
+    ensures { OnOk result (lexemes_of out.new.items ≡ lexemes_of out.old.items ++
+        spell_others (expressions_of others.now)) }
 {
     for e in others {
         put_sign(out, Sign::Comma)?;
@@ -217,9 +234,10 @@ fn put_others<'a>(out: &mut Vec<TokenKind<'a>>, others: &'a [Expr]) -> Result<()
 /// The tokens of a value, if there is one. The only refusal is that memory ran out.
 pub fn put_value<'a>(
     out: &mut Vec<TokenKind<'a>>,
-    value: &'a Option<Expr>,
+    value: &'a Option<Expression>,
 ) -> Result<(), AllocError>
-    ensures { OnOk result (lexemes_of out.new.items ≡ lexemes_of out.old.items ++ spell_value (option_map bare value.now)) }
+    ensures { OnOk result (lexemes_of out.new.items ≡ lexemes_of out.old.items ++
+        spell_value (option_map bare value.now)) }
 {
     match value {
         Some(value) => put_expression(out, value),

@@ -18,7 +18,8 @@ use std::alloc::{AllocError, Global};
 /// no gaps. The only refusal is that memory ran out.
 pub fn spell<'a>(alloc: Global, file: &'a ClassFile) -> Result<Vec<TokenKind<'a>>, AllocError>
     ensures spelled { IfOk result (λ kinds. lexemes_of kinds.items ≡ spell (bare_file file.now)) }
-    ensures again { IfOk result (λ kinds. (tokens : List Token) → Spells (bare_file file.now) (lexemes tokens) → lexemes_of kinds.items ≡ lexemes tokens) }
+    ensures again { IfOk result (λ kinds. (tokens : List Token) → Spells (bare_file file.now) (lexemes tokens) →
+        lexemes_of kinds.items ≡ lexemes tokens) }
 {
     let mut out = Vec::new(alloc);
     put_package(&mut out, &file.package)?;

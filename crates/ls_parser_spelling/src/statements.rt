@@ -5,9 +5,13 @@ ghost use Rattle.ls_lexer.specs.Lexemes.{Reserved, Marked};
 ghost use Rattle.ls_lexer.specs.declared.sign.Sign.TheVariants as signs;
 ghost use Rattle.ls_lexer.specs.declared.word.Word.TheVariants as words;
 ghost use Rattle.ls_parser_spelling.specs.Kinds.{lexemes_of};
-ghost use Rattle.ls_tree.specs.Trees.{While as while_loop, For as for_loop, Try as try_finally, Synchronized as locking};
-ghost use Rattle.ls_tree.specs.Views.{name_text, bare, bare_simple, bare_opening, bare_statement, bare_other, bare_piece, if_of, items_of};
-ghost use Rattle.ls_parser_spelling.specs.Spelling.{in_parens, in_braces, spell_expression, spell_label, spell_label_before, spell_value, spell_statement, spell_items, spell_piece};
+ghost use Rattle.ls_tree.specs.Trees.{While as while_loop, For as for_loop, Try as try_finally};
+ghost use Rattle.ls_tree.specs.Trees.{Synchronized as locking};
+ghost use Rattle.ls_tree.specs.Views.{name_text, bare, bare_simple, bare_opening, bare_statement, bare_other};
+ghost use Rattle.ls_tree.specs.Views.{bare_piece, if_of, items_of};
+ghost use Rattle.ls_parser_spelling.specs.Spelling.{in_parens, in_braces, spell_expression, spell_label};
+ghost use Rattle.ls_parser_spelling.specs.Spelling.{spell_label_before, spell_value, spell_statement, spell_items};
+ghost use Rattle.ls_parser_spelling.specs.Spelling.{spell_piece};
 
 use crate::declarations::put_declaration;
 use crate::expressions::{put_expression, put_value};
@@ -16,11 +20,15 @@ use crate::simples::{put_head, put_simple};
 use ls_lexer::sign::Sign;
 use ls_lexer::token::TokenKind;
 use ls_lexer::word::Word;
-use ls_tree::tree::{BlockItem, Expr, Name, Opening, Simple, Statement};
+use ls_tree::tree::{BlockItem, Expression, Name, Opening, Simple, Statement};
 use std::alloc::AllocError;
 
-fn put_condition<'a>(out: &mut Vec<TokenKind<'a>>, condition: &'a Expr) -> Result<(), AllocError>
-    ensures { OnOk result (lexemes_of out.new.items ≡ lexemes_of out.old.items ++ in_parens (spell_expression (bare condition.now))) }
+fn put_condition<'a>(
+    out: &mut Vec<TokenKind<'a>>,
+    condition: &'a Expression,
+) -> Result<(), AllocError>
+    ensures { OnOk result (lexemes_of out.new.items ≡ lexemes_of out.old.items ++
+        in_parens (spell_expression (bare condition.now))) }
 {
     put_sign(out, Sign::OpenParen)?;
     put_expression(out, condition)?;
@@ -28,7 +36,8 @@ fn put_condition<'a>(out: &mut Vec<TokenKind<'a>>, condition: &'a Expr) -> Resul
 }
 
 fn put_label<'a>(out: &mut Vec<TokenKind<'a>>, label: &'a Option<Name>) -> Result<(), AllocError>
-    ensures { OnOk result (lexemes_of out.new.items ≡ lexemes_of out.old.items ++ spell_label (option_map name_text label.now)) }
+    ensures { OnOk result (lexemes_of out.new.items ≡ lexemes_of out.old.items ++
+        spell_label (option_map name_text label.now)) }
 {
     match label {
         Some(name) => put_name(out, name),
@@ -41,7 +50,8 @@ fn put_label_before<'a>(
     out: &mut Vec<TokenKind<'a>>,
     label: &'a Option<Name>,
 ) -> Result<(), AllocError>
-    ensures { OnOk result (lexemes_of out.new.items ≡ lexemes_of out.old.items ++ spell_label_before (option_map name_text label.now)) }
+    ensures { OnOk result (lexemes_of out.new.items ≡ lexemes_of out.old.items ++
+        spell_label_before (option_map name_text label.now)) }
 {
     match label {
         Some(name) => {
@@ -57,15 +67,20 @@ fn put_jump<'a>(
     word: Word,
     label: &'a Option<Name>,
 ) -> Result<(), AllocError>
-    ensures { OnOk result (lexemes_of out.new.items ≡ lexemes_of out.old.items ++ Reserved word ∷ (spell_label (option_map name_text label.now) ++ Marked signs.Semicolon ∷ [])) }
+    ensures { OnOk result (lexemes_of out.new.items ≡ lexemes_of out.old.items ++ Reserved word ∷
+        (spell_label (option_map name_text label.now) ++ Marked signs.Semicolon ∷ [])) }
 {
     put_word(out, word)?;
     put_label(out, label)?;
     put_sign(out, Sign::Semicolon)
 }
 
-fn put_return<'a>(out: &mut Vec<TokenKind<'a>>, value: &'a Option<Expr>) -> Result<(), AllocError>
-    ensures { OnOk result (lexemes_of out.new.items ≡ lexemes_of out.old.items ++ Reserved words.Return ∷ (spell_value (option_map bare value.now) ++ Marked signs.Semicolon ∷ [])) }
+fn put_return<'a>(
+    out: &mut Vec<TokenKind<'a>>,
+    value: &'a Option<Expression>,
+) -> Result<(), AllocError>
+    ensures { OnOk result (lexemes_of out.new.items ≡ lexemes_of out.old.items ++ Reserved words.Return ∷
+        (spell_value (option_map bare value.now) ++ Marked signs.Semicolon ∷ [])) }
 {
     put_word(out, Word::Return)?;
     put_value(out, value)?;
@@ -74,7 +89,8 @@ fn put_return<'a>(out: &mut Vec<TokenKind<'a>>, value: &'a Option<Expr>) -> Resu
 
 #[cycle(statements)]
 fn put_statement<'a>(out: &mut Vec<TokenKind<'a>>, s: &'a Statement) -> Result<(), AllocError>
-    ensures { OnOk result (lexemes_of out.new.items ≡ lexemes_of out.old.items ++ spell_statement (bare_statement s.now)) }
+    ensures { OnOk result (lexemes_of out.new.items ≡ lexemes_of out.old.items ++
+        spell_statement (bare_statement s.now)) }
 {
     match s {
         Statement::Block(block) => {
@@ -126,11 +142,12 @@ fn put_statement<'a>(out: &mut Vec<TokenKind<'a>>, s: &'a Statement) -> Result<(
 #[cycle(statements)]
 fn put_if<'a>(
     out: &mut Vec<TokenKind<'a>>,
-    condition: &'a Expr,
+    condition: &'a Expression,
     then: &'a Statement,
     otherwise: &'a Option<Box<Statement>>,
 ) -> Result<(), AllocError>
-    ensures { OnOk result (lexemes_of out.new.items ≡ lexemes_of out.old.items ++ spell_statement (if_of (bare condition.now) (bare_statement then.now) (bare_other otherwise.now))) }
+    ensures { OnOk result (lexemes_of out.new.items ≡ lexemes_of out.old.items ++
+        spell_statement (if_of (bare condition.now) (bare_statement then.now) (bare_other otherwise.now))) }
 {
     put_word(out, Word::If)?;
     put_condition(out, condition)?;
@@ -146,10 +163,11 @@ fn put_if<'a>(
 fn put_while<'a>(
     out: &mut Vec<TokenKind<'a>>,
     label: &'a Option<Name>,
-    condition: &'a Expr,
+    condition: &'a Expression,
     body: &'a Statement,
 ) -> Result<(), AllocError>
-    ensures { OnOk result (lexemes_of out.new.items ≡ lexemes_of out.old.items ++ spell_statement (while_loop (option_map name_text label.now) (bare condition.now) (bare_statement body.now))) }
+    ensures { OnOk result (lexemes_of out.new.items ≡ lexemes_of out.old.items ++
+        spell_statement (while_loop (option_map name_text label.now) (bare condition.now) (bare_statement body.now))) }
 {
     put_label_before(out, label)?;
     put_word(out, Word::While)?;
@@ -162,11 +180,14 @@ fn put_for<'a>(
     out: &mut Vec<TokenKind<'a>>,
     label: &'a Option<Name>,
     opening: &'a Opening,
-    condition: &'a Option<Expr>,
+    condition: &'a Option<Expression>,
     updates: &'a [Simple],
     body: &'a Statement,
 ) -> Result<(), AllocError>
-    ensures { OnOk result (lexemes_of out.new.items ≡ lexemes_of out.old.items ++ spell_statement (for_loop (option_map name_text label.now) (bare_opening opening.now) (option_map bare condition.now) (map bare_simple updates.now) (bare_statement body.now))) }
+    ensures { OnOk result (lexemes_of out.new.items ≡ lexemes_of out.old.items ++
+        spell_statement
+        (for_loop (option_map name_text label.now) (bare_opening opening.now) (option_map bare condition.now)
+        (map bare_simple updates.now) (bare_statement body.now))) }
 {
     put_label_before(out, label)?;
     put_word(out, Word::For)?;
@@ -180,7 +201,8 @@ fn put_try<'a>(
     body: &'a [BlockItem],
     finally: &'a [BlockItem],
 ) -> Result<(), AllocError>
-    ensures { OnOk result (lexemes_of out.new.items ≡ lexemes_of out.old.items ++ spell_statement (try_finally (items_of body.now) (items_of finally.now))) }
+    ensures { OnOk result (lexemes_of out.new.items ≡ lexemes_of out.old.items ++
+        spell_statement (try_finally (items_of body.now) (items_of finally.now))) }
 {
     put_word(out, Word::Try)?;
     put_block(out, body)?;
@@ -191,10 +213,11 @@ fn put_try<'a>(
 #[cycle(statements)]
 fn put_synchronized<'a>(
     out: &mut Vec<TokenKind<'a>>,
-    target: &'a Expr,
+    target: &'a Expression,
     body: &'a [BlockItem],
 ) -> Result<(), AllocError>
-    ensures { OnOk result (lexemes_of out.new.items ≡ lexemes_of out.old.items ++ spell_statement (locking (bare target.now) (items_of body.now))) }
+    ensures { OnOk result (lexemes_of out.new.items ≡ lexemes_of out.old.items ++
+        spell_statement (locking (bare target.now) (items_of body.now))) }
 {
     put_word(out, Word::Synchronized)?;
     put_condition(out, target)?;
@@ -204,7 +227,8 @@ fn put_synchronized<'a>(
 /// Statements and declarations in braces. The only refusal is that memory ran out.
 #[cycle(statements)]
 pub fn put_block<'a>(out: &mut Vec<TokenKind<'a>>, items: &'a [BlockItem]) -> Result<(), AllocError>
-    ensures { OnOk result (lexemes_of out.new.items ≡ lexemes_of out.old.items ++ in_braces (spell_items (items_of items.now))) }
+    ensures { OnOk result (lexemes_of out.new.items ≡ lexemes_of out.old.items ++
+        in_braces (spell_items (items_of items.now))) }
 {
     put_sign(out, Sign::OpenBrace)?;
     put_items(out, items)?;

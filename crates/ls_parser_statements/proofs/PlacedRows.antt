@@ -2,11 +2,12 @@
 use Rattle.std.proofs.Common.{◌≡◌, refl, ap, ◌∙◌}
 use Rattle.std.specs.Global.{Vec}
 use Rattle.ls_lexer.specs.declared.token.Span.{Span}
-use Rattle.ls_tree.specs.declared.tree.Expr.{Expr}
+use Rattle.ls_tree.specs.declared.tree.Expression.{Expression}
 use Rattle.ls_tree.specs.declared.tree.Block.{Block}
 use Rattle.ls_tree.specs.declared.tree.BlockItem.{BlockItem}
 use Rattle.ls_tree.specs.declared.tree.BlockItem.TheVariants as rows
-use Rattle.ls_tree.specs.declared.tree.Statement.{Row_of-BlockItem, end_of-BlockItem, more_of-BlockItem, items-the_row-BlockItem, items_hidden-the_row-BlockItem-0}
+use Rattle.ls_tree.specs.declared.tree.Statement.{Row_of-BlockItem, end_of-BlockItem, more_of-BlockItem}
+use Rattle.ls_tree.specs.declared.tree.Statement.{items-the_row-BlockItem, items_hidden-the_row-BlockItem-0}
 use Rattle.ls_tree.specs.declared.tree.Statement.TheVariants as statements
 use Rattle.ls_tree.specs.declared.tree.BlockItem.TheBlock.{hidden-the_row-BlockItem-0}
 use Rattle.ls_tree.specs.PlacedTrees as trees
@@ -27,9 +28,11 @@ pub block_placed : (b : Block) → placed_statement (statements.Block b) ≡ tre
 block_placed b = ap trees.Block (row_of_items b.items)
 
 -- a `synchronized` with places
-pub synchronized_placed : (e : Expr) (b : Block) (span : Span) → placed_statement (statements.Synchronized e b span) ≡ trees.Synchronized (placed e) (placed_items b.items.items)
+pub synchronized_placed : (e : Expression) (b : Block) (span : Span) →
+    placed_statement (statements.Synchronized e b span) ≡ trees.Synchronized (placed e) (placed_items b.items.items)
 synchronized_placed e b span = ap (trees.Synchronized (placed e)) (row_of_items b.items)
 
 -- a `try` with places
-pub try_placed : (b f : Block) (span : Span) → placed_statement (statements.Try b f span) ≡ trees.Try (placed_items b.items.items) (placed_items f.items.items)
+pub try_placed : (b f : Block) (span : Span) →
+    placed_statement (statements.Try b f span) ≡ trees.Try (placed_items b.items.items) (placed_items f.items.items)
 try_placed b f span = λ i. trees.Try (row_of_items b.items i) (row_of_items f.items i)

@@ -1,24 +1,49 @@
 -- Declarations and statements: what is well-formed is read again.
-use Rattle.std.proofs.Common.{◌≡◌, ℕ, zero, suc, ◌+◌, ◌≤◌, Bool, true, false, List, [], ◌∷◌, Option, Some, None, refl, sym, ap, ◌∙◌, arith}
+use Rattle.std.proofs.Common.{◌≡◌, ℕ, zero, suc, ◌+◌, ◌≤◌, Bool, true, false, List, [], ◌∷◌, Option, Some, None, refl}
+use Rattle.std.proofs.Common.{sym, ap, ◌∙◌, arith}
 use Rattle.std.specs.List.{AllByRecursion}
 use Rattle.std.specs.Prelude.{◌&&◌, ◌||◌}
 use Rattle.ls_lexer.specs.declared.sign.Sign.TheVariants as signs
 use Rattle.ls_lexer.specs.declared.word.Word.TheVariants as words
 use Rattle.ls_lexer.specs.Lexemes.{Lexeme, Named, Reserved, Marked}
-use Rattle.ls_tree.specs.Trees.{Text, Expression, Number, True, False, Null, This, Name, Paren, Unary, Binary, Field, Call, CallOn, Item, New, NewMarkable, NewArray, Modifier, Public, Protected, Private, Final, Volatile, Annotation, TypeName, Int, Boolean, BooleanArray, Class, Markable, Declarator, Declaration, Simple, Statement, Block, Empty, If, IfElse, While, For, Break, Continue, Return, Try, Perform, Synchronized, Assign, Add, Count, Evaluate, Opening, Declares, Performs, Items, NoItem, Do, Declare, Piece, Doing, Declaring, collected}
-use Rattle.ls_tree.specs.WellFormed.{WellFormed, is_post, expression_height, value_height, declarators_height, declaration_height, simple_height, simples_height, opening_height, statement_height, items_height, ends_open, WellFormedValue, WellFormedDeclaration, WellFormedSimple, WellFormedSimples, WellFormedOpening, WellFormedStatement, WellFormedItems}
+use Rattle.ls_tree.specs.Trees.{Text, Expression, Number, True, False, Null, This, Name, Paren, Unary, Binary, Field}
+use Rattle.ls_tree.specs.Trees.{Call, CallOn, Item, New, NewMarkable, NewArray, Modifier, Public, Protected, Private}
+use Rattle.ls_tree.specs.Trees.{Final, Volatile, Annotation, TypeName, Int, Boolean, BooleanArray, Class, Markable}
+use Rattle.ls_tree.specs.Trees.{Declarator, Declaration, Simple, Statement, Block, Empty, If, IfElse, While, For}
+use Rattle.ls_tree.specs.Trees.{Break, Continue, Return, Try, Perform, Synchronized, Assign, Add, Count, Evaluate}
+use Rattle.ls_tree.specs.Trees.{Opening, Declares, Performs, Items, NoItem, Do, Declare, Piece, Doing, Declaring}
+use Rattle.ls_tree.specs.Trees.{collected}
+use Rattle.ls_tree.specs.WellFormed.{WellFormed, is_post, expression_height, value_height, declarators_height}
+use Rattle.ls_tree.specs.WellFormed.{declaration_height, simple_height, simples_height, opening_height}
+use Rattle.ls_tree.specs.WellFormed.{statement_height, items_height, ends_open, WellFormedValue}
+use Rattle.ls_tree.specs.WellFormed.{WellFormedDeclaration, WellFormedSimple, WellFormedSimples, WellFormedOpening}
+use Rattle.ls_tree.specs.WellFormed.{WellFormedStatement, WellFormedItems}
 use Rattle.ls_parser_tokens.specs.Reading.{Reader, after_sign, after_word, name_at, not_yet, many_at, behind_comma}
 use Rattle.ls_parser_expressions.specs.ReadingExpressions.{is_markable, expression_at, post_at}
-use Rattle.ls_parser_declarations.specs.ReadingDeclarations.{starts_modifier, modifier_at, modifiers_at, type_at, declarator_at, declarators_at, declaration_at, starts_type, named_declaration, starts_declaration}
-use Rattle.ls_parser_statements.specs.ReadingStatements.{piece_at, braces_at, condition_at, jump_at, value_at, simple_from, simple_at, opening_at, head_in, other_at, FirstOther, first_of, local_at, statement_of, nested_at, statement_at, block_at}
+use Rattle.ls_parser_declarations.specs.ReadingDeclarations.{starts_modifier, modifier_at, modifiers_at, type_at}
+use Rattle.ls_parser_declarations.specs.ReadingDeclarations.{declarator_at, declarators_at, declaration_at}
+use Rattle.ls_parser_declarations.specs.ReadingDeclarations.{starts_type, named_declaration, starts_declaration}
+use Rattle.ls_parser_statements.specs.ReadingStatements.{piece_at, braces_at, condition_at, jump_at, value_at}
+use Rattle.ls_parser_statements.specs.ReadingStatements.{simple_from, simple_at, opening_at, head_in, other_at}
+use Rattle.ls_parser_statements.specs.ReadingStatements.{FirstOther, first_of, local_at, statement_of, nested_at}
+use Rattle.ls_parser_statements.specs.ReadingStatements.{statement_at, block_at}
 use Rattle.ls_parser_expressions.proofs.Onto.{onto, onto_expressions}
 use Rattle.ls_parser_expressions.proofs.Lists.{onto_all, many_from_complete}
-use Rattle.ls_parser_declarations.proofs.OntoDeclarations.{onto_modifier, modifier_longer, onto_type, onto_initial, onto_declarator, onto_next_declarator, next_declarator_longer, onto_declaration}
-use Rattle.ls_parser_statements.proofs.OntoStatements.{onto_label, onto_label_before, onto_value, onto_condition, onto_simple, onto_next_simple, onto_simples, onto_opening, onto_head, onto_statement, onto_items, onto_block, onto_piece, onto_collected, piece_longer}
+use Rattle.ls_parser_declarations.proofs.OntoDeclarations.{onto_modifier, modifier_longer, onto_type, onto_initial}
+use Rattle.ls_parser_declarations.proofs.OntoDeclarations.{onto_declarator, onto_next_declarator}
+use Rattle.ls_parser_declarations.proofs.OntoDeclarations.{next_declarator_longer, onto_declaration}
+use Rattle.ls_parser_statements.proofs.OntoStatements.{onto_label, onto_label_before, onto_value, onto_condition}
+use Rattle.ls_parser_statements.proofs.OntoStatements.{onto_simple, onto_next_simple, onto_simples, onto_opening}
+use Rattle.ls_parser_statements.proofs.OntoStatements.{onto_head, onto_statement, onto_items, onto_block, onto_piece}
+use Rattle.ls_parser_statements.proofs.OntoStatements.{onto_collected, piece_longer}
 use Rattle.ls_parser_declarations.proofs.DeclarationsRead.{Anything, FormedDeclarator}
 use Rattle.ls_parser_statements.proofs.StatementsRead.{FormedPiece}
-use Rattle.ls_parser_statements.proofs.SimplesAgain.{Opens, called, simple_opens, simple_label, simple_else, simple_semicolon, from_again, simple_pos, semicolon_ends, close_ends, others_follow, simples_complete}
-use Rattle.ls_parser_expressions.proofs.ExpressionsAgain.{Follow, follow_close, follow_comma, follow_semicolon, follow_assign, post_head, no_semicolon, expression_complete, post_complete}
+use Rattle.ls_parser_statements.proofs.SimplesAgain.{Opens, called, simple_opens, simple_label, simple_else}
+use Rattle.ls_parser_statements.proofs.SimplesAgain.{simple_semicolon, from_again, simple_pos, semicolon_ends}
+use Rattle.ls_parser_statements.proofs.SimplesAgain.{close_ends, others_follow, simples_complete}
+use Rattle.ls_parser_expressions.proofs.ExpressionsAgain.{Follow, follow_close, follow_comma, follow_semicolon}
+use Rattle.ls_parser_expressions.proofs.ExpressionsAgain.{follow_assign, post_head, no_semicolon, expression_complete}
+use Rattle.ls_parser_expressions.proofs.ExpressionsAgain.{post_complete}
 
 -- ---- modifiers and types
 
@@ -43,9 +68,12 @@ pub anything : {A : Type 0} (xs : List A) → AllByRecursion Anything xs
 anything [] = tt
 anything (x ∷ xs) = (tt, anything xs)
 
-pub modifiers_complete : (ms : List Modifier) (rest : List Lexeme) → starts_modifier rest ≡ false → modifiers_at (onto_all onto_modifier ms rest) ≡ Some (ms, rest)
+pub modifiers_complete : (ms : List Modifier) (rest : List Lexeme) →
+    starts_modifier rest ≡ false →
+    modifiers_at (onto_all onto_modifier ms rest) ≡ Some (ms, rest)
 modifiers_complete ms rest stop =
-    many_from_complete onto_modifier Anything starts_modifier modifier_at (λ ks. Unit {0}) (λ m rest' p follow. modifier_again m rest') (λ m rest' p. (modifier_first m rest', tt)) modifier_longer
+    many_from_complete onto_modifier Anything starts_modifier modifier_at (λ ks. Unit {0})
+    (λ m rest' p follow. modifier_again m rest') (λ m rest' p. (modifier_first m rest', tt)) modifier_longer
     [] ms rest (anything ms) stop tt
 
 and_false : (b : Bool) → (b && false) ≡ false
@@ -53,7 +81,8 @@ and_false true = refl
 and_false false = refl
 
 -- a type before a name
-pub type_complete : (t : TypeName) (name : Text) (rest : List Lexeme) → type_at (onto_type t (Named name ∷ rest)) ≡ Some (t, Named name ∷ rest)
+pub type_complete : (t : TypeName) (name : Text) (rest : List Lexeme) →
+    type_at (onto_type t (Named name ∷ rest)) ≡ Some (t, Named name ∷ rest)
 type_complete Int name rest = refl
 type_complete Boolean name rest = refl
 type_complete BooleanArray name rest = refl
@@ -75,41 +104,73 @@ record FollowDeclarator (ks : List Lexeme) : Type 0 where
   follow : Follow 6 ks
   assign : after_sign signs.Assign ks ≡ None
 
-of_value : (limit : ℕ) (name : Text) (value : Option Expression) (rest : List Lexeme) → WellFormedValue value → value_height value ≤ limit → FollowDeclarator rest
-    → declarator_at (expression_at limit) (Named name ∷ onto_initial value rest) ≡ Some (record { name = name; value = value }, rest)
+of_value : (limit : ℕ) (name : Text) (value : Option Expression) (rest : List Lexeme) →
+    WellFormedValue value →
+    value_height value ≤ limit →
+    FollowDeclarator rest
+    → declarator_at (expression_at limit) (Named name ∷ onto_initial value rest) ≡
+    Some (record { name = name; value = value }, rest)
 of_value limit name None rest formed fits f = rw f.assign refl
-of_value limit name (Some value) rest formed fits f = rw (expression_complete limit value rest formed fits f.follow) refl
+of_value limit name (Some value) rest formed fits f =
+    rw (expression_complete limit value rest formed fits f.follow) refl
 
-declarator_complete : (limit : ℕ) (d : Declarator) (rest : List Lexeme) → FormedDeclarator limit d → FollowDeclarator rest → declarator_at (expression_at limit) (onto_declarator d rest) ≡ Some (d, rest)
+declarator_complete : (limit : ℕ) (d : Declarator) (rest : List Lexeme) →
+    FormedDeclarator limit d →
+    FollowDeclarator rest →
+    declarator_at (expression_at limit) (onto_declarator d rest) ≡ Some (d, rest)
 declarator_complete limit d rest formed f = of_value limit d.name d.value rest formed.0 formed.1 f
 
-more_formed : (limit : ℕ) (ds : List Declarator) → AllByRecursion (λ (m : Declarator). WellFormedValue m.value) ds → declarators_height ds ≤ limit → AllByRecursion (FormedDeclarator limit) ds
+more_formed : (limit : ℕ) (ds : List Declarator) →
+    AllByRecursion (λ (m : Declarator). WellFormedValue m.value) ds →
+    declarators_height ds ≤ limit →
+    AllByRecursion (FormedDeclarator limit) ds
 more_formed limit [] formed fits = tt
 more_formed limit (d ∷ ds) formed fits = ((formed.0, omega arith), more_formed limit ds formed.1 (omega arith))
 
-declarators_follow : (ds : List Declarator) (rest : List Lexeme) → FollowDeclarator (onto_all onto_next_declarator ds (Marked signs.Semicolon ∷ rest))
+declarators_follow : (ds : List Declarator) (rest : List Lexeme) →
+    FollowDeclarator (onto_all onto_next_declarator ds (Marked signs.Semicolon ∷ rest))
 declarators_follow [] rest = record { follow = follow_semicolon 6 rest; assign = refl }
-declarators_follow (d ∷ ds) rest = record { follow = follow_comma 6 (onto_declarator d (onto_all onto_next_declarator ds (Marked signs.Semicolon ∷ rest))); assign = refl }
+declarators_follow (d ∷ ds) rest =
+    record {
+      follow =
+          follow_comma 6 (onto_declarator d (onto_all onto_next_declarator ds (Marked signs.Semicolon ∷ rest)));
+      assign =
+          refl;
+    }
 
 -- declarators that are spelled are read again
-pub declarators_complete : (limit : ℕ) (d : Declaration) (rest : List Lexeme) → WellFormedDeclaration d → declarators_height (d.first ∷ d.more) ≤ limit
-    → declarators_at (expression_at limit) d.modifiers d.type_name (onto_declarator d.first (onto_all onto_next_declarator d.more (Marked signs.Semicolon ∷ rest))) ≡ Some (d, rest)
+pub declarators_complete : (limit : ℕ) (d : Declaration) (rest : List Lexeme) →
+    WellFormedDeclaration d →
+    declarators_height (d.first ∷ d.more) ≤ limit
+    → declarators_at (expression_at limit) d.modifiers d.type_name
+    (onto_declarator d.first (onto_all onto_next_declarator d.more (Marked signs.Semicolon ∷ rest))) ≡
+    Some (d, rest)
 declarators_complete limit d rest formed fits =
-    let all : AllByRecursion (FormedDeclarator limit) (d.first ∷ d.more) = more_formed limit (d.first ∷ d.more) formed fits in
+    let all : AllByRecursion (FormedDeclarator limit) (d.first ∷ d.more) =
+    more_formed limit (d.first ∷ d.more) formed fits in
     rw (
-      declarator_complete limit d.first (onto_all onto_next_declarator d.more (Marked signs.Semicolon ∷ rest)) all.0 (declarators_follow d.more rest),
-      many_from_complete onto_next_declarator (FormedDeclarator limit) (not_yet signs.Semicolon) (behind_comma (declarator_at (expression_at limit))) FollowDeclarator
+      declarator_complete limit d.first (onto_all onto_next_declarator d.more (Marked signs.Semicolon ∷ rest)) all.0
+          (declarators_follow d.more rest),
+      many_from_complete onto_next_declarator (FormedDeclarator limit) (not_yet signs.Semicolon)
+          (behind_comma (declarator_at (expression_at limit))) FollowDeclarator
           (λ m rest' p follow. declarator_complete limit m rest' p follow)
-          (λ m rest' p. (refl, record { follow = follow_comma 6 (onto_declarator m rest'); assign = refl })) next_declarator_longer
-          [] d.more (Marked signs.Semicolon ∷ rest) all.1 refl (record { follow = follow_semicolon 6 rest; assign = refl }),
+          (λ m rest' p. (refl, record { follow = follow_comma 6 (onto_declarator m rest'); assign = refl }))
+          next_declarator_longer
+          [] d.more (Marked signs.Semicolon ∷ rest) all.1 refl
+          (record { follow = follow_semicolon 6 rest; assign = refl }),
     ) refl
 
-pub declaration_complete : (limit : ℕ) (d : Declaration) (rest : List Lexeme) → WellFormedDeclaration d → declarators_height (d.first ∷ d.more) ≤ limit → declaration_at (expression_at limit) (onto_declaration d rest) ≡ Some (d, rest)
+pub declaration_complete : (limit : ℕ) (d : Declaration) (rest : List Lexeme) →
+    WellFormedDeclaration d →
+    declarators_height (d.first ∷ d.more) ≤ limit →
+    declaration_at (expression_at limit) (onto_declaration d rest) ≡ Some (d, rest)
 declaration_complete limit d rest formed fits =
-    let ks : List Lexeme = onto_declarator d.first (onto_all onto_next_declarator d.more (Marked signs.Semicolon ∷ rest)) in
+    let ks : List Lexeme =
+    onto_declarator d.first (onto_all onto_next_declarator d.more (Marked signs.Semicolon ∷ rest)) in
     rw (
       modifiers_complete d.modifiers (onto_type d.type_name ks) (type_no_modifier d.type_name ks),
-      type_complete d.type_name d.first.name (onto_initial d.first.value (onto_all onto_next_declarator d.more (Marked signs.Semicolon ∷ rest))),
+      type_complete d.type_name d.first.name
+          (onto_initial d.first.value (onto_all onto_next_declarator d.more (Marked signs.Semicolon ∷ rest))),
       declarators_complete limit d rest formed fits,
     ) refl
 
@@ -121,19 +182,24 @@ or_true : (a : Bool) → (a || true) ≡ true
 or_true true = refl
 or_true false = refl
 
-type_first : (t : TypeName) (name : Text) (rest : List Lexeme) → (starts_type (onto_type t (Named name ∷ rest)) || named_declaration (onto_type t (Named name ∷ rest))) ≡ true
+type_first : (t : TypeName) (name : Text) (rest : List Lexeme) →
+    (starts_type (onto_type t (Named name ∷ rest)) || named_declaration (onto_type t (Named name ∷ rest))) ≡ true
 type_first Int name rest = refl
 type_first Boolean name rest = refl
 type_first BooleanArray name rest = refl
 type_first (Class text) name rest = refl
 type_first (Markable text) name rest = refl
 
-modifiers_first : (ms : List Modifier) (t : TypeName) (name : Text) (rest : List Lexeme) → starts_declaration (onto_all onto_modifier ms (onto_type t (Named name ∷ rest))) ≡ true
+modifiers_first : (ms : List Modifier) (t : TypeName) (name : Text) (rest : List Lexeme) →
+    starts_declaration (onto_all onto_modifier ms (onto_type t (Named name ∷ rest))) ≡ true
 modifiers_first [] t name rest = rw (type_no_modifier t (Named name ∷ rest)) (type_first t name rest)
-modifiers_first (m ∷ ms) t name rest = rw (modifier_first m (onto_all onto_modifier ms (onto_type t (Named name ∷ rest)))) refl
+modifiers_first (m ∷ ms) t name rest =
+    rw (modifier_first m (onto_all onto_modifier ms (onto_type t (Named name ∷ rest)))) refl
 
 pub declaration_first : (d : Declaration) (rest : List Lexeme) → starts_declaration (onto_declaration d rest) ≡ true
-declaration_first d rest = modifiers_first d.modifiers d.type_name d.first.name (onto_initial d.first.value (onto_all onto_next_declarator d.more (Marked signs.Semicolon ∷ rest)))
+declaration_first d rest =
+    modifiers_first d.modifiers d.type_name d.first.name
+    (onto_initial d.first.value (onto_all onto_next_declarator d.more (Marked signs.Semicolon ∷ rest)))
 
 -- ---- how a statement begins
 
@@ -150,17 +216,21 @@ statement_opens (Block items) rest formed = record { declares = refl; brace = re
 statement_opens Empty rest formed = record { declares = refl; brace = refl }
 statement_opens (If condition first) rest formed = record { declares = refl; brace = refl }
 statement_opens (IfElse condition first second) rest formed = record { declares = refl; brace = refl }
-statement_opens (While label condition body) rest formed = while_opens label (onto_condition condition (onto_statement body rest))
-statement_opens (For label opening condition updates body) rest formed = for_opens label (onto_head opening condition updates (onto_statement body rest))
+statement_opens (While label condition body) rest formed =
+    while_opens label (onto_condition condition (onto_statement body rest))
+statement_opens (For label opening condition updates body) rest formed =
+    for_opens label (onto_head opening condition updates (onto_statement body rest))
 statement_opens (Break label) rest formed = record { declares = refl; brace = refl }
 statement_opens (Continue label) rest formed = record { declares = refl; brace = refl }
 statement_opens (Return value) rest formed = record { declares = refl; brace = refl }
 statement_opens (Try body finally) rest formed = record { declares = refl; brace = refl }
 statement_opens (Synchronized target body) rest formed = record { declares = refl; brace = refl }
-statement_opens (Perform simple) rest formed = simple_opens simple (Marked signs.Semicolon ∷ rest) formed (simple_semicolon rest)
+statement_opens (Perform simple) rest formed =
+    simple_opens simple (Marked signs.Semicolon ∷ rest) formed (simple_semicolon rest)
 
 -- a closing brace doesn't begin a declaration either, and a declaration is not a closing brace
-pub modifiers_brace : (ms : List Modifier) (t : TypeName) (rest : List Lexeme) → after_sign signs.CloseBrace (onto_all onto_modifier ms (onto_type t rest)) ≡ None
+pub modifiers_brace : (ms : List Modifier) (t : TypeName) (rest : List Lexeme) →
+    after_sign signs.CloseBrace (onto_all onto_modifier ms (onto_type t rest)) ≡ None
 modifiers_brace [] Int rest = refl
 modifiers_brace [] Boolean rest = refl
 modifiers_brace [] BooleanArray rest = refl
@@ -174,17 +244,23 @@ modifiers_brace (Volatile ∷ ms) t rest = refl
 modifiers_brace (Annotation name ∷ ms) t rest = refl
 
 -- no `else` begins a statement or a declaration
-while_else : (label : Option Text) (ks : List Lexeme) → after_word words.Else (onto_label_before label (Reserved words.While ∷ ks)) ≡ None
+while_else : (label : Option Text) (ks : List Lexeme) →
+    after_word words.Else (onto_label_before label (Reserved words.While ∷ ks)) ≡ None
 while_else None ks = refl
 while_else (Some name) ks = refl
 
-for_else : (label : Option Text) (ks : List Lexeme) → after_word words.Else (onto_label_before label (Reserved words.For ∷ ks)) ≡ None
+for_else : (label : Option Text) (ks : List Lexeme) →
+    after_word words.Else (onto_label_before label (Reserved words.For ∷ ks)) ≡ None
 for_else None ks = refl
 for_else (Some name) ks = refl
 
-statement_else : (t : Statement) (rest : List Lexeme) → WellFormedStatement t → after_word words.Else (onto_statement t rest) ≡ None
-statement_else (While label condition body) rest formed = while_else label (onto_condition condition (onto_statement body rest))
-statement_else (For label opening condition updates body) rest formed = for_else label (onto_head opening condition updates (onto_statement body rest))
+statement_else : (t : Statement) (rest : List Lexeme) →
+    WellFormedStatement t →
+    after_word words.Else (onto_statement t rest) ≡ None
+statement_else (While label condition body) rest formed =
+    while_else label (onto_condition condition (onto_statement body rest))
+statement_else (For label opening condition updates body) rest formed =
+    for_else label (onto_head opening condition updates (onto_statement body rest))
 statement_else (Perform simple) rest formed = simple_else simple (Marked signs.Semicolon ∷ rest) formed
 statement_else (Block items) rest formed = refl
 statement_else Empty rest formed = refl
@@ -196,7 +272,8 @@ statement_else (Return value) rest formed = refl
 statement_else (Try body finally) rest formed = refl
 statement_else (Synchronized target body) rest formed = refl
 
-modifiers_else : (ms : List Modifier) (t : TypeName) (rest : List Lexeme) → after_word words.Else (onto_all onto_modifier ms (onto_type t rest)) ≡ None
+modifiers_else : (ms : List Modifier) (t : TypeName) (rest : List Lexeme) →
+    after_word words.Else (onto_all onto_modifier ms (onto_type t rest)) ≡ None
 modifiers_else [] Int rest = refl
 modifiers_else [] Boolean rest = refl
 modifiers_else [] BooleanArray rest = refl
@@ -212,10 +289,13 @@ modifiers_else (Annotation name ∷ ms) t rest = refl
 -- ---- statements
 
 abbrev pub CompleteStatement : Reader Statement → ℕ → Type 0
-CompleteStatement reader limit = (t : Statement) (rest : List Lexeme) → WellFormedStatement t → statement_height t ≤ limit → (ends_open t ≡ true → after_word words.Else rest ≡ None) → reader (onto_statement t rest) ≡ Some (t, rest)
+CompleteStatement reader limit = (t : Statement) (rest : List Lexeme) → WellFormedStatement t →
+    statement_height t ≤ limit → (ends_open t ≡ true → after_word words.Else rest ≡ None) →
+    reader (onto_statement t rest) ≡ Some (t, rest)
 
 abbrev pub CompleteBlock : Reader Items → ℕ → Type 0
-CompleteBlock reader limit = (items : Items) (rest : List Lexeme) → WellFormedItems items → items_height items + 1 ≤ limit → reader (onto_block items rest) ≡ Some (items, rest)
+CompleteBlock reader limit = (items : Items) (rest : List Lexeme) → WellFormedItems items →
+    items_height items + 1 ≤ limit → reader (onto_block items rest) ≡ Some (items, rest)
 
 abbrev uncollected : Items → List Piece
 uncollected NoItem = []
@@ -227,12 +307,20 @@ collected_again NoItem = refl
 collected_again (Do a items) = ap (Do a) (collected_again items)
 collected_again (Declare d items) = ap (Declare d) (collected_again items)
 
-pieces_formed : (limit : ℕ) (items : Items) → WellFormedItems items → items_height items ≤ limit → AllByRecursion (FormedPiece limit) (uncollected items)
+pieces_formed : (limit : ℕ) (items : Items) →
+    WellFormedItems items →
+    items_height items ≤ limit →
+    AllByRecursion (FormedPiece limit) (uncollected items)
 pieces_formed limit NoItem formed fits = tt
-pieces_formed limit (Do a items) formed fits = ((formed.0, omega arith), pieces_formed limit items formed.1 (omega arith))
-pieces_formed limit (Declare d items) formed fits = ((formed.0, omega arith), pieces_formed limit items formed.1 (omega arith))
+pieces_formed limit (Do a items) formed fits =
+    ((formed.0, omega arith), pieces_formed limit items formed.1 (omega arith))
+pieces_formed limit (Declare d items) formed fits =
+    ((formed.0, omega arith), pieces_formed limit items formed.1 (omega arith))
 
-local_complete : (limit : ℕ) (d : Declaration) (rest : List Lexeme) → WellFormedDeclaration d → declaration_height d ≤ limit → local_at limit (onto_declaration d rest) ≡ Some (d, rest)
+local_complete : (limit : ℕ) (d : Declaration) (rest : List Lexeme) →
+    WellFormedDeclaration d →
+    declaration_height d ≤ limit →
+    local_at limit (onto_declaration d rest) ≡ Some (d, rest)
 local_complete zero d rest formed fits = absurd (omega arith)
 local_complete (suc limit) d rest formed fits = declaration_complete limit d rest formed (omega arith)
 
@@ -240,51 +328,86 @@ module _ (limit : ℕ) (statement : Reader Statement) (complete : CompleteStatem
   abbrev NoElse : List Lexeme → Type 0
   NoElse ks = after_word words.Else ks ≡ None
 
-  piece_complete : (p : Piece) (rest : List Lexeme) → FormedPiece limit p → NoElse rest → piece_at (local_at limit) statement (onto_piece p rest) ≡ Some (p, rest)
+  piece_complete : (p : Piece) (rest : List Lexeme) →
+      FormedPiece limit p →
+      NoElse rest →
+      piece_at (local_at limit) statement (onto_piece p rest) ≡ Some (p, rest)
   piece_complete (Doing a) rest formed no_else =
       let o = statement_opens a rest formed.0 in
       rw (o.declares, complete a rest formed.0 formed.1 (λ h. no_else)) refl
-  piece_complete (Declaring d) rest formed no_else = rw (declaration_first d rest, local_complete limit d rest formed.0 formed.1) refl
+  piece_complete (Declaring d) rest formed no_else =
+      rw (declaration_first d rest, local_complete limit d rest formed.0 formed.1) refl
 
-  piece_first : (p : Piece) (rest : List Lexeme) → FormedPiece limit p → (not_yet signs.CloseBrace (onto_piece p rest) ≡ true) × NoElse (onto_piece p rest)
+  piece_first : (p : Piece) (rest : List Lexeme) →
+      FormedPiece limit p →
+      (not_yet signs.CloseBrace (onto_piece p rest) ≡ true) × NoElse (onto_piece p rest)
   piece_first (Doing a) rest formed =
       let o = statement_opens a rest formed.0 in
       (rw o.brace refl, statement_else a rest formed.0)
   piece_first (Declaring d) rest formed =
-      let ks : List Lexeme = onto_declarator d.first (onto_all onto_next_declarator d.more (Marked signs.Semicolon ∷ rest)) in
+      let ks : List Lexeme =
+      onto_declarator d.first (onto_all onto_next_declarator d.more (Marked signs.Semicolon ∷ rest)) in
       (rw (modifiers_brace d.modifiers d.type_name ks) refl, modifiers_else d.modifiers d.type_name ks)
 
-  braces_complete : (items : Items) (rest : List Lexeme) → WellFormedItems items → items_height items ≤ limit → braces_at (piece_at (local_at limit) statement) (onto_block items rest) ≡ Some (items, rest)
+  braces_complete : (items : Items) (rest : List Lexeme) →
+      WellFormedItems items →
+      items_height items ≤ limit →
+      braces_at (piece_at (local_at limit) statement) (onto_block items rest) ≡ Some (items, rest)
   braces_complete items rest formed fits =
-      let is : onto_items items (Marked signs.CloseBrace ∷ rest) ≡ onto_all onto_piece (uncollected items) (Marked signs.CloseBrace ∷ rest) =
-      ap (λ (i : Items). onto_items i (Marked signs.CloseBrace ∷ rest)) (sym (collected_again items)) ∙ onto_collected (uncollected items) (Marked signs.CloseBrace ∷ rest) in
-      let all : many_at (not_yet signs.CloseBrace) (piece_at (local_at limit) statement) (onto_items items (Marked signs.CloseBrace ∷ rest)) ≡ Some (uncollected items, Marked signs.CloseBrace ∷ rest) =
+      let is : onto_items items (Marked signs.CloseBrace ∷ rest) ≡
+      onto_all onto_piece (uncollected items) (Marked signs.CloseBrace ∷ rest) =
+      ap (λ (i : Items). onto_items i (Marked signs.CloseBrace ∷ rest)) (sym (collected_again items)) ∙
+      onto_collected (uncollected items) (Marked signs.CloseBrace ∷ rest) in
+      let all : many_at (not_yet signs.CloseBrace) (piece_at (local_at limit) statement)
+      (onto_items items (Marked signs.CloseBrace ∷ rest)) ≡
+      Some (uncollected items, Marked signs.CloseBrace ∷ rest) =
       ap (many_at (not_yet signs.CloseBrace) (piece_at (local_at limit) statement)) is
-      ∙ many_from_complete onto_piece (FormedPiece limit) (not_yet signs.CloseBrace) (piece_at (local_at limit) statement) NoElse piece_complete piece_first piece_longer
+      ∙ many_from_complete onto_piece (FormedPiece limit) (not_yet signs.CloseBrace)
+      (piece_at (local_at limit) statement) NoElse piece_complete piece_first piece_longer
       [] (uncollected items) (Marked signs.CloseBrace ∷ rest) (pieces_formed limit items formed fits) refl refl in
       rw all (ap (λ (i : Items). Some (i, rest)) (collected_again items))
 
-  condition_again : (condition : Expression) (rest : List Lexeme) → WellFormed false condition → expression_height condition ≤ limit → condition_at (expression_at limit) (onto_condition condition rest) ≡ Some (condition, rest)
-  condition_again condition rest formed fits = rw (expression_complete limit condition (Marked signs.CloseParen ∷ rest) formed fits (follow_close 6 rest)) refl
+  condition_again : (condition : Expression) (rest : List Lexeme) →
+      WellFormed false condition →
+      expression_height condition ≤ limit →
+      condition_at (expression_at limit) (onto_condition condition rest) ≡ Some (condition, rest)
+  condition_again condition rest formed fits =
+      rw (expression_complete limit condition (Marked signs.CloseParen ∷ rest) formed fits (follow_close 6 rest)) refl
 
-  jump_again : (label : Option Text) (rest : List Lexeme) → jump_at (onto_label label (Marked signs.Semicolon ∷ rest)) ≡ Some (label, rest)
+  jump_again : (label : Option Text) (rest : List Lexeme) →
+      jump_at (onto_label label (Marked signs.Semicolon ∷ rest)) ≡ Some (label, rest)
   jump_again None rest = refl
   jump_again (Some name) rest = refl
 
-  value_again : (value : Option Expression) (rest : List Lexeme) → WellFormedValue value → value_height value ≤ limit → value_at (expression_at limit) (onto_value value (Marked signs.Semicolon ∷ rest)) ≡ Some (value, rest)
+  value_again : (value : Option Expression) (rest : List Lexeme) →
+      WellFormedValue value →
+      value_height value ≤ limit →
+      value_at (expression_at limit) (onto_value value (Marked signs.Semicolon ∷ rest)) ≡ Some (value, rest)
   value_again None rest formed fits = refl
   value_again (Some value) rest formed fits =
-      rw (no_semicolon value (Marked signs.Semicolon ∷ rest), expression_complete limit value (Marked signs.Semicolon ∷ rest) formed fits (follow_semicolon 6 rest)) refl
+      rw (
+        no_semicolon value (Marked signs.Semicolon ∷ rest),
+        expression_complete limit value (Marked signs.Semicolon ∷ rest) formed fits (follow_semicolon 6 rest),
+      ) refl
 
-  opening_again : (o : Opening) (rest : List Lexeme) → WellFormedOpening o → opening_height o ≤ limit → opening_at (local_at limit) (simple_at limit) (onto_opening o rest) ≡ Some (o, rest)
-  opening_again (Declares d) rest formed fits = rw (declaration_first d rest, local_complete limit d rest formed fits) refl
+  opening_again : (o : Opening) (rest : List Lexeme) →
+      WellFormedOpening o →
+      opening_height o ≤ limit →
+      opening_at (local_at limit) (simple_at limit) (onto_opening o rest) ≡ Some (o, rest)
+  opening_again (Declares d) rest formed fits =
+      rw (declaration_first d rest, local_complete limit d rest formed fits) refl
   opening_again (Performs []) rest formed fits = refl
   opening_again (Performs (s ∷ ss)) rest formed fits =
-      let o = simple_opens s (onto_all onto_next_simple ss (Marked signs.Semicolon ∷ rest)) formed.0 (others_follow signs.Semicolon semicolon_ends ss rest) in
+      let o = simple_opens s (onto_all onto_next_simple ss (Marked signs.Semicolon ∷ rest)) formed.0
+      (others_follow signs.Semicolon semicolon_ends ss rest) in
       rw (o.declares, simples_complete limit signs.Semicolon semicolon_ends (s ∷ ss) rest formed fits) refl
 
-  head_again : (o : Opening) (c : Option Expression) (us : List Simple) (rest : List Lexeme) → WellFormedOpening o → WellFormedValue c → WellFormedSimples us →
-      opening_height o ≤ limit → value_height c ≤ limit → simples_height us ≤ limit → head_in limit (onto_head o c us rest) ≡ Some ((o, c, us), rest)
+  head_again : (o : Opening) (c : Option Expression) (us : List Simple) (rest : List Lexeme) →
+      WellFormedOpening o →
+      WellFormedValue c →
+      WellFormedSimples us →
+      opening_height o ≤ limit → value_height c ≤ limit → simples_height us ≤ limit →
+      head_in limit (onto_head o c us rest) ≡ Some ((o, c, us), rest)
   head_again o c us rest formed formed' formed'' fits fits' fits'' =
       let ks : List Lexeme = onto_simples us (Marked signs.CloseParen ∷ rest) in
       rw (
@@ -296,61 +419,127 @@ module _ (limit : ℕ) (statement : Reader Statement) (complete : CompleteStatem
   module _ (block : Reader Items) where
     -- a statement that begins by an expression
     by_expression : (t : Expression) (rest : List Lexeme) → is_post t ≡ true → WellFormed false t →
-        statement_of limit statement block (onto t rest) ≡ other_at (simple_from (post_at limit false) (expression_at limit)) (expression_at limit) (head_in limit) statement (onto t rest)
+        statement_of limit statement block (onto t rest) ≡
+        other_at (simple_from (post_at limit false) (expression_at limit)) (expression_at limit) (head_in limit)
+        statement (onto t rest)
     by_expression t rest post formed =
         let h = post_head (λ k. first_of k ≡ FirstOther)
-        (record { number = λ text. refl; name = λ text. refl; yes' = refl; no' = refl; null = refl; this = refl; new = refl; paren = refl }) false t rest post formed in
-        ap (statement_of limit statement block) h.2 ∙ rw h.3 refl ∙ ap (other_at (simple_from (post_at limit false) (expression_at limit)) (expression_at limit) (head_in limit) statement) (sym h.2)
+        (record {
+          number = λ text. refl;
+          name = λ text. refl;
+          yes' = refl;
+          no' = refl;
+          null = refl;
+          this = refl;
+          new =
+              refl;
+          paren = refl;
+        }) false t rest post formed in
+        ap (statement_of limit statement block) h.2 ∙ rw h.3 refl ∙
+        ap (other_at (simple_from (post_at limit false) (expression_at limit)) (expression_at limit) (head_in limit)
+        statement) (sym h.2)
 
     by_simple : (s : Simple) (rest : List Lexeme) → WellFormedSimple s →
-        statement_of limit statement block (onto_simple s rest) ≡ other_at (simple_from (post_at limit false) (expression_at limit)) (expression_at limit) (head_in limit) statement (onto_simple s rest)
-    by_simple (Assign target value) rest formed = by_expression target (Marked signs.Assign ∷ onto value rest) formed.0 formed.1
-    by_simple (Add target value) rest formed = by_expression target (Marked signs.PlusAssign ∷ onto value rest) formed.0 formed.1
+        statement_of limit statement block (onto_simple s rest) ≡
+        other_at (simple_from (post_at limit false) (expression_at limit)) (expression_at limit) (head_in limit)
+        statement (onto_simple s rest)
+    by_simple (Assign target value) rest formed =
+        by_expression target (Marked signs.Assign ∷ onto value rest) formed.0 formed.1
+    by_simple (Add target value) rest formed =
+        by_expression target (Marked signs.PlusAssign ∷ onto value rest) formed.0 formed.1
     by_simple (Count true true target) rest formed = refl
     by_simple (Count false true target) rest formed = refl
-    by_simple (Count true false target) rest formed = by_expression target (Marked signs.Increment ∷ rest) formed.0 formed.1
-    by_simple (Count false false target) rest formed = by_expression target (Marked signs.Decrement ∷ rest) formed.0 formed.1
+    by_simple (Count true false target) rest formed =
+        by_expression target (Marked signs.Increment ∷ rest) formed.0 formed.1
+    by_simple (Count false false target) rest formed =
+        by_expression target (Marked signs.Decrement ∷ rest) formed.0 formed.1
     by_simple (Evaluate value) rest formed = by_expression value rest (called value formed.0) formed.1
 
-    perform_again : (s : Simple) (rest : List Lexeme) → WellFormedSimple s → simple_height s ≤ suc limit → statement_of limit statement block (onto_statement (Perform s) rest) ≡ Some (Perform s, rest)
+    perform_again : (s : Simple) (rest : List Lexeme) →
+        WellFormedSimple s →
+        simple_height s ≤ suc limit →
+        statement_of limit statement block (onto_statement (Perform s) rest) ≡ Some (Perform s, rest)
     perform_again s rest formed fits =
         let ks : List Lexeme = Marked signs.Semicolon ∷ rest in
-        by_simple s ks formed ∙ rw (simple_label s ks formed (simple_semicolon rest), from_again limit s ks formed fits (simple_semicolon rest)) refl
+        by_simple s ks formed ∙
+        rw (
+          simple_label s ks formed (simple_semicolon rest),
+          from_again limit s ks formed fits (simple_semicolon rest),
+        ) refl
 
-    for_again : (label : Option Text) (o : Opening) (c : Option Expression) (us : List Simple) (body : Statement) (rest : List Lexeme) → WellFormedStatement (For label o c us body) → statement_height (For label o c us body) ≤ suc limit →
-        (ends_open body ≡ true → after_word words.Else rest ≡ None) → statement_of limit statement block (onto_statement (For label o c us body) rest) ≡ Some (For label o c us body, rest)
+    for_again :
+        (label : Option Text) (o : Opening) (c : Option Expression) (us : List Simple) (body : Statement)
+        (rest : List Lexeme) →
+        WellFormedStatement (For label o c us body) →
+        statement_height (For label o c us body) ≤ suc limit →
+        (ends_open body ≡ true → after_word words.Else rest ≡ None) →
+        statement_of limit statement block (onto_statement (For label o c us body) rest) ≡
+        Some (For label o c us body, rest)
     for_again None o c us body rest formed fits stops =
-        rw (head_again o c us (onto_statement body rest) formed.0 formed.1 formed.2 (omega arith) (omega arith) (omega arith), complete body rest formed.3 (omega arith) stops) refl
+        rw (
+          head_again o c us (onto_statement body rest) formed.0 formed.1 formed.2 (omega arith) (omega arith)
+              (omega arith),
+          complete body rest formed.3 (omega arith) stops,
+        ) refl
     for_again (Some name) o c us body rest formed fits stops =
-        rw (head_again o c us (onto_statement body rest) formed.0 formed.1 formed.2 (omega arith) (omega arith) (omega arith), complete body rest formed.3 (omega arith) stops) refl
+        rw (
+          head_again o c us (onto_statement body rest) formed.0 formed.1 formed.2 (omega arith) (omega arith)
+              (omega arith),
+          complete body rest formed.3 (omega arith) stops,
+        ) refl
 
-    while_again : (label : Option Text) (condition : Expression) (body : Statement) (rest : List Lexeme) → WellFormed false condition → WellFormedStatement body → expression_height condition ≤ limit → statement_height body ≤ limit → (ends_open body ≡ true → after_word words.Else rest ≡ None)
-        → statement_of limit statement block (onto_statement (While label condition body) rest) ≡ Some (While label condition body, rest)
+    while_again : (label : Option Text) (condition : Expression) (body : Statement) (rest : List Lexeme) →
+        WellFormed false condition →
+        WellFormedStatement body →
+        expression_height condition ≤ limit →
+        statement_height body ≤ limit →
+        (ends_open body ≡ true → after_word words.Else rest ≡ None)
+        → statement_of limit statement block (onto_statement (While label condition body) rest) ≡
+        Some (While label condition body, rest)
     while_again None condition body rest formed formed' fits fits' stops =
-        rw (condition_again condition (onto_statement body rest) formed fits, complete body rest formed' fits' stops) refl
+        rw (condition_again condition (onto_statement body rest) formed fits, complete body rest formed' fits' stops)
+        refl
     while_again (Some name) condition body rest formed formed' fits fits' stops =
-        rw (condition_again condition (onto_statement body rest) formed fits, complete body rest formed' fits' stops) refl
+        rw (condition_again condition (onto_statement body rest) formed fits, complete body rest formed' fits' stops)
+        refl
 
-    statement_of_complete : CompleteBlock block limit → CompleteStatement (statement_of limit statement block) (suc limit)
-    statement_of_complete blocks (Block items) rest formed fits stops = rw (braces_complete items rest formed (omega arith)) refl
+    statement_of_complete : CompleteBlock block limit →
+        CompleteStatement (statement_of limit statement block) (suc limit)
+    statement_of_complete blocks (Block items) rest formed fits stops =
+        rw (braces_complete items rest formed (omega arith)) refl
     statement_of_complete blocks Empty rest formed fits stops = refl
     statement_of_complete blocks (If condition first) rest formed fits stops =
-        rw (condition_again condition (onto_statement first rest) formed.0 (omega arith), complete first rest formed.1 (omega arith) (λ h. stops refl), stops refl) refl
+        rw (
+          condition_again condition (onto_statement first rest) formed.0 (omega arith),
+          complete first rest formed.1 (omega arith) (λ h. stops refl),
+          stops refl,
+        ) refl
     statement_of_complete blocks (IfElse condition first second) rest formed fits stops =
         rw (
-          condition_again condition (onto_statement first (Reserved words.Else ∷ onto_statement second rest)) formed.0 (omega arith),
-          complete first (Reserved words.Else ∷ onto_statement second rest) formed.1 (omega arith) (λ h. absurd (let closed = formed.2 in cc (h, closed))),
+          condition_again condition (onto_statement first (Reserved words.Else ∷ onto_statement second rest)) formed.0
+              (omega arith),
+          complete first (Reserved words.Else ∷ onto_statement second rest) formed.1 (omega arith)
+              (λ h. absurd (let closed = formed.2 in cc (h, closed))),
           complete second rest formed.3 (omega arith) stops,
         ) refl
-    statement_of_complete blocks (While label condition body) rest formed fits stops = while_again label condition body rest formed.0 formed.1 (omega arith) (omega arith) stops
-    statement_of_complete blocks (For label o c us body) rest formed fits stops = for_again label o c us body rest formed fits stops
+    statement_of_complete blocks (While label condition body) rest formed fits stops =
+        while_again label condition body rest formed.0 formed.1 (omega arith) (omega arith) stops
+    statement_of_complete blocks (For label o c us body) rest formed fits stops =
+        for_again label o c us body rest formed fits stops
     statement_of_complete blocks (Break label) rest formed fits stops = rw (jump_again label rest) refl
     statement_of_complete blocks (Continue label) rest formed fits stops = rw (jump_again label rest) refl
-    statement_of_complete blocks (Return value) rest formed fits stops = rw (value_again value rest formed (omega arith)) refl
+    statement_of_complete blocks (Return value) rest formed fits stops =
+        rw (value_again value rest formed (omega arith)) refl
     statement_of_complete blocks (Try body finally) rest formed fits stops =
-        rw (blocks body (Reserved words.Finally ∷ onto_block finally rest) formed.0 (omega arith), blocks finally rest formed.1 (omega arith)) refl
+        rw (
+          blocks body (Reserved words.Finally ∷ onto_block finally rest) formed.0 (omega arith),
+          blocks finally rest formed.1 (omega arith),
+        ) refl
     statement_of_complete blocks (Synchronized target body) rest formed fits stops =
-        rw (condition_again target (onto_block body rest) formed.0 (omega arith), blocks body rest formed.1 (omega arith)) refl
+        rw (
+          condition_again target (onto_block body rest) formed.0 (omega arith),
+          blocks body rest formed.1 (omega arith),
+        ) refl
     statement_of_complete blocks (Perform simple) rest formed fits stops = perform_again simple rest formed fits
 
 statement_pos : (t : Statement) → 1 ≤ statement_height t
@@ -369,10 +558,15 @@ statement_pos (Perform simple) = simple_pos simple
 
 pub nested_complete : (limit : ℕ) → CompleteStatement (statement_at limit) limit × CompleteBlock (block_at limit) limit
 unfolding nested_at
-nested_complete zero = (λ t rest formed fits stops. absurd (omega (arith, statement_pos t)), λ items rest formed fits. absurd (omega arith))
+nested_complete zero = (
+  λ t rest formed fits stops. absurd (omega (arith, statement_pos t)),
+  λ items rest formed fits. absurd (omega arith),
+)
 nested_complete (suc limit) =
-    let inner = nested_complete limit in
-    (statement_of_complete limit (statement_at limit) inner.0 (block_at limit) inner.1, λ items rest formed fits. braces_complete limit (statement_at limit) inner.0 items rest formed (omega arith))
+    let inner = nested_complete limit in (
+      statement_of_complete limit (statement_at limit) inner.0 (block_at limit) inner.1,
+      λ items rest formed fits. braces_complete limit (statement_at limit) inner.0 items rest formed (omega arith),
+    )
 
 -- a block that is spelled is read again
 pub block_complete : (limit : ℕ) → CompleteBlock (block_at limit) limit

@@ -5,9 +5,12 @@ use Rattle.ls_lexer.specs.declared.word.Word.TheVariants as words
 use Rattle.ls_lexer.specs.declared.sign.Sign.{Sign}
 use Rattle.ls_lexer.specs.declared.sign.Sign.TheVariants as signs
 use Rattle.ls_lexer.specs.Lexemes.{Lexeme, Named, Numeral, Reserved, Marked}
-use Rattle.ls_tree.specs.Trees.{Text, Expression, Declaration, Simple, Statement, Block, Empty, If, IfElse, While, For, Break, Continue, Return, Try, Perform, Synchronized, Assign, Add, Count, Evaluate, Opening, Declares, Performs, Items, Piece, Doing, Declaring, collected}
+use Rattle.ls_tree.specs.Trees.{Text, Expression, Declaration, Simple, Statement, Block, Empty, If, IfElse, While}
+use Rattle.ls_tree.specs.Trees.{For, Break, Continue, Return, Try, Perform, Synchronized, Assign, Add, Count}
+use Rattle.ls_tree.specs.Trees.{Evaluate, Opening, Declares, Performs, Items, Piece, Doing, Declaring, collected}
 use Rattle.ls_tree.specs.WellFormed.{is_call}
-use Rattle.ls_parser_tokens.specs.Reading.{◌>>=◌, Reader, given, after_sign, after_word, name_at, starts, many_from, many_at, behind_comma, not_yet}
+use Rattle.ls_parser_tokens.specs.Reading.{◌>>=◌, Reader, given, after_sign, after_word, name_at, starts, many_from}
+use Rattle.ls_parser_tokens.specs.Reading.{many_at, behind_comma, not_yet}
 use Rattle.ls_parser_expressions.specs.ReadingExpressions.{expression_at, post_at}
 use Rattle.ls_parser_declarations.specs.ReadingDeclarations.{declaration_at, starts_declaration}
 
@@ -45,7 +48,10 @@ if_at expression statement ks =
 -- what comes after `while`
 abbrev pub while_at : Reader Expression → Reader Statement → Option Text → Reader Statement
 while_at expression statement label ks =
-    condition_at expression ks >>= λ condition. statement condition.1 >>= λ body. Some (While label condition.0 body.0, body.1)
+    condition_at expression ks >>= λ condition. statement condition.1 >>= λ body. Some (
+      While label condition.0 body.0,
+      body.1,
+    )
 
 -- a label or none, and a semicolon
 abbrev pub jump_at : Reader (Option Text)
@@ -132,19 +138,29 @@ opening_at declaration simple ks =
     else (simples_to signs.Semicolon simple ks >>= λ all. Some (Performs all.0, all.1))
 
 -- the head of a `for`, in parentheses
-abbrev pub head_at : Reader Declaration → Reader Simple → Reader Expression → Reader (Opening × Option Expression × List Simple)
+abbrev pub head_at : Reader Declaration →
+    Reader Simple →
+    Reader Expression →
+    Reader (Opening × Option Expression × List Simple)
 head_at declaration simple expression ks =
     after_sign signs.OpenParen ks >>= λ rest. opening_at declaration simple rest >>= λ opening.
     value_at expression opening.1 >>= λ condition.
     simples_to signs.CloseParen simple condition.1 >>= λ updates. Some ((opening.0, condition.0, updates.0), updates.1)
 
 -- what comes after `for`
-abbrev pub for_at : Reader (Opening × Option Expression × List Simple) → Reader Statement → Option Text → Reader Statement
+abbrev pub for_at : Reader (Opening × Option Expression × List Simple) →
+    Reader Statement →
+    Option Text →
+    Reader Statement
 for_at head statement label ks =
     head ks >>= λ h. statement h.1 >>= λ body. Some (For label h.0.0 h.0.1 h.0.2 body.0, body.1)
 
 -- a loop after its label
-abbrev pub loop_at : Reader Expression → Reader (Opening × Option Expression × List Simple) → Reader Statement → Text → Reader Statement
+abbrev pub loop_at : Reader Expression →
+    Reader (Opening × Option Expression × List Simple) →
+    Reader Statement →
+    Text →
+    Reader Statement
 loop_at expression head statement label ks =
     given (after_word words.While ks) (λ rest. while_at expression statement (Some label) rest)
     (after_word words.For ks >>= λ rest. for_at head statement (Some label) rest)
@@ -154,7 +170,11 @@ abbrev pub perform_at : Reader Simple → Reader Statement
 perform_at simple ks = simple ks >>= λ s. after_sign signs.Semicolon s.1 >>= λ rest. Some (Perform s.0, rest)
 
 -- a loop with a label, or a simple form
-abbrev pub other_at : Reader Simple → Reader Expression → Reader (Opening × Option Expression × List Simple) → Reader Statement → Reader Statement
+abbrev pub other_at : Reader Simple →
+    Reader Expression →
+    Reader (Opening × Option Expression × List Simple) →
+    Reader Statement →
+    Reader Statement
 other_at simple expression head statement ks =
     given (label_at ks) (λ label. loop_at expression head statement label.0 label.1) (perform_at simple ks)
 
@@ -215,11 +235,13 @@ statement_from FirstReturn limit statement block piece all rest = return_at (exp
 statement_from FirstTry limit statement block piece all rest = try_at block rest
 statement_from FirstSynchronized limit statement block piece all rest = synchronized_at (expression_at limit) block rest
 statement_from FirstOther limit statement block piece all rest =
-    other_at (simple_from (post_at limit false) (expression_at limit)) (expression_at limit) (head_in limit) statement all
+    other_at (simple_from (post_at limit false) (expression_at limit)) (expression_at limit) (head_in limit) statement
+    all
 
 abbrev pub statement_of : ℕ → Reader Statement → Reader Items → Reader Statement
 statement_of limit statement block [] = None
-statement_of limit statement block (k ∷ ks) = statement_from (first_of k) limit statement block (piece_at (local_at limit) statement) (k ∷ ks) ks
+statement_of limit statement block (k ∷ ks) =
+    statement_from (first_of k) limit statement block (piece_at (local_at limit) statement) (k ∷ ks) ks
 
 -- a statement and a block of at most this height
 unfoldable pub nested_at : ℕ → Reader Statement × Reader Items
@@ -236,4 +258,6 @@ block_at limit = (nested_at limit).1
 
 -- the statement that a first token begins; the limit is that of the parts of the statement
 abbrev pub begun_at : ℕ → First → List Lexeme → Reader Statement
-begun_at limit first all rest = statement_from first limit (statement_at limit) (block_at limit) (piece_at (local_at limit) (statement_at limit)) all rest
+begun_at limit first all rest =
+    statement_from first limit (statement_at limit) (block_at limit) (piece_at (local_at limit) (statement_at limit))
+    all rest

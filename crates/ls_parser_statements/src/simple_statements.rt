@@ -6,16 +6,20 @@ ghost use Rattle.ls_lexer.specs.declared.word.Word.TheVariants as words;
 ghost use Rattle.ls_lexer.specs.Lexemes.{lexemes};
 ghost use Rattle.ls_lexer.specs.declared.sign.Sign.TheVariants as signs;
 ghost use Rattle.ls_tree.specs.Trees as trees;
-ghost use Rattle.ls_tree.specs.WellFormed.{expression_height, value_height, declaration_height, statement_height, piece_height};
+ghost use Rattle.ls_tree.specs.WellFormed.{expression_height, value_height, declaration_height, statement_height};
+ghost use Rattle.ls_tree.specs.WellFormed.{piece_height};
 ghost use Rattle.ls_tree.specs.Views.{name_text, bare, bare_declaration, bare_statement, bare_piece, bare_block};
 ghost use Rattle.ls_tree.specs.PlacedTrees as placed_trees;
 ghost use Rattle.ls_tree.specs.Placed.{placed, placed_name};
 ghost use Rattle.ls_tree.specs.PlacedStatements.{placed_declaration, placed_statement, placed_before, placed_items};
 ghost use Rattle.ls_parser_spelling.specs.Places.{Spot, spot, sign, spots, At};
-ghost use Rattle.ls_parser_spelling.specs.StatementPlaces.{word, DeclarationAt, ConditionAt, JumpAt, ReturnedAt, StatementAt, ItemsAt};
-ghost use Rattle.ls_parser_tokens.specs.Answers.{Gives, Finds};
+ghost use Rattle.ls_parser_spelling.specs.StatementPlaces.{word, DeclarationAt, ConditionAt, JumpAt, ReturnedAt};
+ghost use Rattle.ls_parser_spelling.specs.StatementPlaces.{StatementAt, ItemsAt};
+ghost use Rattle.ls_parser_tokens.specs.Answers.{ReadsAs, Finds};
 ghost use Rattle.ls_parser_expressions.specs.ReadingExpressions.{expression_at};
-ghost use Rattle.ls_parser_statements.specs.ReadingStatements.{local_at, condition_at, jump_at, ended_at, value_at, label_at, declared_at, break_at, continue_at, return_at};
+ghost use Rattle.ls_parser_statements.specs.ReadingStatements.{local_at, condition_at, jump_at, ended_at, value_at};
+ghost use Rattle.ls_parser_statements.specs.ReadingStatements.{label_at, declared_at, break_at, continue_at};
+ghost use Rattle.ls_parser_statements.specs.ReadingStatements.{return_at};
 
 use ls_lexer::fault::TextFault;
 use ls_lexer::sign::Sign;
@@ -27,7 +31,7 @@ use ls_parser_tokens::tokens::{
     Context, Enclosed, NamePart, Part, closed_part, expect, make_name, name_part, sign_part,
     too_deep, upto,
 };
-use ls_tree::tree::{Block, BlockItem, Declaration, Expr, Name, Statement};
+use ls_tree::tree::{Block, BlockItem, Declaration, Expression, Name, Statement};
 use std::alloc::AllocError;
 
 /// A local declaration of at most this height.
@@ -37,8 +41,10 @@ pub fn local_declaration<'t, 'a>(
     tokens: &'t [Token<'a>],
     limit: usize,
 ) -> Result<Part<'t, 'a, Declaration>, TextFault>
-    ensures read { Gives (λ p. (bare_declaration p.tree, lexemes p.rest.now)) result (local_at limit (lexemes tokens.now)) }
-    ensures places { IfOk result (λ p. DeclarationAt (placed_declaration p.tree) (spots tokens.now) (spots p.rest.now)) }
+    ensures read { ReadsAs (λ p. (bare_declaration p.tree, lexemes p.rest.now)) result
+        (local_at limit (lexemes tokens.now)) }
+    ensures places { IfOk result
+        (λ p. DeclarationAt (placed_declaration p.tree) (spots tokens.now) (spots p.rest.now)) }
     ensures height { IfOk result (λ p. (p.height ≡ declaration_height (bare_declaration p.tree)) × (p.height ≤ limit)) }
 {
     if limit == 0 {
@@ -59,8 +65,10 @@ pub fn local<'t, 'a>(
     tokens: &'t [Token<'a>],
     limit: usize,
 ) -> Result<Part<'t, 'a, BlockItem>, TextFault>
-    ensures read { Gives (λ p. (bare_piece p.tree, lexemes p.rest.now)) result (declared_at (local_at limit) (lexemes tokens.now)) }
-    ensures places { IfOk result (λ p. ItemsAt (placed_before p.tree placed_trees.NoItem) (spots tokens.now) (spots p.rest.now)) }
+    ensures read { ReadsAs (λ p. (bare_piece p.tree, lexemes p.rest.now)) result
+        (declared_at (local_at limit) (lexemes tokens.now)) }
+    ensures places { IfOk result
+        (λ p. ItemsAt (placed_before p.tree placed_trees.NoItem) (spots tokens.now) (spots p.rest.now)) }
     ensures height { IfOk result (λ p. (p.height ≡ piece_height (bare_piece p.tree)) × (p.height ≤ limit)) }
 {
     let found = local_declaration(context, tokens, limit)?;
@@ -76,8 +84,9 @@ pub fn condition<'t, 'a>(
     context: Context,
     tokens: &'t [Token<'a>],
     limit: usize,
-) -> Result<Enclosed<'t, 'a, Expr>, TextFault>
-    ensures read { Gives (λ p. (bare p.tree, lexemes p.rest.now)) result (condition_at (expression_at limit) (lexemes tokens.now)) }
+) -> Result<Enclosed<'t, 'a, Expression>, TextFault>
+    ensures read { ReadsAs (λ p. (bare p.tree, lexemes p.rest.now)) result
+        (condition_at (expression_at limit) (lexemes tokens.now)) }
     ensures places { IfOk result (λ p. ConditionAt (placed p.tree) (spots tokens.now) (spots p.rest.now)) }
     ensures height { IfOk result (λ p. (p.height ≡ expression_height (bare p.tree)) × (p.height ≤ limit)) }
 {
@@ -101,8 +110,10 @@ pub fn jump_part<'t, 'a>(
     context: Context,
     tokens: &'t [Token<'a>],
 ) -> Result<Jump<'t, 'a>, TextFault>
-    ensures read { Gives (λ j. (option_map name_text j.label, lexemes j.rest.now)) result (jump_at (lexemes tokens.now)) }
-    ensures places { IfOk result (λ j. JumpAt (option_map placed_name j.label) j.end (spots tokens.now) (spots j.rest.now)) }
+    ensures read { ReadsAs (λ j. (option_map name_text j.label, lexemes j.rest.now)) result
+        (jump_at (lexemes tokens.now)) }
+    ensures places { IfOk result
+        (λ j. JumpAt (option_map placed_name j.label) j.end (spots tokens.now) (spots j.rest.now)) }
 {
     match name_part(tokens) {
         Some(found) => {
@@ -132,8 +143,9 @@ pub fn break_statement<'t, 'a>(
     start: Span,
     tokens: &'t [Token<'a>],
 ) -> Result<Part<'t, 'a, Statement>, TextFault>
-    ensures read { Gives (λ p. (bare_statement p.tree, lexemes p.rest.now)) result (break_at (lexemes tokens.now)) }
-    ensures places { IfOk result (λ p. StatementAt (placed_statement p.tree) (word words.Break start ∷ spots tokens.now) (spots p.rest.now)) }
+    ensures read { ReadsAs (λ p. (bare_statement p.tree, lexemes p.rest.now)) result (break_at (lexemes tokens.now)) }
+    ensures places { IfOk result (λ p. StatementAt (placed_statement p.tree) (word words.Break start ∷ spots tokens.now)
+        (spots p.rest.now)) }
     ensures height { IfOk result (λ p. (p.height ≡ statement_height (bare_statement p.tree)) × (p.height ≡ 1)) }
 {
     let jump = jump_part(context, tokens)?;
@@ -154,8 +166,10 @@ pub fn continue_statement<'t, 'a>(
     start: Span,
     tokens: &'t [Token<'a>],
 ) -> Result<Part<'t, 'a, Statement>, TextFault>
-    ensures read { Gives (λ p. (bare_statement p.tree, lexemes p.rest.now)) result (continue_at (lexemes tokens.now)) }
-    ensures places { IfOk result (λ p. StatementAt (placed_statement p.tree) (word words.Continue start ∷ spots tokens.now) (spots p.rest.now)) }
+    ensures read { ReadsAs (λ p. (bare_statement p.tree, lexemes p.rest.now)) result
+        (continue_at (lexemes tokens.now)) }
+    ensures places { IfOk result
+        (λ p. StatementAt (placed_statement p.tree) (word words.Continue start ∷ spots tokens.now) (spots p.rest.now)) }
     ensures height { IfOk result (λ p. (p.height ≡ statement_height (bare_statement p.tree)) × (p.height ≡ 1)) }
 {
     let jump = jump_part(context, tokens)?;
@@ -174,9 +188,11 @@ fn ended<'t, 'a>(
     context: Context,
     tokens: &'t [Token<'a>],
     limit: usize,
-) -> Result<Enclosed<'t, 'a, Expr>, TextFault>
-    ensures read { Gives (λ p. (bare p.tree, lexemes p.rest.now)) result (ended_at (expression_at limit) (lexemes tokens.now)) }
-    ensures places { IfOk result (λ p. At (placed p.tree) (spots tokens.now) (sign signs.Semicolon p.end ∷ spots p.rest.now)) }
+) -> Result<Enclosed<'t, 'a, Expression>, TextFault>
+    ensures read { ReadsAs (λ p. (bare p.tree, lexemes p.rest.now)) result
+        (ended_at (expression_at limit) (lexemes tokens.now)) }
+    ensures places { IfOk result
+        (λ p. At (placed p.tree) (spots tokens.now) (sign signs.Semicolon p.end ∷ spots p.rest.now)) }
     ensures height { IfOk result (λ p. (p.height ≡ expression_height (bare p.tree)) × (p.height ≤ limit)) }
 {
     let value = binary(context, tokens, 6, limit)?;
@@ -189,9 +205,11 @@ pub fn value_part<'t, 'a>(
     context: Context,
     tokens: &'t [Token<'a>],
     limit: usize,
-) -> Result<Enclosed<'t, 'a, Option<Expr>>, TextFault>
-    ensures read { Gives (λ p. (option_map bare p.tree, lexemes p.rest.now)) result (value_at (expression_at limit) (lexemes tokens.now)) }
-    ensures places { IfOk result (λ p. ReturnedAt (option_map placed p.tree) p.end (spots tokens.now) (spots p.rest.now)) }
+) -> Result<Enclosed<'t, 'a, Option<Expression>>, TextFault>
+    ensures read { ReadsAs (λ p. (option_map bare p.tree, lexemes p.rest.now)) result
+        (value_at (expression_at limit) (lexemes tokens.now)) }
+    ensures places { IfOk result
+        (λ p. ReturnedAt (option_map placed p.tree) p.end (spots tokens.now) (spots p.rest.now)) }
     ensures height { IfOk result (λ p. (p.height ≡ value_height (option_map bare p.tree)) × (p.height ≤ limit)) }
 {
     if let Some(end) = sign_part(tokens, Sign::Semicolon) {
@@ -221,8 +239,10 @@ pub fn return_statement<'t, 'a>(
     limit: usize,
 ) -> Result<Part<'t, 'a, Statement>, TextFault>
     requires { limit + 1 < 2 ^ 64 }
-    ensures read { Gives (λ p. (bare_statement p.tree, lexemes p.rest.now)) result (return_at (expression_at limit) (lexemes tokens.now)) }
-    ensures places { IfOk result (λ p. StatementAt (placed_statement p.tree) (word words.Return start ∷ spots tokens.now) (spots p.rest.now)) }
+    ensures read { ReadsAs (λ p. (bare_statement p.tree, lexemes p.rest.now)) result
+        (return_at (expression_at limit) (lexemes tokens.now)) }
+    ensures places { IfOk result
+        (λ p. StatementAt (placed_statement p.tree) (word words.Return start ∷ spots tokens.now) (spots p.rest.now)) }
     ensures height { IfOk result (λ p. (p.height ≡ statement_height (bare_statement p.tree)) × (p.height ≤ limit + 1)) }
 {
     let value = value_part(context, tokens, limit)?;
@@ -247,7 +267,8 @@ pub fn block_tree(block: Block) -> Statement
 /// A `try` with its block and its `finally` block.
 pub fn try_tree(body: Block, finally: Block, span: Span) -> Statement
     ensures read { bare_statement result ≡ trees.Try (bare_block body) (bare_block finally) }
-    ensures places { placed_statement result ≡ placed_trees.Try (placed_items body.items.items) (placed_items finally.items.items) }
+    ensures places { placed_statement result ≡
+        placed_trees.Try (placed_items body.items.items) (placed_items finally.items.items) }
 {
     Statement::Try {
         body,
@@ -257,9 +278,10 @@ pub fn try_tree(body: Block, finally: Block, span: Span) -> Statement
 }
 
 /// A `synchronized` statement.
-pub fn synchronized_tree(target: Expr, body: Block, span: Span) -> Statement
+pub fn synchronized_tree(target: Expression, body: Block, span: Span) -> Statement
     ensures read { bare_statement result ≡ trees.Synchronized (bare target) (bare_block body) }
-    ensures places { placed_statement result ≡ placed_trees.Synchronized (placed target) (placed_items body.items.items) }
+    ensures places { placed_statement result ≡
+        placed_trees.Synchronized (placed target) (placed_items body.items.items) }
 {
     Statement::Synchronized { target, body, span }
 }
@@ -267,7 +289,9 @@ pub fn synchronized_tree(target: Expr, body: Block, span: Span) -> Statement
 /// A name and a colon, and the tokens after the colon.
 pub fn label_part<'t, 'a>(tokens: &'t [Token<'a>]) -> Option<NamePart<'t, 'a>>
     ensures read { Finds (λ l. (l.text.now, lexemes l.rest.now)) result (label_at (lexemes tokens.now)) }
-    ensures places { IfSome result (λ l. (colon : Span) × (spots tokens.now ≡ spot (Named l.text.now) l.span ∷ sign signs.Colon colon ∷ spots l.rest.now)) }
+    ensures places { IfSome result
+        (λ l. (colon : Span) ×
+        (spots tokens.now ≡ spot (Named l.text.now) l.span ∷ sign signs.Colon colon ∷ spots l.rest.now)) }
 {
     let found = name_part(tokens)?;
     let colon = sign_part(found.rest, Sign::Colon)?;

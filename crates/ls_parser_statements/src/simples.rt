@@ -3,17 +3,21 @@
 ghost use Rattle.std.specs.Prelude.{◌≡◌, ◌+◌, ◌<◌, ◌≤◌, ◌^◌, ◌∷◌, List, IfOk, IfSome, map, max, option_map, false};
 ghost use Rattle.ls_lexer.specs.Lexemes.{lexemes};
 ghost use Rattle.ls_lexer.specs.declared.token.Span.{Span};
-ghost use Rattle.ls_tree.specs.WellFormed.{expression_height, value_height, simple_height, simples_height, opening_height, statement_height, is_call};
+ghost use Rattle.ls_tree.specs.WellFormed.{expression_height, value_height, simple_height, simples_height};
+ghost use Rattle.ls_tree.specs.WellFormed.{opening_height, statement_height, is_call};
 ghost use Rattle.ls_tree.specs.Views.{bare, bare_simple, bare_opening, bare_statement};
 ghost use Rattle.ls_tree.specs.Placed.{placed};
 ghost use Rattle.ls_tree.specs.PlacedStatements.{placed_simple, placed_opening, placed_statement};
 ghost use Rattle.ls_parser_spelling.specs.Spelling.{count_sign};
 ghost use Rattle.ls_parser_spelling.specs.Places.{Spot, spots, sign, At};
-ghost use Rattle.ls_parser_spelling.specs.StatementPlaces.{SimpleAt, SomeSimplesAt, SimplesAt, OpeningAt, HeadAt, StatementAt};
-ghost use Rattle.ls_parser_tokens.specs.Answers.{Gives, Finds};
+ghost use Rattle.ls_parser_spelling.specs.StatementPlaces.{SimpleAt, SomeSimplesAt, SimplesAt, OpeningAt, HeadAt};
+ghost use Rattle.ls_parser_spelling.specs.StatementPlaces.{StatementAt};
+ghost use Rattle.ls_parser_tokens.specs.Answers.{ReadsAs, Finds};
 ghost use Rattle.ls_parser_tokens.specs.Reading.{one_more, behind_comma};
 ghost use Rattle.ls_parser_expressions.specs.ReadingExpressions.{expression_at, post_at};
-ghost use Rattle.ls_parser_statements.specs.ReadingStatements.{counted_at, used_at, simple_from, simple_at, simples_at, simples_to, local_at, opening_at, head_in, perform_at};
+ghost use Rattle.ls_parser_statements.specs.ReadingStatements.{counted_at, used_at, simple_from, simple_at};
+ghost use Rattle.ls_parser_statements.specs.ReadingStatements.{simples_at, simples_to, local_at, opening_at, head_in};
+ghost use Rattle.ls_parser_statements.specs.ReadingStatements.{perform_at};
 
 use crate::simple_statements::{local_declaration, value_part};
 use ls_lexer::fault::TextFault;
@@ -25,13 +29,14 @@ use ls_parser_tokens::tokens::{
     Context, Part, Read, closed_part, expect, push, sign_part, span_to, starts_with, syntax,
     too_deep,
 };
-use ls_tree::tree::{Expr, Opening, Simple, Statement};
+use ls_tree::tree::{Expression, Opening, Simple, Statement};
 
 // Whether `++`, which counts up, or `--` comes first, and the tokens after it.
 #[tactic(auto, using(crate::proofs::SimplePlaces::up_is, crate::proofs::SimplePlaces::down_is))]
 fn counted<'t, 'a>(tokens: &'t [Token<'a>]) -> Option<Read<'t, 'a, bool>>
     ensures read { Finds (λ c. (c.tree, lexemes c.rest.now)) result (counted_at (lexemes tokens.now)) }
-    ensures places { IfSome result (λ c. (s : Span) × (spots tokens.now ≡ sign (count_sign c.tree) s ∷ spots c.rest.now)) }
+    ensures places { IfSome result
+        (λ c. (s : Span) × (spots tokens.now ≡ sign (count_sign c.tree) s ∷ spots c.rest.now)) }
 {
     if let Some(up) = sign_part(tokens, Sign::Increment) {
         return Some(Read {
@@ -47,12 +52,12 @@ fn counted<'t, 'a>(tokens: &'t [Token<'a>]) -> Option<Read<'t, 'a, bool>>
 }
 
 /// Whether an expression is a call or the making of an object.
-pub fn is_call(tree: &Expr) -> bool
+pub fn is_call(tree: &Expression) -> bool
     ensures { result ≡ is_call (bare tree.now) }
 {
     matches!(
         tree,
-        Expr::Call { .. } | Expr::New { .. } | Expr::NewMarkable { .. }
+        Expression::Call { .. } | Expression::New { .. } | Expression::NewMarkable { .. }
     )
 }
 
@@ -60,13 +65,15 @@ pub fn is_call(tree: &Expr) -> bool
 #[tactic(auto, using(crate::proofs::SimplePlaces::assign_is, crate::proofs::SimplePlaces::add_is, crate::proofs::SimplePlaces::count_behind_is, crate::proofs::SimplePlaces::evaluate_is))]
 fn used<'t, 'a>(
     context: Context,
-    target: Part<'t, 'a, Expr>,
+    target: Part<'t, 'a, Expression>,
     limit: usize,
 ) -> Result<Part<'t, 'a, Simple>, TextFault>
     requires limit { limit + 1 < 2 ^ 64 }
     requires height { (target.height ≡ expression_height (bare target.tree)) × (target.height ≤ limit) }
-    ensures read { Gives (λ p. (bare_simple p.tree, lexemes p.rest.now)) result (used_at (expression_at limit) (bare target.entry.tree) (lexemes target.entry.rest.now)) }
-    ensures places { IfOk result (λ p. (ss : List Spot) → At (placed target.entry.tree) ss (spots target.entry.rest.now) → SimpleAt (placed_simple p.tree) ss (spots p.rest.now)) }
+    ensures read { ReadsAs (λ p. (bare_simple p.tree, lexemes p.rest.now)) result
+        (used_at (expression_at limit) (bare target.entry.tree) (lexemes target.entry.rest.now)) }
+    ensures places { IfOk result (λ p. (ss : List Spot) → At (placed target.entry.tree) ss (spots target.entry.rest.now)
+        → SimpleAt (placed_simple p.tree) ss (spots p.rest.now)) }
     ensures height { IfOk result (λ p. (p.height ≡ simple_height (bare_simple p.tree)) × (p.height ≤ limit + 1)) }
 {
     if let Some(assign) = sign_part(target.rest, Sign::Assign) {
@@ -120,7 +127,8 @@ fn form<'t, 'a>(
     limit: usize,
 ) -> Result<Part<'t, 'a, Simple>, TextFault>
     requires { limit + 1 < 2 ^ 64 }
-    ensures read { Gives (λ p. (bare_simple p.tree, lexemes p.rest.now)) result (simple_from (post_at limit false) (expression_at limit) (lexemes tokens.now)) }
+    ensures read { ReadsAs (λ p. (bare_simple p.tree, lexemes p.rest.now)) result
+        (simple_from (post_at limit false) (expression_at limit) (lexemes tokens.now)) }
     ensures places { IfOk result (λ p. SimpleAt (placed_simple p.tree) (spots tokens.now) (spots p.rest.now)) }
     ensures height { IfOk result (λ p. (p.height ≡ simple_height (bare_simple p.tree)) × (p.height ≤ limit + 1)) }
 {
@@ -147,7 +155,8 @@ fn simple<'t, 'a>(
     tokens: &'t [Token<'a>],
     limit: usize,
 ) -> Result<Part<'t, 'a, Simple>, TextFault>
-    ensures read { Gives (λ p. (bare_simple p.tree, lexemes p.rest.now)) result (simple_at limit (lexemes tokens.now)) }
+    ensures read { ReadsAs (λ p. (bare_simple p.tree, lexemes p.rest.now)) result
+        (simple_at limit (lexemes tokens.now)) }
     ensures places { IfOk result (λ p. SimpleAt (placed_simple p.tree) (spots tokens.now) (spots p.rest.now)) }
     ensures height { IfOk result (λ p. (p.height ≡ simple_height (bare_simple p.tree)) × (p.height ≤ limit)) }
 {
@@ -165,7 +174,8 @@ pub fn performed<'t, 'a>(
     limit: usize,
 ) -> Result<Part<'t, 'a, Statement>, TextFault>
     requires { limit + 1 < 2 ^ 64 }
-    ensures read { Gives (λ p. (bare_statement p.tree, lexemes p.rest.now)) result (perform_at (simple_from (post_at limit false) (expression_at limit)) (lexemes tokens.now)) }
+    ensures read { ReadsAs (λ p. (bare_statement p.tree, lexemes p.rest.now)) result
+        (perform_at (simple_from (post_at limit false) (expression_at limit)) (lexemes tokens.now)) }
     ensures places { IfOk result (λ p. StatementAt (placed_statement p.tree) (spots tokens.now) (spots p.rest.now)) }
     ensures height { IfOk result (λ p. (p.height ≡ statement_height (bare_statement p.tree)) × (p.height ≤ limit + 1)) }
 {
@@ -188,9 +198,12 @@ fn some_simples<'t, 'a>(
     tokens: &'t [Token<'a>],
     limit: usize,
 ) -> Result<Part<'t, 'a, Vec<Simple>>, TextFault>
-    ensures read { Gives (λ p. (map bare_simple p.tree.items, lexemes p.rest.now)) result (simples_at (simple_at limit) (lexemes tokens.now)) }
-    ensures places { IfOk result (λ p. SomeSimplesAt (map placed_simple p.tree.items) (spots tokens.now) (spots p.rest.now)) }
-    ensures height { IfOk result (λ p. (p.height ≡ simples_height (map bare_simple p.tree.items)) × (p.height ≤ limit)) }
+    ensures read { ReadsAs (λ p. (map bare_simple p.tree.items, lexemes p.rest.now)) result
+        (simples_at (simple_at limit) (lexemes tokens.now)) }
+    ensures places { IfOk result
+        (λ p. SomeSimplesAt (map placed_simple p.tree.items) (spots tokens.now) (spots p.rest.now)) }
+    ensures height { IfOk result (λ p. (p.height ≡ simples_height (map bare_simple p.tree.items)) ×
+        (p.height ≤ limit)) }
 {
     let first = simple(context, tokens, limit)?;
     let mut all = Part {
@@ -211,9 +224,14 @@ fn one_simple<'t, 'a>(
     limit: usize,
 ) -> Result<Part<'t, 'a, Vec<Simple>>, TextFault>
     requires height { (before.height ≡ simples_height (map bare_simple before.tree.items)) × (before.height ≤ limit) }
-    ensures read { Gives (λ p. (map bare_simple p.tree.items, lexemes p.rest.now)) result (one_more (behind_comma (simple_at limit)) (map bare_simple before.entry.tree.items) (lexemes before.entry.rest.now)) }
-    ensures places { IfOk result (λ p. (ss : List Spot) → SomeSimplesAt (map placed_simple before.entry.tree.items) ss (spots before.entry.rest.now) → SomeSimplesAt (map placed_simple p.tree.items) ss (spots p.rest.now)) }
-    ensures height { IfOk result (λ p. (p.height ≡ simples_height (map bare_simple p.tree.items)) × (p.height ≤ limit)) }
+    ensures read { ReadsAs (λ p. (map bare_simple p.tree.items, lexemes p.rest.now)) result
+        (one_more (behind_comma (simple_at limit)) (map bare_simple before.entry.tree.items)
+        (lexemes before.entry.rest.now)) }
+    ensures places { IfOk result (λ p. (ss : List Spot) →
+        SomeSimplesAt (map placed_simple before.entry.tree.items) ss (spots before.entry.rest.now) →
+        SomeSimplesAt (map placed_simple p.tree.items) ss (spots p.rest.now)) }
+    ensures height { IfOk result (λ p. (p.height ≡ simples_height (map bare_simple p.tree.items)) ×
+        (p.height ≤ limit)) }
 {
     let comma = expect(context, before.rest, Sign::Comma)?;
     let found = simple(context, comma.rest, limit)?;
@@ -232,9 +250,12 @@ fn simples<'t, 'a>(
     limit: usize,
     stop: Sign,
 ) -> Result<Part<'t, 'a, Vec<Simple>>, TextFault>
-    ensures read { Gives (λ p. (map bare_simple p.tree.items, lexemes p.rest.now)) result (simples_to stop (simple_at limit) (lexemes tokens.now)) }
-    ensures places { IfOk result (λ p. SimplesAt stop (map placed_simple p.tree.items) (spots tokens.now) (spots p.rest.now)) }
-    ensures height { IfOk result (λ p. (p.height ≡ simples_height (map bare_simple p.tree.items)) × (p.height ≤ limit)) }
+    ensures read { ReadsAs (λ p. (map bare_simple p.tree.items, lexemes p.rest.now)) result
+        (simples_to stop (simple_at limit) (lexemes tokens.now)) }
+    ensures places { IfOk result
+        (λ p. SimplesAt stop (map placed_simple p.tree.items) (spots tokens.now) (spots p.rest.now)) }
+    ensures height { IfOk result (λ p. (p.height ≡ simples_height (map bare_simple p.tree.items)) ×
+        (p.height ≤ limit)) }
 {
     if let Some(end) = sign_part(tokens, stop) {
         return Ok(Part {
@@ -259,7 +280,8 @@ fn opening<'t, 'a>(
     tokens: &'t [Token<'a>],
     limit: usize,
 ) -> Result<Part<'t, 'a, Opening>, TextFault>
-    ensures read { Gives (λ p. (bare_opening p.tree, lexemes p.rest.now)) result (opening_at (local_at limit) (simple_at limit) (lexemes tokens.now)) }
+    ensures read { ReadsAs (λ p. (bare_opening p.tree, lexemes p.rest.now)) result
+        (opening_at (local_at limit) (simple_at limit) (lexemes tokens.now)) }
     ensures places { IfOk result (λ p. OpeningAt (placed_opening p.tree) (spots tokens.now) (spots p.rest.now)) }
     ensures height { IfOk result (λ p. (p.height ≡ opening_height (bare_opening p.tree)) × (p.height ≤ limit)) }
 {
@@ -285,10 +307,18 @@ pub fn head<'t, 'a>(
     context: Context,
     tokens: &'t [Token<'a>],
     limit: usize,
-) -> Result<Part<'t, 'a, (Opening, Option<Expr>, Vec<Simple>)>, TextFault>
-    ensures read { Gives (λ p. ((bare_opening p.tree.0, option_map bare p.tree.1, map bare_simple p.tree.2.items), lexemes p.rest.now)) result (head_in limit (lexemes tokens.now)) }
-    ensures places { IfOk result (λ p. HeadAt (placed_opening p.tree.0) (option_map placed p.tree.1) (map placed_simple p.tree.2.items) (spots tokens.now) (spots p.rest.now)) }
-    ensures height { IfOk result (λ p. (p.height ≡ max (opening_height (bare_opening p.tree.0)) (max (value_height (option_map bare p.tree.1)) (simples_height (map bare_simple p.tree.2.items)))) × (p.height ≤ limit)) }
+) -> Result<Part<'t, 'a, (Opening, Option<Expression>, Vec<Simple>)>, TextFault>
+    ensures read { ReadsAs
+        (λ p. ((bare_opening p.tree.0, option_map bare p.tree.1, map bare_simple p.tree.2.items), lexemes p.rest.now))
+        result (head_in limit (lexemes tokens.now)) }
+    ensures places { IfOk result
+        (λ p. HeadAt (placed_opening p.tree.0) (option_map placed p.tree.1) (map placed_simple p.tree.2.items)
+        (spots tokens.now) (spots p.rest.now)) }
+    ensures height { IfOk result
+        (λ p. (p.height ≡
+        max (opening_height (bare_opening p.tree.0))
+        (max (value_height (option_map bare p.tree.1)) (simples_height (map bare_simple p.tree.2.items)))) ×
+        (p.height ≤ limit)) }
 {
     let paren = expect(context, tokens, Sign::OpenParen)?;
     let opening = opening(context, paren.rest, limit)?;

@@ -12,10 +12,13 @@ ghost use Rattle.ls_tree.specs.Placed.{placed_name};
 ghost use Rattle.ls_tree.specs.PlacedStatements.{placed_statement, placed_before, placed_items};
 ghost use Rattle.ls_parser_spelling.specs.Places.{Spot, spot, sign, spots};
 ghost use Rattle.ls_parser_spelling.specs.StatementPlaces.{word, LabelAt, StatementAt, BlockAt, ItemsAt};
-ghost use Rattle.ls_parser_tokens.specs.Answers.{Gives};
+ghost use Rattle.ls_parser_tokens.specs.Answers.{ReadsAs};
 ghost use Rattle.ls_parser_tokens.specs.Reading.{one_more, many_at, not_yet};
 ghost use Rattle.ls_parser_expressions.specs.ReadingExpressions.{expression_at, post_at};
-ghost use Rattle.ls_parser_statements.specs.ReadingStatements.{piece_at, local_at, head_in, if_at, while_at, for_at, loop_at, try_at, simple_from, synchronized_at, other_at, first_of, begun_at, statement_at, block_at, block_in};
+ghost use Rattle.ls_parser_statements.specs.ReadingStatements.{piece_at, local_at, head_in, if_at, while_at, for_at};
+ghost use Rattle.ls_parser_statements.specs.ReadingStatements.{loop_at, try_at, simple_from, synchronized_at};
+ghost use Rattle.ls_parser_statements.specs.ReadingStatements.{other_at, first_of, begun_at, statement_at, block_at};
+ghost use Rattle.ls_parser_statements.specs.ReadingStatements.{block_in};
 
 use crate::simple_statements::{
     block_tree, break_statement, condition, continue_statement, label_part, local,
@@ -41,7 +44,8 @@ fn statement<'t, 'a>(
     tokens: &'t [Token<'a>],
     limit: usize,
 ) -> Result<Part<'t, 'a, Statement>, TextFault>
-    ensures read { Gives (λ p. (bare_statement p.tree, lexemes p.rest.now)) result (statement_at limit (lexemes tokens.now)) }
+    ensures read { ReadsAs (λ p. (bare_statement p.tree, lexemes p.rest.now)) result
+        (statement_at limit (lexemes tokens.now)) }
     ensures places { IfOk result (λ p. StatementAt (placed_statement p.tree) (spots tokens.now) (spots p.rest.now)) }
     ensures height { IfOk result (λ p. (p.height ≡ statement_height (bare_statement p.tree)) × (p.height ≤ limit)) }
 {
@@ -66,7 +70,8 @@ fn begun<'t, 'a>(
 ) -> Result<Part<'t, 'a, Statement>, TextFault>
     requires limit { limit + 1 < 2 ^ 64 }
     requires begins { spots all.now ≡ spot (lexeme_of token.now.kind) token.now.span ∷ spots rest.now }
-    ensures read { Gives (λ p. (bare_statement p.tree, lexemes p.rest.now)) result (begun_at limit (first_of (lexeme_of token.now.kind)) (lexemes all.now) (lexemes rest.now)) }
+    ensures read { ReadsAs (λ p. (bare_statement p.tree, lexemes p.rest.now)) result
+        (begun_at limit (first_of (lexeme_of token.now.kind)) (lexemes all.now) (lexemes rest.now)) }
     ensures places { IfOk result (λ p. StatementAt (placed_statement p.tree) (spots all.now) (spots p.rest.now)) }
     ensures height { IfOk result (λ p. (p.height ≡ statement_height (bare_statement p.tree)) × (p.height ≤ limit + 1)) }
 {
@@ -97,7 +102,8 @@ fn block_statement<'t, 'a>(
     limit: usize,
 ) -> Result<Part<'t, 'a, Statement>, TextFault>
     requires { 0 < limit }
-    ensures read { Gives (λ p. (bare_statement p.tree, lexemes p.rest.now)) result (block_in (block_at limit) (lexemes tokens.now)) }
+    ensures read { ReadsAs (λ p. (bare_statement p.tree, lexemes p.rest.now)) result
+        (block_in (block_at limit) (lexemes tokens.now)) }
     ensures places { IfOk result (λ p. StatementAt (placed_statement p.tree) (spots tokens.now) (spots p.rest.now)) }
     ensures height { IfOk result (λ p. (p.height ≡ statement_height (bare_statement p.tree)) × (p.height ≤ limit)) }
 {
@@ -117,8 +123,9 @@ pub fn block<'t, 'a>(
     tokens: &'t [Token<'a>],
     limit: usize,
 ) -> Result<Part<'t, 'a, Block>, TextFault>
-    ensures read { Gives (λ p. (bare_block p.tree, lexemes p.rest.now)) result (block_at limit (lexemes tokens.now)) }
-    ensures places { IfOk result (λ p. BlockAt (placed_items p.tree.items.items) (spots tokens.now) (spots p.rest.now)) }
+    ensures read { ReadsAs (λ p. (bare_block p.tree, lexemes p.rest.now)) result (block_at limit (lexemes tokens.now)) }
+    ensures places { IfOk result
+        (λ p. BlockAt (placed_items p.tree.items.items) (spots tokens.now) (spots p.rest.now)) }
     ensures height { IfOk result (λ p. (p.height ≡ items_height (bare_block p.tree) + 1) × (p.height ≤ limit)) }
 {
     if limit == 0 {
@@ -144,7 +151,8 @@ fn block_items<'t, 'a>(
     tokens: &'t [Token<'a>],
     limit: usize,
 ) -> Result<Part<'t, 'a, Vec<BlockItem>>, TextFault>
-    ensures read { Gives (λ p. (map bare_piece p.tree.items, lexemes p.rest.now)) result (many_at (not_yet signs.CloseBrace) (piece_at (local_at limit) (statement_at limit)) (lexemes tokens.now)) }
+    ensures read { ReadsAs (λ p. (map bare_piece p.tree.items, lexemes p.rest.now)) result
+        (many_at (not_yet signs.CloseBrace) (piece_at (local_at limit) (statement_at limit)) (lexemes tokens.now)) }
     ensures places { IfOk result (λ p. ItemsAt (placed_items p.tree.items) (spots tokens.now) (spots p.rest.now)) }
     ensures height { IfOk result (λ p. (p.height ≡ items_height (items_of p.tree.items)) × (p.height ≤ limit)) }
 {
@@ -167,8 +175,12 @@ fn one_item<'t, 'a>(
     limit: usize,
 ) -> Result<Part<'t, 'a, Vec<BlockItem>>, TextFault>
     requires height { (before.height ≡ items_height (items_of before.tree.items)) × (before.height ≤ limit) }
-    ensures read { Gives (λ p. (map bare_piece p.tree.items, lexemes p.rest.now)) result (one_more (piece_at (local_at limit) (statement_at limit)) (map bare_piece before.entry.tree.items) (lexemes before.entry.rest.now)) }
-    ensures places { IfOk result (λ p. (ss : List Spot) → ItemsAt (placed_items before.entry.tree.items) ss (spots before.entry.rest.now) → ItemsAt (placed_items p.tree.items) ss (spots p.rest.now)) }
+    ensures read { ReadsAs (λ p. (map bare_piece p.tree.items, lexemes p.rest.now)) result
+        (one_more (piece_at (local_at limit) (statement_at limit)) (map bare_piece before.entry.tree.items)
+        (lexemes before.entry.rest.now)) }
+    ensures places { IfOk result (λ p. (ss : List Spot) →
+        ItemsAt (placed_items before.entry.tree.items) ss (spots before.entry.rest.now) →
+        ItemsAt (placed_items p.tree.items) ss (spots p.rest.now)) }
     ensures height { IfOk result (λ p. (p.height ≡ items_height (items_of p.tree.items)) × (p.height ≤ limit)) }
 {
     let item = block_item(context, before.rest, limit)?;
@@ -186,8 +198,10 @@ fn block_item<'t, 'a>(
     tokens: &'t [Token<'a>],
     limit: usize,
 ) -> Result<Part<'t, 'a, BlockItem>, TextFault>
-    ensures read { Gives (λ p. (bare_piece p.tree, lexemes p.rest.now)) result (piece_at (local_at limit) (statement_at limit) (lexemes tokens.now)) }
-    ensures places { IfOk result (λ p. ItemsAt (placed_before p.tree placed_trees.NoItem) (spots tokens.now) (spots p.rest.now)) }
+    ensures read { ReadsAs (λ p. (bare_piece p.tree, lexemes p.rest.now)) result
+        (piece_at (local_at limit) (statement_at limit) (lexemes tokens.now)) }
+    ensures places { IfOk result
+        (λ p. ItemsAt (placed_before p.tree placed_trees.NoItem) (spots tokens.now) (spots p.rest.now)) }
     ensures height { IfOk result (λ p. (p.height ≡ piece_height (bare_piece p.tree)) × (p.height ≤ limit)) }
 {
     if starts_declaration(tokens) {
@@ -207,9 +221,12 @@ fn boxed_statement<'t, 'a>(
     tokens: &'t [Token<'a>],
     limit: usize,
 ) -> Result<Part<'t, 'a, Box<Statement>>, TextFault>
-    ensures read { Gives (λ p. (bare_statement p.tree.value, lexemes p.rest.now)) result (statement_at limit (lexemes tokens.now)) }
-    ensures places { IfOk result (λ p. StatementAt (placed_statement p.tree.value) (spots tokens.now) (spots p.rest.now)) }
-    ensures height { IfOk result (λ p. (p.height ≡ statement_height (bare_statement p.tree.value)) × (p.height ≤ limit)) }
+    ensures read { ReadsAs (λ p. (bare_statement p.tree.value, lexemes p.rest.now)) result
+        (statement_at limit (lexemes tokens.now)) }
+    ensures places { IfOk result
+        (λ p. StatementAt (placed_statement p.tree.value) (spots tokens.now) (spots p.rest.now)) }
+    ensures height { IfOk result (λ p. (p.height ≡ statement_height (bare_statement p.tree.value)) ×
+        (p.height ≤ limit)) }
 {
     let found = statement(context, tokens, limit)?;
     Ok(boxed_part(context.alloc, found)?)
@@ -224,8 +241,10 @@ fn if_statement<'t, 'a>(
     limit: usize,
 ) -> Result<Part<'t, 'a, Statement>, TextFault>
     requires { limit + 1 < 2 ^ 64 }
-    ensures read { Gives (λ p. (bare_statement p.tree, lexemes p.rest.now)) result (if_at (expression_at limit) (statement_at limit) (lexemes tokens.now)) }
-    ensures places { IfOk result (λ p. (s : Span) → StatementAt (placed_statement p.tree) (word words.If s ∷ spots tokens.now) (spots p.rest.now)) }
+    ensures read { ReadsAs (λ p. (bare_statement p.tree, lexemes p.rest.now)) result
+        (if_at (expression_at limit) (statement_at limit) (lexemes tokens.now)) }
+    ensures places { IfOk result (λ p. (s : Span) →
+        StatementAt (placed_statement p.tree) (word words.If s ∷ spots tokens.now) (spots p.rest.now)) }
     ensures height { IfOk result (λ p. (p.height ≡ statement_height (bare_statement p.tree)) × (p.height ≤ limit + 1)) }
 {
     let condition = condition(context, tokens, limit)?;
@@ -267,8 +286,11 @@ fn while_statement<'t, 'a>(
     limit: usize,
 ) -> Result<Part<'t, 'a, Statement>, TextFault>
     requires { limit + 1 < 2 ^ 64 }
-    ensures read { Gives (λ p. (bare_statement p.tree, lexemes p.rest.now)) result (while_at (expression_at limit) (statement_at limit) (option_map name_text label) (lexemes tokens.now)) }
-    ensures places { IfOk result (λ p. (ss : List Spot) (s : Span) → LabelAt (option_map placed_name label) ss (word words.While s ∷ spots tokens.now) → StatementAt (placed_statement p.tree) ss (spots p.rest.now)) }
+    ensures read { ReadsAs (λ p. (bare_statement p.tree, lexemes p.rest.now)) result
+        (while_at (expression_at limit) (statement_at limit) (option_map name_text label) (lexemes tokens.now)) }
+    ensures places { IfOk result (λ p. (ss : List Spot) (s : Span) →
+        LabelAt (option_map placed_name label) ss (word words.While s ∷ spots tokens.now) →
+        StatementAt (placed_statement p.tree) ss (spots p.rest.now)) }
     ensures height { IfOk result (λ p. (p.height ≡ statement_height (bare_statement p.tree)) × (p.height ≤ limit + 1)) }
 {
     let condition = condition(context, tokens, limit)?;
@@ -295,8 +317,11 @@ fn for_statement<'t, 'a>(
     limit: usize,
 ) -> Result<Part<'t, 'a, Statement>, TextFault>
     requires { limit + 1 < 2 ^ 64 }
-    ensures read { Gives (λ p. (bare_statement p.tree, lexemes p.rest.now)) result (for_at (head_in limit) (statement_at limit) (option_map name_text label) (lexemes tokens.now)) }
-    ensures places { IfOk result (λ p. (ss : List Spot) (s : Span) → LabelAt (option_map placed_name label) ss (word words.For s ∷ spots tokens.now) → StatementAt (placed_statement p.tree) ss (spots p.rest.now)) }
+    ensures read { ReadsAs (λ p. (bare_statement p.tree, lexemes p.rest.now)) result
+        (for_at (head_in limit) (statement_at limit) (option_map name_text label) (lexemes tokens.now)) }
+    ensures places { IfOk result (λ p. (ss : List Spot) (s : Span) →
+        LabelAt (option_map placed_name label) ss (word words.For s ∷ spots tokens.now) →
+        StatementAt (placed_statement p.tree) ss (spots p.rest.now)) }
     ensures height { IfOk result (λ p. (p.height ≡ statement_height (bare_statement p.tree)) × (p.height ≤ limit + 1)) }
 {
     let head = head(context, tokens, limit)?;
@@ -325,8 +350,10 @@ fn try_statement<'t, 'a>(
     limit: usize,
 ) -> Result<Part<'t, 'a, Statement>, TextFault>
     requires { limit + 1 < 2 ^ 64 }
-    ensures read { Gives (λ p. (bare_statement p.tree, lexemes p.rest.now)) result (try_at (block_at limit) (lexemes tokens.now)) }
-    ensures places { IfOk result (λ p. (s : Span) → StatementAt (placed_statement p.tree) (word words.Try s ∷ spots tokens.now) (spots p.rest.now)) }
+    ensures read { ReadsAs (λ p. (bare_statement p.tree, lexemes p.rest.now)) result
+        (try_at (block_at limit) (lexemes tokens.now)) }
+    ensures places { IfOk result (λ p. (s : Span) →
+        StatementAt (placed_statement p.tree) (word words.Try s ∷ spots tokens.now) (spots p.rest.now)) }
     ensures height { IfOk result (λ p. (p.height ≡ statement_height (bare_statement p.tree)) × (p.height ≤ limit + 1)) }
 {
     let body = block(context, tokens, limit)?;
@@ -349,8 +376,10 @@ fn synchronized_statement<'t, 'a>(
     limit: usize,
 ) -> Result<Part<'t, 'a, Statement>, TextFault>
     requires { limit + 1 < 2 ^ 64 }
-    ensures read { Gives (λ p. (bare_statement p.tree, lexemes p.rest.now)) result (synchronized_at (expression_at limit) (block_at limit) (lexemes tokens.now)) }
-    ensures places { IfOk result (λ p. (s : Span) → StatementAt (placed_statement p.tree) (word words.Synchronized s ∷ spots tokens.now) (spots p.rest.now)) }
+    ensures read { ReadsAs (λ p. (bare_statement p.tree, lexemes p.rest.now)) result
+        (synchronized_at (expression_at limit) (block_at limit) (lexemes tokens.now)) }
+    ensures places { IfOk result (λ p. (s : Span) →
+        StatementAt (placed_statement p.tree) (word words.Synchronized s ∷ spots tokens.now) (spots p.rest.now)) }
     ensures height { IfOk result (λ p. (p.height ≡ statement_height (bare_statement p.tree)) × (p.height ≤ limit + 1)) }
 {
     let target = condition(context, tokens, limit)?;
@@ -373,8 +402,12 @@ fn labelled_loop<'t, 'a>(
     limit: usize,
 ) -> Result<Part<'t, 'a, Statement>, TextFault>
     requires { limit + 1 < 2 ^ 64 }
-    ensures read { Gives (λ p. (bare_statement p.tree, lexemes p.rest.now)) result (loop_at (expression_at limit) (head_in limit) (statement_at limit) found.entry.text.now (lexemes found.entry.rest.now)) }
-    ensures places { IfOk result (λ p. (ss : List Spot) (colon : Span) → ss ≡ spot (Named found.entry.text.now) found.entry.span ∷ sign signs.Colon colon ∷ spots found.entry.rest.now → StatementAt (placed_statement p.tree) ss (spots p.rest.now)) }
+    ensures read { ReadsAs (λ p. (bare_statement p.tree, lexemes p.rest.now)) result
+        (loop_at (expression_at limit) (head_in limit) (statement_at limit) found.entry.text.now
+        (lexemes found.entry.rest.now)) }
+    ensures places { IfOk result (λ p. (ss : List Spot) (colon : Span) →
+        ss ≡ spot (Named found.entry.text.now) found.entry.span ∷ sign signs.Colon colon ∷ spots found.entry.rest.now →
+        StatementAt (placed_statement p.tree) ss (spots p.rest.now)) }
     ensures height { IfOk result (λ p. (p.height ≡ statement_height (bare_statement p.tree)) × (p.height ≤ limit + 1)) }
 {
     if let Some(word) = word_part(found.rest, Word::While) {
@@ -394,7 +427,9 @@ fn other_statement<'t, 'a>(
     limit: usize,
 ) -> Result<Part<'t, 'a, Statement>, TextFault>
     requires { limit + 1 < 2 ^ 64 }
-    ensures read { Gives (λ p. (bare_statement p.tree, lexemes p.rest.now)) result (other_at (simple_from (post_at limit false) (expression_at limit)) (expression_at limit) (head_in limit) (statement_at limit) (lexemes tokens.now)) }
+    ensures read { ReadsAs (λ p. (bare_statement p.tree, lexemes p.rest.now)) result
+        (other_at (simple_from (post_at limit false) (expression_at limit)) (expression_at limit) (head_in limit)
+        (statement_at limit) (lexemes tokens.now)) }
     ensures places { IfOk result (λ p. StatementAt (placed_statement p.tree) (spots tokens.now) (spots p.rest.now)) }
     ensures height { IfOk result (λ p. (p.height ≡ statement_height (bare_statement p.tree)) × (p.height ≤ limit + 1)) }
 {

@@ -1,5 +1,6 @@
 -- Reading from left to right.
-use Rattle.std.specs.Prelude.{ℕ, zero, suc, Bool, not, List, [], ◌∷◌, ◌++◌, length, Option, Some, None, is_some, if◌then◌else◌}
+use Rattle.std.specs.Prelude.{ℕ, zero, suc, Bool, not, List, [], ◌∷◌, ◌++◌, length, Option, Some, None, is_some}
+use Rattle.std.specs.Prelude.{if◌then◌else◌}
 use denote.Enum.Bare.{sameb}
 use Rattle.ls_lexer.specs.contracts.word.Word.{the_type as word_type}
 use Rattle.ls_lexer.specs.contracts.sign.Sign.{the_type as sign_type}
@@ -83,4 +84,6 @@ others_at item first ks =
     after_sign signs.CloseParen all.1 >>= λ rest. Some (all.0, rest)
 
 abbrev pub group_at : {A : Type 0} → Reader A → Reader (List A)
-group_at item ks = given (after_sign signs.CloseParen ks) (λ rest. Some ([], rest)) (item ks >>= λ first. others_at item first.0 first.1)
+group_at item ks =
+    given (after_sign signs.CloseParen ks) (λ rest. Some ([], rest))
+    (item ks >>= λ first. others_at item first.0 first.1)

@@ -9,7 +9,7 @@ ghost use Rattle.ls_parser_spelling.specs.Places.{spot, spots, sign, named, upto
 ghost use Rattle.ls_parser_tokens.specs.Reading.{after_sign, after_word, name_at, starts};
 ghost use Rattle.ls_tree.specs.Views.{name_text};
 ghost use Rattle.ls_tree.specs.Placed.{placed_name};
-ghost use Rattle.ls_parser_tokens.specs.Answers.{Gives, Finds};
+ghost use Rattle.ls_parser_tokens.specs.Answers.{ReadsAs, Finds};
 
 use ls_lexer::fault::TextFault;
 use ls_lexer::sign::Sign;
@@ -187,7 +187,7 @@ pub fn expect<'t, 'a>(
     tokens: &'t [Token<'a>],
     wanted: Sign,
 ) -> Result<Mark<'t, 'a>, TextFault>
-    ensures read { Gives (λ m. lexemes m.rest.now) result (after_sign wanted (lexemes tokens.now)) }
+    ensures read { ReadsAs (λ m. lexemes m.rest.now) result (after_sign wanted (lexemes tokens.now)) }
     ensures placed { IfOk result (λ m. spots tokens.now ≡ sign wanted m.span ∷ spots m.rest.now) }
 {
     match sign_part(tokens, wanted) {
@@ -202,7 +202,7 @@ pub fn expect_word<'t, 'a>(
     tokens: &'t [Token<'a>],
     wanted: Word,
 ) -> Result<Mark<'t, 'a>, TextFault>
-    ensures read { Gives (λ m. lexemes m.rest.now) result (after_word wanted (lexemes tokens.now)) }
+    ensures read { ReadsAs (λ m. lexemes m.rest.now) result (after_word wanted (lexemes tokens.now)) }
     ensures placed { IfOk result (λ m. spots tokens.now ≡ spot (Reserved wanted) m.span ∷ spots m.rest.now) }
 {
     match word_part(tokens, wanted) {
@@ -225,7 +225,7 @@ pub fn name<'t, 'a>(
     context: Context,
     tokens: &'t [Token<'a>],
 ) -> Result<Read<'t, 'a, Name>, TextFault>
-    ensures read { Gives (λ n. (name_text n.tree, lexemes n.rest.now)) result (name_at (lexemes tokens.now)) }
+    ensures read { ReadsAs (λ n. (name_text n.tree, lexemes n.rest.now)) result (name_at (lexemes tokens.now)) }
     ensures placed { IfOk result (λ n. spots tokens.now ≡ named (placed_name n.tree) ∷ spots n.rest.now) }
 {
     match name_part(tokens) {
@@ -264,7 +264,8 @@ pub fn boxed_part<'t, 'a, T: Drop>(
     alloc: Global,
     part: Part<'t, 'a, T>,
 ) -> Result<Part<'t, 'a, Box<T>>, AllocError>
-    ensures { IfOk result (λ p. (p.tree.value ≡ part.entry.tree) × (p.height ≡ part.entry.height) × (p.rest.now ≡ part.entry.rest.now)) }
+    ensures { IfOk result (λ p. (p.tree.value ≡ part.entry.tree) × (p.height ≡ part.entry.height) ×
+        (p.rest.now ≡ part.entry.rest.now)) }
 {
     Ok(Part {
         tree: Box::new(alloc, part.tree)?,
@@ -280,7 +281,7 @@ pub fn closed_part<'t, 'a, T: Drop>(
     part: Part<'t, 'a, T>,
     wanted: Sign,
 ) -> Result<Enclosed<'t, 'a, T>, TextFault>
-    ensures read { Gives (λ p. lexemes p.rest.now) result (after_sign wanted (lexemes part.entry.rest.now)) }
+    ensures read { ReadsAs (λ p. lexemes p.rest.now) result (after_sign wanted (lexemes part.entry.rest.now)) }
     ensures same { IfOk result (λ p. (p.tree ≡ part.entry.tree) × (p.height ≡ part.entry.height)) }
     ensures placed { IfOk result (λ p. spots part.entry.rest.now ≡ sign wanted p.end ∷ spots p.rest.now) }
 {
@@ -300,7 +301,7 @@ pub fn closed<'t, 'a, T: Drop>(
     read: Read<'t, 'a, T>,
     wanted: Sign,
 ) -> Result<Read<'t, 'a, T>, TextFault>
-    ensures read { Gives (λ r. lexemes r.rest.now) result (after_sign wanted (lexemes read.entry.rest.now)) }
+    ensures read { ReadsAs (λ r. lexemes r.rest.now) result (after_sign wanted (lexemes read.entry.rest.now)) }
     ensures same { IfOk result (λ r. r.tree ≡ read.entry.tree) }
     ensures placed { IfOk result (λ r. (s : Span) × (spots read.entry.rest.now ≡ sign wanted s ∷ spots r.rest.now)) }
 {

@@ -9,7 +9,7 @@ use Rattle.std.proofs.lemmas.Grind.{common_steps}
 use Rattle.ls_schedule.specs.declared.fault.ScheduleFault.{ScheduleFault}
 use Rattle.ls_schedule.specs.declared.fault.ScheduleFault.TheVariants as fault
 use Rattle.ls_schedule.specs.Answers.{Fails}
-use Rattle.ls_schedule.specs.Reading.{is_digit}
+use Rattle.ls_lexer.specs.Characters.{is_digit}
 
 pub digit_range : (b : ℕ) → is_digit b ≡ true → (48 ≤ b) × (b < 58)
 digit_range b e = (grind (arith, common_steps), grind (arith, common_steps))

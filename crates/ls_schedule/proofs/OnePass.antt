@@ -16,8 +16,9 @@ use Rattle.ls_schedule.specs.declared.fault.ScheduleFault.TheVariants as fault
 use Rattle.ls_schedule.specs.declared.groups.Opened.{Opened}
 use Rattle.ls_schedule.specs.Answers.{capped, more_steps, so_far}
 use Rattle.ls_schedule.specs.Pieces.{Piece, Gap, Word, Opens, Closes, opens}
+use Rattle.ls_lexer.specs.Characters.{is_digit}
 use Rattle.ls_schedule.specs.Reading.{Content, Turns, closed, count_of, followed_by, group_schedule, group_steps}
-use Rattle.ls_schedule.specs.Reading.{group_times, is_count, is_digit, item_turns, nothing, repeated, steps_in, within}
+use Rattle.ls_schedule.specs.Reading.{group_times, is_count, item_turns, nothing, repeated, steps_in, within}
 use Rattle.ls_schedule.specs.Reading.{◌>>=◌}
 use Rattle.ls_schedule.specs.Passing.{again, finish, first_fault, goes, group_count, kept, kept_len, or_fault, places}
 use Rattle.ls_schedule.specs.Passing.{unclosed}

@@ -1,19 +1,20 @@
 -- The bytes of names and counts, and items that are cut from a text.
 use Rattle.std.proofs.Common.{◌≡◌, ◌∙◌, ◌+◌, ◌<◌, ◌≤◌, inl, inr, ℕ, suc, Bool, true, false, cond, List, [], ◌∷◌, ◌++◌}
 use Rattle.std.proofs.Common.{length, take, drop, get_or, not, Some, None, refl, sym, ap, arith, eqb-true}
-use Rattle.std.specs.Prelude.{◌==◌, ◌&&◌, ◌||◌, ◌^◌, ◌%◌, nat_lt, is_none}
+use Rattle.std.specs.Prelude.{◌==◌, ◌&&◌, ◌||◌, ◌^◌, ◌%◌, nat_le, nat_lt, is_none}
 use Rattle.std.specs.Fmt.{decimal}
 use Rattle.std.specs.List.{list_all, position, position_or_len}
 use Rattle.std.specs.Option.{option_map_or}
 use Rattle.std.specs.Str.Parse.{digits_value}
-use Rattle.std.proofs.lemmas.Bool.{and_parts, or_cases, cases_Bool, true≢false, le-ltb, lt-ltb}
+use Rattle.std.proofs.lemmas.Bool.{and_parts, or_cases, cases_Bool, true≢false, le-leb, le-ltb, lt-ltb}
 use Rattle.std.proofs.lemmas.Fmt.{decimal_is_IsNumeral, decimal_by_steps, decimal_nonempty, first_decimal}
 use Rattle.std.proofs.lemmas.List.Folds.{list_all-append}
 use Rattle.ls_lexer.specs.Characters.{is_letter, is_part, run}
 use Rattle.ls_lexer.specs.Names.{is_identifier, is_name}
 use Rattle.ls_lexer.specs.Words.{reserved_word}
 use Rattle.ls_items.specs.Items.{Item, is_gap, items, joined, with_byte}
-use Rattle.ls_schedule.specs.Reading.{count_of, is_count, is_digit, parts_of}
+use Rattle.ls_lexer.specs.Characters.{is_digit}
+use Rattle.ls_schedule.specs.Reading.{count_of, is_count, parts_of}
 use Rattle.ls_schedule.proofs.Digits.{digit_range}
 
 -- ---- the bytes of a name
@@ -107,15 +108,14 @@ name_parts name h = identifier_parts name (and_parts (is_identifier name) (is_no
 
 -- ---- the digits of a count
 
-digit_of : (n : ℕ) → n < 10 → is_digit (48 + n) ≡ true
-digit_of n lt =
-    let low : nat_lt (48 + n) 48 ≡ false = le-ltb (48 + n) 48 (omega arith) in
-    let high : nat_lt (48 + n) 58 ≡ true = lt-ltb (48 + n) 58 (omega arith) in
-    ap (λ t. not t && nat_lt (48 + n) 58) low ∙ high
-
 and_true : (x y : Bool) → x ≡ true → y ≡ true → (x && y) ≡ true
 and_true true y h k = k
 and_true false y h k = absurd (true≢false (sym h))
+
+digit_of : (n : ℕ) → n < 10 → is_digit (48 + n) ≡ true
+digit_of n lt =
+    and_true (nat_le 48 (48 + n)) (nat_le (48 + n) 57) (le-leb 48 (48 + n) (omega arith))
+    (le-leb (48 + n) 57 (omega arith))
 
 one_digit : (n : ℕ) → n < 10 → list_all is_digit ((48 + n) ∷ []) ≡ true
 one_digit n lt = and_true (is_digit (48 + n)) true (digit_of n lt) refl

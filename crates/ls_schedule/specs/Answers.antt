@@ -1,4 +1,5 @@
 -- What the reader's functions answer.
+use Rattle.ls_answers.specs.Answers as answers
 use Rattle.ls_events.specs.Limits.{most_steps}
 use Rattle.std.specs.Prelude.{◌≡◌, ◌-◌, ℕ, Bool, not, List, [], ◌∷◌, ◌++◌, length, min, nat_lt, Option, Some, None}
 use Rattle.std.specs.Prelude.{Result, Ok, Err, if◌then◌else◌}
@@ -11,14 +12,17 @@ use Rattle.ls_schedule.specs.declared.reading.Said.{Said}
 use Rattle.ls_items.specs.Items.{Item, items}
 use Rattle.ls_schedule.specs.Reading.{Turns, each, repeated, steps_of, turns_of, within, ◌>>=◌}
 
+-- what a fault says of a text; "out of memory" says nothing
+abbrev pub meant : ScheduleFault → Option ScheduleFault
+meant fault.Memory = None
+meant f = Some f
+
 -- what a function returned, seen by view, is what reading gives, unless memory ran out
 abbrev pub Fails : {Y : Type 0} → ScheduleFault → Result Y ScheduleFault → Type 0
-Fails fault.Memory read = Unit {0}
-Fails e read = read ≡ Err e
+Fails f read = answers.Refuses (meant f) read
 
 abbrev pub Gives : {X Y : Type 0} → (X → Y) → Result X ScheduleFault → Result Y ScheduleFault → Type 0
-Gives view (Ok x) read = read ≡ Ok (view x)
-Gives view (Err e) read = Fails e read
+Gives view result read = answers.Gives meant view result read
 
 -- a count of over 1,000,000 is kept as 1,000,001
 abbrev pub capped : Turns → Turns

@@ -13,6 +13,7 @@ use Rattle.ls_lexer.specs.Names.{is_name}
 use Rattle.ls_schedule.specs.declared.fault.ScheduleFault.{ScheduleFault}
 use Rattle.ls_schedule.specs.declared.fault.ScheduleFault.TheVariants as fault
 use Rattle.ls_items.specs.Items.{Item, items}
+use Rattle.ls_lexer.specs.Characters.{is_digit}
 use Rattle.ls_schedule.specs.Pieces.{Piece, Gap, Word, Opens, Closes, opens, pieces, second_version}
 
 abbrev pub thread_name : ThreadProgram → List ℕ
@@ -21,9 +22,6 @@ thread_name t = string_bytes t.name
 -- the names of a program's threads, the setup first
 abbrev pub thread_names : Program → List (List ℕ)
 thread_names program = map thread_name program.threads.items
-
-abbrev pub is_digit : ℕ → Bool
-is_digit b = not (nat_lt b 48) && nat_lt b 58
 
 -- a digit that isn't 0, and then digits
 abbrev pub is_count : List ℕ → Bool

@@ -11,8 +11,8 @@ use thiserror::Error;
 pub enum ScheduleFault {
     #[error("out of memory")]
     Memory,
-    /// What begins here has not the form of an item or, in a text of version 2, of a group: its parenthesis isn't closed,
-    /// it is empty or in eight others, or what follows it directly is no count.
+    /// What begins here has not the form of an item or, in a text of version 2, of a group: its parenthesis isn't
+    /// closed, it is empty or in eight others, or what follows it directly is no count.
     #[error("no item of a schedule at {at}")]
     BadItem { at: usize },
     /// The item that begins here has the form of one, and its name is that of no thread.

@@ -45,12 +45,13 @@ ghost use Rattle.std.specs.Prelude.{
 };
 
 use crate::fault::ScheduleFault;
-use crate::pieces::{begins_group, is_gap, times_here, word_len};
+use crate::pieces::{begins_group, times_here, word_len};
 use crate::reading::{Said, all_threads, goes_on_with, read_item};
 use crate::repeating::goes_again;
 use crate::table::{Table, goes_on_once, short_item, table_of};
 use ls_checked::program::ThreadProgram;
 use ls_events::schedule::Schedule;
+use ls_items::is_gap;
 use std::alloc::{AllocError, Global};
 
 const MOST_GROUPS: usize = 8;
@@ -68,8 +69,8 @@ impl Clone for Opened {
     }
 }
 
-// What is known at a place after a fault: how many of the groups round the fault are open, how many groups that begin after
-// it, and the first fault so far.
+// What is known at a place after a fault: how many of the groups round the fault are open, how many groups that begin
+// after it, and the first fault so far.
 #[derive(Copy)]
 pub struct Outside {
     pub left: usize,
@@ -97,7 +98,8 @@ fn outside_group(outside: Outside, groups: &[Opened], after: &[u8]) -> Outside
     requires { 0 < outside.left }
     ensures left { result.left + 1 ≡ outside.left }
     ensures deeper { result.deeper ≡ outside.deeper }
-    ensures fault { result.fault ≡ fault_after 0 (place_of (places groups.now) result.left ∷ []) outside.fault (times_here after.now) }
+    ensures fault { result.fault ≡ fault_after 0 (place_of (places groups.now) result.left ∷ []) outside.fault
+        (times_here after.now) }
 {
     let left = outside.left - 1;
     match times_here(after) {
@@ -122,7 +124,8 @@ fn outside_after(outside: Outside, groups: &[Opened], first: u8, after: &[u8]) -
     requires deeper { outside.deeper < usize.MAX }
     ensures left { result.left ≤ outside.left }
     ensures deeper { result.deeper ≤ outside.deeper + 1 }
-    ensures fault { outer_fault (last_first (places groups.now) result.left) result.deeper result.fault after.now ≡ outer_fault (last_first (places groups.now) outside.left) outside.deeper outside.fault (first ∷ after.now) }
+    ensures fault { outer_fault (last_first (places groups.now) result.left) result.deeper result.fault after.now ≡
+        outer_fault (last_first (places groups.now) outside.left) outside.deeper outside.fault (first ∷ after.now) }
 {
     if first == b'(' {
         return Outside {
@@ -216,8 +219,8 @@ fn filled_count(filled: bool, at: usize, count: u64) -> Result<u64, ScheduleFaul
     }
 }
 
-// How far a text is read: the groups that are open, the outermost first; whether anything stands in the innermost, or in
-// the text outside of all; and the steps so far, while they fit.
+// How far a text is read: the groups that are open, the outermost first; whether anything stands in the innermost, or
+// in the text outside of all; and the steps so far, while they fit.
 #[derive(Drop)]
 pub struct Reader {
     pub open_groups: Vec<Opened>,
@@ -249,7 +252,8 @@ impl Reader {
 
     fn open_group(&mut self, at: usize) -> Result<(), AllocError>
         requires { length self.old.schedule ≤ most_steps }
-        ensures groups { OnOk result (self.new.open_groups.items ≡ self.old.open_groups.items ++ record { at = at; from = kept_len (so_far self.old.fits self.old.schedule) } ∷ []) }
+        ensures groups { OnOk result (self.new.open_groups.items ≡ self.old.open_groups.items ++
+            record { at = at; from = kept_len (so_far self.old.fits self.old.schedule) } ∷ []) }
         ensures filled { OnOk result (self.new.filled ≡ false) }
         ensures steps { so_far self.new.fits self.new.schedule ≡ so_far self.old.fits self.old.schedule }
         ensures few { length self.new.schedule ≤ most_steps }
@@ -264,7 +268,9 @@ impl Reader {
         requires { length self.old.schedule ≤ most_steps }
         ensures groups { self.new.open_groups.items ≡ self.old.open_groups.items }
         ensures filled { OnOk result (self.new.filled ≡ true) }
-        ensures steps { (names : ℕ) → all.now ≡ range_with_len 1 (names - 1) → OnOk result (so_far self.new.fits self.new.schedule ≡ more_steps (so_far self.old.fits self.old.schedule) (threads_of names said.who) said.count) }
+        ensures steps { (names : ℕ) → all.now ≡ range_with_len 1 (names - 1) →
+            OnOk result (so_far self.new.fits self.new.schedule ≡
+            more_steps (so_far self.old.fits self.old.schedule) (threads_of names said.who) said.count) }
         ensures few { length self.new.schedule ≤ most_steps }
     {
         self.fits = goes_on_with(self.fits, &mut self.schedule, said, all)?;
@@ -276,7 +282,8 @@ impl Reader {
         requires { length self.old.schedule ≤ most_steps }
         ensures groups { self.new.open_groups.items ≡ self.old.open_groups.items }
         ensures filled { OnOk result (self.new.filled ≡ true) }
-        ensures steps { OnOk result (so_far self.new.fits self.new.schedule ≡ again (so_far self.old.fits self.old.schedule) from count) }
+        ensures steps { OnOk result (so_far self.new.fits self.new.schedule ≡
+            again (so_far self.old.fits self.old.schedule) from count) }
         ensures few { length self.new.schedule ≤ most_steps }
     {
         self.fits = goes_again(self.fits, &mut self.schedule, from, count)?;
@@ -335,7 +342,8 @@ impl Reader {
         requires first { ends_word (slice_index text.now 0) ≡ false }
         requires threads { length threads.now ≤ 65 }
         requires few { length self.old.schedule ≤ most_steps }
-        ensures passes { all.now ≡ range_with_len 1 (length threads.now - 1) → Passes (map thread_name threads.now) self.old self.new at text.now result }
+        ensures passes { all.now ≡ range_with_len 1 (length threads.now - 1) →
+            Passes (map thread_name threads.now) self.old self.new at text.now result }
         ensures few { length self.new.schedule ≤ most_steps }
     {
         let len = word_len(text);
@@ -360,7 +368,8 @@ impl Reader {
         requires some { 0 < length text.now }
         requires threads { length threads.now ≤ 65 }
         requires few { length self.old.schedule ≤ most_steps }
-        ensures passes { all.now ≡ range_with_len 1 (length threads.now - 1) → Passes (map thread_name threads.now) self.old self.new at text.now result }
+        ensures passes { all.now ≡ range_with_len 1 (length threads.now - 1) →
+            Passes (map thread_name threads.now) self.old self.new at text.now result }
         ensures few { length self.new.schedule ≤ most_steps }
     {
         let first = text[0];
@@ -380,7 +389,8 @@ impl Reader {
     #[inline(always)]
     fn pass_short(&mut self, thread: u8) -> Result<usize, ScheduleFault>
         requires { length self.old.schedule ≤ most_steps }
-        ensures passes { (names : List (List ℕ)) (table : List ℕ) (at : ℕ) (text : List ℕ) → IsTable names table → IsShort table text thread → Passes names self.old self.new at text result }
+        ensures passes { (names : List (List ℕ)) (table : List ℕ) (at : ℕ) (text : List ℕ) → IsTable names table →
+            IsShort table text thread → Passes names self.old self.new at text result }
         ensures few { length self.new.schedule ≤ most_steps }
     {
         self.fits = goes_on_once(self.fits, &mut self.schedule, thread)?;
@@ -402,7 +412,8 @@ impl Reader {
         requires threads { length threads.now ≤ 65 }
         requires table { IsTable (map thread_name threads.now) table.now }
         requires few { length self.old.schedule ≤ most_steps }
-        ensures passes { all.now ≡ range_with_len 1 (length threads.now - 1) → Passes (map thread_name threads.now) self.old self.new at text.now result }
+        ensures passes { all.now ≡ range_with_len 1 (length threads.now - 1) →
+            Passes (map thread_name threads.now) self.old self.new at text.now result }
         ensures few { length self.new.schedule ≤ most_steps }
     {
         match short_item(table, text) {
@@ -442,7 +453,8 @@ pub fn read_groups(
 ) -> Result<Schedule, ScheduleFault>
     requires start { start ≤ length text.now }
     requires threads { length threads.now ≤ 65 }
-    ensures { Gives (λ s. s) result (group_schedule (map thread_name threads.now) (pieces start (drop start text.now))) }
+    ensures { Gives (λ s. s) result
+        (group_schedule (map thread_name threads.now) (pieces start (drop start text.now))) }
 {
     let numbers = all_threads(alloc, threads.len())?;
     let all = numbers.as_slice();

@@ -21,12 +21,7 @@ ghost use Rattle.std.specs.Prelude.{
 ghost use Rattle.std.specs.Str.{bytes_eq};
 
 use crate::reading::count;
-
-pub fn is_gap(b: u8) -> bool
-    ensures { result ≡ is_gap b }
-{
-    b == b' ' || b == b'\t' || b == b'\r' || b == b'\n'
-}
+use ls_items::is_gap;
 
 pub fn ends_word(b: u8) -> bool
     ensures { result ≡ ends_word b }

@@ -61,7 +61,8 @@ fn push_item(
     thread: u8,
     count: usize,
 ) -> Result<(), AllocError>
-    ensures { OnOk result (string_bytes out.new ≡ string_bytes out.old ++ item_text (map thread_name threads.now) (thread, count)) }
+    ensures { OnOk result (string_bytes out.new ≡ string_bytes out.old ++
+        item_text (map thread_name threads.now) (thread, count)) }
 {
     out.push_str(name_at(threads, thread))?;
     push_times(out, count)

@@ -1,14 +1,15 @@
 // From a text to its schedule.
 
 ghost use Rattle.ls_events.specs.Limits.{most_steps};
+ghost use Rattle.ls_lexer.specs.Characters.{is_digit};
 ghost use Rattle.ls_lexer.specs.Names.{is_name};
-ghost use Rattle.ls_schedule.specs.Answers.{Gives, Says, capped_schedule, capped_turns, more_steps, so_far, threads_of, view};
+ghost use Rattle.ls_schedule.specs.Answers.{Gives, Says, capped_schedule, capped_turns, more_steps, so_far};
+ghost use Rattle.ls_schedule.specs.Answers.{threads_of, view};
 ghost use Rattle.ls_items.specs.Items.{items};
 ghost use Rattle.ls_schedule.specs.Reading.{
   count_of,
   each,
   is_count,
-  is_digit,
   repeated,
   schedule_of,
   steps_of,
@@ -53,6 +54,7 @@ use crate::table::{goes_on_once, short_item, table_of};
 use ls_checked::program::{Program, ThreadProgram};
 use ls_events::schedule::{MOST_STEPS, Schedule};
 use ls_items::item_len;
+use ls_lexer::characters::is_digit;
 use ls_lexer::names::is_name_bytes;
 use std::alloc::{AllocError, Global};
 
@@ -82,12 +84,6 @@ impl Clone for Said {
     fn clone(&self) -> Result<Said, AllocError> {
         Ok(*self)
     }
-}
-
-fn is_digit(b: u8) -> bool
-    ensures { result ≡ is_digit b }
-{
-    !(b < b'0') && b < b'9' + 1
 }
 
 fn has_digits(text: &[u8]) -> bool
@@ -148,7 +144,8 @@ fn thread_named(threads: &[ThreadProgram], name: &[u8]) -> Option<usize>
 // Which threads the name stands for.
 fn threads_behind(threads: &[ThreadProgram], name: &[u8]) -> Option<Who>
     requires { length threads.now ≤ 65 }
-    ensures { option_map (threads_of (length threads.now)) result ≡ threads_named (map thread_name threads.now) name.now }
+    ensures { option_map (threads_of (length threads.now)) result ≡
+        threads_named (map thread_name threads.now) name.now }
 {
     if name == b"all".as_slice() {
         return Some(Who::All);
@@ -268,7 +265,9 @@ pub fn goes_on_with(
     all: &[u8],
 ) -> Result<bool, AllocError>
     requires { length schedule.old ≤ most_steps }
-    ensures more { (names : ℕ) → all.now ≡ range_with_len 1 (names - 1) → IfOk result (λ now. so_far now schedule.new ≡ more_steps (so_far fits schedule.old) (threads_of names said.who) said.count) }
+    ensures more { (names : ℕ) → all.now ≡ range_with_len 1 (names - 1) →
+        IfOk result (λ now. so_far now schedule.new ≡ more_steps (so_far fits schedule.old) (threads_of names said.who)
+        said.count) }
     ensures few { length schedule.new ≤ most_steps }
 {
     if !fits {

@@ -50,7 +50,8 @@ fn append_again(schedule: &mut Schedule, from: usize, times: u64) -> Result<(), 
     requires { length schedule.old ≤ most_steps }
     ensures ok { OnOk result (schedule.new ≡ schedule.old ++ repeated times (drop from schedule.old)) }
     ensures few { length schedule.new ≤ most_steps }
-    ensures err { IsErrOf result TooManySteps → most_steps < length (schedule.old ++ repeated times (drop from schedule.old)) }
+    ensures err { IsErrOf result TooManySteps →
+        most_steps < length (schedule.old ++ repeated times (drop from schedule.old)) }
     ensures only { IfErr result (λ e. (e ≡ Memory) ⊎ (e ≡ TooManySteps)) }
 {
     let len = schedule.len().saturating_sub(from);
@@ -66,7 +67,8 @@ fn append_again(schedule: &mut Schedule, from: usize, times: u64) -> Result<(), 
 // Appends them so many times, and tells whether the steps fit then.
 fn goes_over(schedule: &mut Schedule, from: usize, times: u64) -> Result<bool, AllocError>
     requires { length schedule.old ≤ most_steps }
-    ensures more { IfOk result (λ fits. so_far fits schedule.new ≡ more_steps (Some schedule.old) (drop from schedule.old) times) }
+    ensures more { IfOk result (λ fits. so_far fits schedule.new ≡
+        more_steps (Some schedule.old) (drop from schedule.old) times) }
     ensures few { length schedule.new ≤ most_steps }
 {
     match append_again(schedule, from, times) {

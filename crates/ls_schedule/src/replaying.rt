@@ -47,9 +47,9 @@ impl Record {
     }
 }
 
-/// The record of a schedule of instructions on a machine with so many cells: the schedule, and the machine's history of it. The
-/// image runs as its texts, whoever compiled it, so the history is one of the Java text.
-/// Refused with 35 where there are no cells, more than 4,194,304, or fewer than setup names.
+/// The record of a schedule of instructions on a machine with so many cells: the schedule, and the machine's history of
+/// it. The image runs as its texts, whoever compiled it, so the history is one of the Java text. Refused with 35 where
+/// there are no cells, more than 4,194,304, or fewer than setup names.
 pub fn replay(
     alloc: Global,
     image: &Image,

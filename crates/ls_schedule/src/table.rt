@@ -6,10 +6,11 @@ ghost use Rattle.ls_schedule.specs.Reading.{thread_name};
 ghost use Rattle.ls_schedule.specs.Table.{IsShort, IsTable};
 ghost use Rattle.std.specs.Prelude.{◌≡◌, ◌≢◌, ◌≤◌, ◌∷◌, [], ℕ, IfOk, IfSome, Ok, length, map, slice_index};
 
-use crate::pieces::{ends_word, is_gap};
+use crate::pieces::ends_word;
 use crate::reading::{Who, read_item};
 use ls_checked::program::ThreadProgram;
 use ls_events::schedule::Schedule;
+use ls_items::is_gap;
 use std::alloc::AllocError;
 
 // The entry of a byte that is no name.
@@ -21,7 +22,8 @@ pub type Table = [u8; 256];
 // The thread of which a byte alone, as an item, is one step.
 fn thread_of(byte: u8, threads: &[ThreadProgram]) -> Option<u8>
     requires { length threads.now ≤ 65 }
-    ensures { IfSome result (λ t. (at : ℕ) → capped_turns (map thread_name threads.now) (at, byte ∷ []) ≡ Ok (t ∷ [], 1)) }
+    ensures { IfSome result (λ t. (at : ℕ) → capped_turns (map thread_name threads.now) (at, byte ∷ []) ≡
+        Ok (t ∷ [], 1)) }
 {
     let Ok(said) = read_item(0, &[byte], threads) else {
         return None;
@@ -95,7 +97,8 @@ pub fn short_item(table: &Table, text: &[u8]) -> Option<u8>
 #[inline(always)]
 pub fn goes_on_once(fits: bool, schedule: &mut Schedule, thread: u8) -> Result<bool, AllocError>
     requires { length schedule.old ≤ most_steps }
-    ensures more { IfOk result (λ now. so_far now schedule.new ≡ more_steps (so_far fits schedule.old) (thread ∷ []) 1) }
+    ensures more { IfOk result (λ now. so_far now schedule.new ≡
+        more_steps (so_far fits schedule.old) (thread ∷ []) 1) }
     ensures few { length schedule.new ≤ most_steps }
 {
     if !fits {

@@ -2,11 +2,16 @@
 //! ls_schedule compute exactly these. This crate is above ls_schedule, so a new text doesn't change ls_schedule.
 #![tactic(auto)]
 
-ghost use Rattle.ls_schedule_rows.specs.Texts.{OneStepEach, NothingAtAll, EachGap, GapsRoundAText, Times, All, AllSeveralTimes, SetupIsZero, AllOfNone};
-ghost use Rattle.ls_schedule_rows.specs.Faults.{ZeroTimes, BadCounts, BadNames, OtherGaps, UnknownNames, ReservedNames, FirstFault, PlacesOfFaults};
-ghost use Rattle.ls_schedule_rows.specs.Groups.{VersionAlone, ItemsAlone, GroupsTimes, GroupsInARow, GapsInGroups, EightInOneAnother, GroupOfNone};
-ghost use Rattle.ls_schedule_rows.specs.GroupFaults.{GroupsOfVersionOne, OtherVersions, NotClosed, EmptyGroups, BadGroupCounts, WithoutGaps, NineInOneAnother, FirstOfGroups};
-ghost use Rattle.ls_schedule_rows.specs.Limits.{LongCounts, LongGroupCounts, MostSteps, OneStepTooMany, CountsInOneAnother, GroupsPastTheLimit, FaultsBeforeTheLength};
+ghost use Rattle.ls_schedule_rows.specs.Texts.{OneStepEach, NothingAtAll, EachGap, GapsRoundAText, Times, All};
+ghost use Rattle.ls_schedule_rows.specs.Texts.{AllSeveralTimes, SetupIsZero, AllOfNone};
+ghost use Rattle.ls_schedule_rows.specs.Faults.{ZeroTimes, BadCounts, BadNames, OtherGaps, UnknownNames};
+ghost use Rattle.ls_schedule_rows.specs.Faults.{ReservedNames, FirstFault, PlacesOfFaults};
+ghost use Rattle.ls_schedule_rows.specs.Groups.{VersionAlone, ItemsAlone, GroupsTimes, GroupsInARow, GapsInGroups};
+ghost use Rattle.ls_schedule_rows.specs.Groups.{EightInOneAnother, GroupOfNone};
+ghost use Rattle.ls_schedule_rows.specs.GroupFaults.{GroupsOfVersionOne, OtherVersions, NotClosed, EmptyGroups};
+ghost use Rattle.ls_schedule_rows.specs.GroupFaults.{BadGroupCounts, WithoutGaps, NineInOneAnother, FirstOfGroups};
+ghost use Rattle.ls_schedule_rows.specs.Limits.{LongCounts, LongGroupCounts, MostSteps, OneStepTooMany};
+ghost use Rattle.ls_schedule_rows.specs.Limits.{CountsInOneAnother, GroupsPastTheLimit, FaultsBeforeTheLength};
 ghost use Rattle.ls_schedule_rows.specs.Printed.{NoSteps, StepsInARow, NamesByNumber};
 
 /// Texts that say steps.

@@ -9,7 +9,8 @@ use Rattle.ls_tree.specs.declared.tree.Simple.{Simple}
 use Rattle.ls_tree.specs.declared.tree.Simple.TheVariants as simples
 use Rattle.ls_tree.specs.declared.tree.Opening.{Opening}
 use Rattle.ls_tree.specs.declared.tree.Opening.TheVariants as openings
-use Rattle.ls_tree.specs.declared.tree.Statement.{Statement, Row_of-BlockItem, end_of-BlockItem, more_of-BlockItem, Held-Statement-If-2, None', Some'}
+use Rattle.ls_tree.specs.declared.tree.Statement.{Statement, Row_of-BlockItem, end_of-BlockItem, more_of-BlockItem}
+use Rattle.ls_tree.specs.declared.tree.Statement.{Held-Statement-If-2, None', Some'}
 use Rattle.ls_tree.specs.declared.tree.Statement.TheVariants as statements
 use Rattle.ls_tree.specs.declared.tree.BlockItem.{BlockItem}
 use Rattle.ls_tree.specs.declared.tree.BlockItem.TheVariants as rows
@@ -57,14 +58,18 @@ abbrev mutual
   placed_statement (statements.Block' shape row span) = trees.Block (placed_row row)
   placed_statement (statements.Empty span) = trees.Empty
   placed_statement (statements.If' c p s otherwise span) = if_of (placed c) (placed_statement s) (placed_held otherwise)
-  placed_statement (statements.While' label c p s span) = trees.While (option_map placed_name label) (placed c) (placed_statement s)
+  placed_statement (statements.While' label c p s span) =
+      trees.While (option_map placed_name label) (placed c) (placed_statement s)
   placed_statement (statements.For' label opening condition updates p body span) =
-      trees.For (option_map placed_name label) (placed_opening opening) (option_map placed condition) (map placed_simple updates.items) (placed_statement body)
+      trees.For (option_map placed_name label) (placed_opening opening) (option_map placed condition)
+      (map placed_simple updates.items) (placed_statement body)
   placed_statement (statements.Break label span) = trees.Break (option_map placed_name label) span
   placed_statement (statements.Continue label span) = trees.Continue (option_map placed_name label) span
   placed_statement (statements.Return value span) = trees.Return (option_map placed value) span
-  placed_statement (statements.Try' shape body begin other finally end span) = trees.Try (placed_row body) (placed_row finally)
-  placed_statement (statements.Synchronized' target shape row end span) = trees.Synchronized (placed target) (placed_row row)
+  placed_statement (statements.Try' shape body begin other finally end span) =
+      trees.Try (placed_row body) (placed_row finally)
+  placed_statement (statements.Synchronized' target shape row end span) =
+      trees.Synchronized (placed target) (placed_row row)
   placed_statement (statements.Simple simple span) = trees.Perform (placed_simple simple)
 
   -- an item of a block, before others
@@ -94,7 +99,8 @@ placed_parameter p = record { type_name = placed_type p.type_name; name = placed
 abbrev pub placed_member : Member → trees.Member
 placed_member (members.Field d) = trees.Fields (placed_declaration d)
 placed_member (members.Method m) =
-    trees.Method (trees.some_in m.locked.items) (option_map placed_type m.result) (placed_name m.name) (map placed_parameter m.parameters.items) (placed_items m.body.items.items)
+    trees.Method (trees.some_in m.locked.items) (option_map placed_type m.result) (placed_name m.name)
+    (map placed_parameter m.parameters.items) (placed_items m.body.items.items)
 placed_member (members.Constructor c) =
     trees.Constructor (placed_name c.name) (map placed_parameter c.parameters.items) (placed_items c.body.items.items)
 

@@ -89,7 +89,9 @@ mutual
     If : (condition : Expression) → (first : Statement) → Statement
     IfElse : (condition : Expression) → (first second : Statement) → Statement
     While : (label : Option Name) → (condition : Expression) → (body : Statement) → Statement
-    For : (label : Option Name) → (opening : Opening) → (condition : Option Expression) → (updates : List Simple) → (body : Statement) → Statement
+    For : (label : Option Name) → (opening : Opening) → (condition : Option Expression) → (updates : List Simple) →
+        (body : Statement) →
+        Statement
     Break : (label : Option Name) → (span : Span) → Statement
     Continue : (label : Option Name) → (span : Span) → Statement
     Return : (value : Option Expression) → (span : Span) → Statement
@@ -114,7 +116,9 @@ some_in (x ∷ xs) = true
 -- a method without a result is void; a synchronized method locks the monitor of its own object (JLS 8.4.3.6)
 pub data Member : Type 0 where
   Fields : (declaration : Declaration) → Member
-  Method : (is_synchronized : Bool) → (result : Option TypeName) → (name : Name) → (parameters : List Parameter) → (body : Items) → Member
+  Method : (is_synchronized : Bool) → (result : Option TypeName) → (name : Name) → (parameters : List Parameter) →
+      (body : Items) →
+      Member
   Constructor : (name : Name) → (parameters : List Parameter) → (body : Items) → Member
 
 pub record ClassTree : Type 0 where

@@ -78,7 +78,9 @@ mutual
     If : (condition : Expression) → (first : Statement) → Statement
     IfElse : (condition : Expression) → (first second : Statement) → Statement
     While : (label : Option Text) → (condition : Expression) → (body : Statement) → Statement
-    For : (label : Option Text) → (opening : Opening) → (condition : Option Expression) → (updates : List Simple) → (body : Statement) → Statement
+    For : (label : Option Text) → (opening : Opening) → (condition : Option Expression) → (updates : List Simple) →
+        (body : Statement) →
+        Statement
     Break : (label : Option Text) → Statement
     Continue : (label : Option Text) → Statement
     Return : (value : Option Expression) → Statement
@@ -112,7 +114,11 @@ pub record Parameter : Type 0 where
 -- The modifiers of a method are those before the first `synchronized`, and for each of these words those after it.
 pub data Member : Type 0 where
   Fields : (declaration : Declaration) → Member
-  Method : (modifiers : List Modifier) → (locked : List (List Modifier)) → (result : Option TypeName) → (name : Text) → (parameters : List Parameter) → (body : Items) → Member
+  Method : (modifiers : List Modifier) → (locked : List (List Modifier)) → (result : Option TypeName) →
+      (name : Text) →
+      (parameters : List Parameter) →
+      (body : Items) →
+      Member
   Constructor : (modifiers : List Modifier) → (name : Text) → (parameters : List Parameter) → (body : Items) → Member
 
 pub record ClassTree : Type 0 where

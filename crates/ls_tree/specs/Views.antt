@@ -2,8 +2,9 @@
 use Rattle.std.specs.Prelude.{List, Option, Some, None, string_bytes, map, option_map}
 use Rattle.std.specs.Global.{Box, Vec}
 use Rattle.ls_tree.specs.declared.tree.Name.{Name}
-use Rattle.ls_tree.specs.declared.tree.Expr.{Expr, Row_of-Expr, end_of-Expr, more_of-Expr, Held-Expr-Call-0, None', Some'}
-use Rattle.ls_tree.specs.declared.tree.Expr.TheVariants as exprs
+use Rattle.ls_tree.specs.declared.tree.Expression.{Expression as Tree, Row_of-Expression, end_of-Expression}
+use Rattle.ls_tree.specs.declared.tree.Expression.{more_of-Expression, Held-Expression-Call-0, None', Some'}
+use Rattle.ls_tree.specs.declared.tree.Expression.TheVariants as parsed
 use Rattle.ls_tree.specs.declared.tree.Modifier.{Modifier}
 use Rattle.ls_tree.specs.declared.tree.Modifier.TheVariants as modifiers
 use Rattle.ls_tree.specs.declared.tree.«Type».{«Type»}
@@ -14,7 +15,8 @@ use Rattle.ls_tree.specs.declared.tree.Simple.{Simple}
 use Rattle.ls_tree.specs.declared.tree.Simple.TheVariants as simples
 use Rattle.ls_tree.specs.declared.tree.Opening.{Opening}
 use Rattle.ls_tree.specs.declared.tree.Opening.TheVariants as openings
-use Rattle.ls_tree.specs.declared.tree.Statement.{Statement, Row_of-BlockItem, end_of-BlockItem, more_of-BlockItem, Held-Statement-If-2}
+use Rattle.ls_tree.specs.declared.tree.Statement.{Statement, Row_of-BlockItem, end_of-BlockItem, more_of-BlockItem}
+use Rattle.ls_tree.specs.declared.tree.Statement.{Held-Statement-If-2}
 use Rattle.ls_tree.specs.declared.tree.Statement as statement_parts
 use Rattle.ls_tree.specs.declared.tree.Statement.TheVariants as statements
 use Rattle.ls_tree.specs.declared.tree.BlockItem.{BlockItem}
@@ -27,7 +29,8 @@ use Rattle.ls_tree.specs.declared.tree.Class.{Class}
 use Rattle.ls_tree.specs.declared.tree.Dotted.{Dotted}
 use Rattle.ls_tree.specs.declared.tree.Import.{Import}
 use Rattle.ls_tree.specs.Trees as trees
-use Rattle.ls_tree.specs.Trees.{Text, Expression, Expressions, NoExpression, MoreExpressions, Items, NoItem, Do, Declare, listed, Piece, Doing, Declaring, collected}
+use Rattle.ls_tree.specs.Trees.{Text, Expression, Expressions, NoExpression, MoreExpressions, Items, NoItem, Do}
+use Rattle.ls_tree.specs.Trees.{Declare, listed, Piece, Doing, Declaring, collected}
 
 abbrev pub name_text : Name → Text
 name_text name = string_bytes name.text
@@ -39,37 +42,38 @@ call_of None name arguments = trees.Call name arguments
 call_of (Some target) name arguments = trees.CallOn target name arguments
 
 abbrev mutual
-  pub bare : Expr → Expression
-  bare (exprs.Number text span) = trees.Number (string_bytes text)
-  bare (exprs.True span) = trees.True
-  bare (exprs.False span) = trees.False
-  bare (exprs.Null span) = trees.Null
-  bare (exprs.This span) = trees.This
-  bare (exprs.Name name) = trees.Name (name_text name)
-  bare (exprs.Paren' p inner span) = trees.Paren (bare inner)
-  bare (exprs.Unary' op p operand span) = trees.Unary op (bare operand)
-  bare (exprs.Binary' op p left q right span) = trees.Binary op (bare left) (bare right)
-  bare (exprs.Field' p target name span) = trees.Field (bare target) (name_text name)
-  bare (exprs.Call' target name shape arguments span) = call_of (bare_held target) (name_text name) (bare_row arguments)
-  bare (exprs.Item' p array q index span) = trees.Item (bare array) (bare index)
-  bare (exprs.New' class shape arguments span) = trees.New (name_text class) (bare_row arguments)
-  bare (exprs.NewMarkable' class shape arguments span) = trees.NewMarkable (name_text class) (bare_row arguments)
-  bare (exprs.NewArray' p length span) = trees.NewArray (bare length)
+  pub bare : Tree → Expression
+  bare (parsed.Number text span) = trees.Number (string_bytes text)
+  bare (parsed.True span) = trees.True
+  bare (parsed.False span) = trees.False
+  bare (parsed.Null span) = trees.Null
+  bare (parsed.This span) = trees.This
+  bare (parsed.Name name) = trees.Name (name_text name)
+  bare (parsed.Paren' p inner span) = trees.Paren (bare inner)
+  bare (parsed.Unary' op p operand span) = trees.Unary op (bare operand)
+  bare (parsed.Binary' op p left q right span) = trees.Binary op (bare left) (bare right)
+  bare (parsed.Field' p target name span) = trees.Field (bare target) (name_text name)
+  bare (parsed.Call' target name shape arguments span) =
+      call_of (bare_held target) (name_text name) (bare_row arguments)
+  bare (parsed.Item' p array q index span) = trees.Item (bare array) (bare index)
+  bare (parsed.New' class shape arguments span) = trees.New (name_text class) (bare_row arguments)
+  bare (parsed.NewMarkable' class shape arguments span) = trees.NewMarkable (name_text class) (bare_row arguments)
+  bare (parsed.NewArray' p length span) = trees.NewArray (bare length)
 
-  pub bare_row : {m : _} → Row_of-Expr m → Expressions
-  bare_row end_of-Expr = NoExpression
-  bare_row (more_of-Expr e rest) = MoreExpressions (bare e) (bare_row rest)
+  pub bare_row : {m : _} → Row_of-Expression m → Expressions
+  bare_row end_of-Expression = NoExpression
+  bare_row (more_of-Expression e rest) = MoreExpressions (bare e) (bare_row rest)
 
-  pub bare_held : Held-Expr-Call-0 → Option Expression
+  pub bare_held : Held-Expression-Call-0 → Option Expression
   bare_held None' = None
   bare_held (Some' p e) = Some (bare e)
 
 -- the same of a target that may be missing
-abbrev pub bare_target : Option (Box Expr) → Option Expression
+abbrev pub bare_target : Option (Box Tree) → Option Expression
 bare_target None = None
 bare_target (Some b) = Some (bare b.value)
 
-abbrev pub expressions_of : List Expr → Expressions
+abbrev pub expressions_of : List Tree → Expressions
 expressions_of es = listed (map bare es)
 
 -- ---- declarations
@@ -123,15 +127,20 @@ abbrev mutual
   pub bare_statement : Statement → trees.Statement
   bare_statement (statements.Block' shape items span) = trees.Block (bare_items items)
   bare_statement (statements.Empty span) = trees.Empty
-  bare_statement (statements.If' condition p first otherwise span) = if_of (bare condition) (bare_statement first) (bare_otherwise otherwise)
-  bare_statement (statements.While' label condition p body span) = trees.While (option_map name_text label) (bare condition) (bare_statement body)
+  bare_statement (statements.If' condition p first otherwise span) =
+      if_of (bare condition) (bare_statement first) (bare_otherwise otherwise)
+  bare_statement (statements.While' label condition p body span) =
+      trees.While (option_map name_text label) (bare condition) (bare_statement body)
   bare_statement (statements.For' label opening condition updates p body span) =
-      trees.For (option_map name_text label) (bare_opening opening) (option_map bare condition) (map bare_simple updates.items) (bare_statement body)
+      trees.For (option_map name_text label) (bare_opening opening) (option_map bare condition)
+      (map bare_simple updates.items) (bare_statement body)
   bare_statement (statements.Break label span) = trees.Break (option_map name_text label)
   bare_statement (statements.Continue label span) = trees.Continue (option_map name_text label)
   bare_statement (statements.Return value span) = trees.Return (option_map bare value)
-  bare_statement (statements.Try' shape body span shape' finally span' span'') = trees.Try (bare_items body) (bare_items finally)
-  bare_statement (statements.Synchronized' target shape body end span) = trees.Synchronized (bare target) (bare_items body)
+  bare_statement (statements.Try' shape body span shape' finally span' span'') =
+      trees.Try (bare_items body) (bare_items finally)
+  bare_statement (statements.Synchronized' target shape body end span) =
+      trees.Synchronized (bare target) (bare_items body)
   bare_statement (statements.Simple simple span) = trees.Perform (bare_simple simple)
 
   pub bare_items : {m : _} → Row_of-BlockItem m → Items
@@ -164,15 +173,29 @@ bare_block block = items_of block.items.items
 -- ---- classes
 
 abbrev pub bare_parameter : Parameter → trees.Parameter
-bare_parameter p = record { modifiers = map bare_modifier p.modifiers.items; type_name = bare_type p.type_name; name = name_text p.name }
+bare_parameter p = record {
+  modifiers = map bare_modifier p.modifiers.items;
+  type_name = bare_type p.type_name;
+  name =
+      name_text p.name;
+}
 
 abbrev pub bare_member : Member → trees.Member
 bare_member (members.Field declaration) = trees.Fields (bare_declaration declaration)
-bare_member (members.Method m) = trees.Method (map bare_modifier m.modifiers.items) (map bare_modifiers m.locked.items) (option_map bare_type m.result) (name_text m.name) (map bare_parameter m.parameters.items) (bare_block m.body)
-bare_member (members.Constructor c) = trees.Constructor (map bare_modifier c.modifiers.items) (name_text c.name) (map bare_parameter c.parameters.items) (bare_block c.body)
+bare_member (members.Method m) =
+    trees.Method (map bare_modifier m.modifiers.items) (map bare_modifiers m.locked.items)
+    (option_map bare_type m.result) (name_text m.name) (map bare_parameter m.parameters.items) (bare_block m.body)
+bare_member (members.Constructor c) =
+    trees.Constructor (map bare_modifier c.modifiers.items) (name_text c.name) (map bare_parameter c.parameters.items)
+    (bare_block c.body)
 
 abbrev pub bare_class : Class → trees.ClassTree
-bare_class c = record { modifiers = map bare_modifier c.modifiers.items; name = name_text c.name; members = map bare_member c.members.items }
+bare_class c = record {
+  modifiers = map bare_modifier c.modifiers.items;
+  name = name_text c.name;
+  members =
+      map bare_member c.members.items;
+}
 
 abbrev pub bare_dotted : Dotted → trees.Dotted
 bare_dotted d = record { first = name_text d.first; more = map name_text d.more.items }
@@ -182,4 +205,10 @@ bare_import i = record { path = bare_dotted i.path; all = i.all }
 
 -- the file of a package, imports and classes
 abbrev pub file_of : Option Dotted → List Import → List Class → trees.File
-file_of name imports classes = record { package_name = option_map bare_dotted name; imports = map bare_import imports; classes = map bare_class classes }
+file_of name imports classes =
+    record {
+      package_name = option_map bare_dotted name;
+      imports = map bare_import imports;
+      classes =
+          map bare_class classes;
+    }

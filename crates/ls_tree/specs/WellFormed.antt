@@ -1,12 +1,18 @@
 -- Which trees the grammar has.
-use Rattle.std.specs.Prelude.{◌≡◌, ◌≢◌, ℕ, ◌+◌, ◌<◌, ◌≤◌, max, Bool, true, false, not, ◌||◌, List, [], ◌∷◌, Option, Some, None, IfSome, codes, ⊤}
+use Rattle.std.specs.Prelude.{◌≡◌, ◌≢◌, ℕ, ◌+◌, ◌<◌, ◌≤◌, max, Bool, true, false, not, ◌||◌, List, [], ◌∷◌, Option}
+use Rattle.std.specs.Prelude.{Some, None, IfSome, codes, ⊤}
 use Rattle.std.specs.List.{AllByRecursion}
 use Rattle.std.specs.Str.{bytes_eq}
 use Rattle.ls_tree.specs.declared.tree.UnaryOp.{UnaryOp}
 use Rattle.ls_tree.specs.declared.tree.UnaryOp.TheVariants as unary
 use Rattle.ls_tree.specs.declared.tree.BinaryOp.{BinaryOp}
 use Rattle.ls_tree.specs.declared.tree.BinaryOp.TheVariants as binary
-use Rattle.ls_tree.specs.Trees.{Text, Expression, Number, True, False, Null, This, Name, Paren, Unary, Binary, Field, Call, CallOn, Item, New, NewMarkable, NewArray, Expressions, NoExpression, MoreExpressions, Declarator, Declaration, Statement, Block, Empty, If, IfElse, While, For, Break, Continue, Return, Try, Perform, Simple, Synchronized, Assign, Add, Count, Evaluate, Opening, Declares, Performs, Items, NoItem, Do, Declare, Piece, Doing, Declaring, Member, Fields, Method, Constructor, ClassTree, File}
+use Rattle.ls_tree.specs.Trees.{Text, Expression, Number, True, False, Null, This, Name, Paren, Unary, Binary, Field}
+use Rattle.ls_tree.specs.Trees.{Call, CallOn, Item, New, NewMarkable, NewArray, Expressions, NoExpression}
+use Rattle.ls_tree.specs.Trees.{MoreExpressions, Declarator, Declaration, Statement, Block, Empty, If, IfElse, While}
+use Rattle.ls_tree.specs.Trees.{For, Break, Continue, Return, Try, Perform, Simple, Synchronized, Assign, Add, Count}
+use Rattle.ls_tree.specs.Trees.{Evaluate, Opening, Declares, Performs, Items, NoItem, Do, Declare, Piece, Doing}
+use Rattle.ls_tree.specs.Trees.{Declaring, Member, Fields, Method, Constructor, ClassTree, File}
 
 -- how loosely an operator binds
 abbrev pub rank_of : BinaryOp → ℕ
@@ -66,11 +72,14 @@ abbrev mutual
   WellFormed after_minus (Name text) = ⊤
   WellFormed after_minus (Paren inner) = WellFormed false inner
   WellFormed after_minus (Unary op operand) = (rank operand ≡ 0) × WellFormed (is_minus op) operand
-  WellFormed after_minus (Binary op left right) = (rank left ≤ rank_of op) × (rank right < rank_of op) × WellFormed false left × WellFormed false right
+  WellFormed after_minus (Binary op left right) = (rank left ≤ rank_of op) × (rank right < rank_of op) ×
+      WellFormed false left × WellFormed false right
   WellFormed after_minus (Field target name) = (is_post target ≡ true) × WellFormed after_minus target
   WellFormed after_minus (Call name arguments) = AreWellFormed arguments
-  WellFormed after_minus (CallOn target name arguments) = (is_post target ≡ true) × WellFormed after_minus target × AreWellFormed arguments
-  WellFormed after_minus (Item array index) = (is_post array ≡ true) × (is_new_array array ≡ false) × WellFormed after_minus array × WellFormed false index
+  WellFormed after_minus (CallOn target name arguments) = (is_post target ≡ true) × WellFormed after_minus target ×
+      AreWellFormed arguments
+  WellFormed after_minus (Item array index) = (is_post array ≡ true) × (is_new_array array ≡ false) ×
+      WellFormed after_minus array × WellFormed false index
   WellFormed after_minus (New class arguments) = AreWellFormed arguments
   WellFormed after_minus (NewMarkable class arguments) = AreWellFormed arguments
   WellFormed after_minus (NewArray length) = WellFormed false length
@@ -127,10 +136,12 @@ abbrev mutual
   pub statement_height : Statement → ℕ
   statement_height (Block items) = items_height items + 1
   statement_height (If condition first) = max (expression_height condition) (statement_height first) + 1
-  statement_height (IfElse condition first second) = max (expression_height condition) (max (statement_height first) (statement_height second)) + 1
+  statement_height (IfElse condition first second) =
+      max (expression_height condition) (max (statement_height first) (statement_height second)) + 1
   statement_height (While label condition body) = max (expression_height condition) (statement_height body) + 1
   statement_height (For label opening condition updates body) =
-      max (opening_height opening) (max (value_height condition) (max (simples_height updates) (statement_height body))) + 1
+      max (opening_height opening) (max (value_height condition) (max (simples_height updates) (statement_height body)))
+      + 1
   statement_height (Return value) = value_height value + 1
   statement_height (Try body finally) = max (items_height body) (items_height finally) + 2
   statement_height (Synchronized target body) = max (expression_height target) (items_height body + 1) + 1
@@ -178,7 +189,8 @@ abbrev mutual
   WellFormedStatement (Block items) = WellFormedItems items
   WellFormedStatement Empty = ⊤
   WellFormedStatement (If condition first) = WellFormed false condition × WellFormedStatement first
-  WellFormedStatement (IfElse condition first second) = WellFormed false condition × WellFormedStatement first × (ends_open first ≡ false) × WellFormedStatement second
+  WellFormedStatement (IfElse condition first second) = WellFormed false condition × WellFormedStatement first ×
+      (ends_open first ≡ false) × WellFormedStatement second
   WellFormedStatement (While label condition body) = WellFormed false condition × WellFormedStatement body
   WellFormedStatement (For label opening condition updates body) =
       WellFormedOpening opening × WellFormedValue condition × WellFormedSimples updates × WellFormedStatement body
@@ -198,9 +210,12 @@ abbrev pub most_nodes : ℕ
 most_nodes = 128
 
 abbrev pub WellFormedMember : Member → Type 0
-WellFormedMember (Fields declaration) = WellFormedDeclaration declaration × (declarators_height (declaration.first ∷ declaration.more) ≤ most_nodes)
-WellFormedMember (Method modifiers locked result name parameters body) = WellFormedItems body × (items_height body + 1 ≤ most_nodes)
-WellFormedMember (Constructor modifiers name parameters body) = WellFormedItems body × (items_height body + 1 ≤ most_nodes)
+WellFormedMember (Fields declaration) = WellFormedDeclaration declaration ×
+    (declarators_height (declaration.first ∷ declaration.more) ≤ most_nodes)
+WellFormedMember (Method modifiers locked result name parameters body) =
+    WellFormedItems body × (items_height body + 1 ≤ most_nodes)
+WellFormedMember (Constructor modifiers name parameters body) =
+    WellFormedItems body × (items_height body + 1 ≤ most_nodes)
 
 abbrev pub WellFormedFile : File → Type 0
 WellFormedFile f = AllByRecursion (λ (c : ClassTree). AllByRecursion WellFormedMember c.members) f.classes

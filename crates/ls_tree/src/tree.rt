@@ -156,7 +156,7 @@ pub struct Declaration {
 #[derive(Drop)]
 pub struct Declarator {
     pub name: Name,
-    pub value: Option<Expr>,
+    pub value: Option<Expression>,
 }
 
 /// What a statement does at once (JLS 14.8), and each part of the head of a `for`. It is an assignment, an addition
@@ -165,19 +165,19 @@ pub struct Declarator {
 #[derive(Drop)]
 pub enum Simple {
     Assign {
-        target: Expr,
-        value: Expr,
+        target: Expression,
+        value: Expression,
     },
     Add {
-        target: Expr,
-        value: Expr,
+        target: Expression,
+        value: Expression,
     },
     Count {
         up: bool,
         before: bool,
-        target: Expr,
+        target: Expression,
     },
-    Evaluate(Expr),
+    Evaluate(Expression),
 }
 
 /// What a `for` begins with (JLS 14.14.1): locals, or simple forms, or nothing.
@@ -211,21 +211,21 @@ pub enum Statement {
     Block(Block),
     Empty(Span),
     If {
-        condition: Expr,
+        condition: Expression,
         then: Box<Statement>,
         otherwise: Option<Box<Statement>>,
         span: Span,
     },
     While {
         label: Option<Name>,
-        condition: Expr,
+        condition: Expression,
         body: Box<Statement>,
         span: Span,
     },
     For {
         label: Option<Name>,
         opening: Opening,
-        condition: Option<Expr>,
+        condition: Option<Expression>,
         updates: Vec<Simple>,
         body: Box<Statement>,
         span: Span,
@@ -239,7 +239,7 @@ pub enum Statement {
         span: Span,
     },
     Return {
-        value: Option<Expr>,
+        value: Option<Expression>,
         span: Span,
     },
     Try {
@@ -248,7 +248,7 @@ pub enum Statement {
         span: Span,
     },
     Synchronized {
-        target: Expr,
+        target: Expression,
         body: Block,
         span: Span,
     },
@@ -297,7 +297,7 @@ impl Clone for BinaryOp {
 
 /// An expression (JLS 15). A number keeps its text, and parentheses are kept.
 #[derive(Drop)]
-pub enum Expr {
+pub enum Expression {
     Number {
         text: String,
         span: Span,
@@ -308,73 +308,73 @@ pub enum Expr {
     This(Span),
     Name(Name),
     Paren {
-        inner: Box<Expr>,
+        inner: Box<Expression>,
         span: Span,
     },
     Unary {
         op: UnaryOp,
-        operand: Box<Expr>,
+        operand: Box<Expression>,
         span: Span,
     },
     Binary {
         op: BinaryOp,
-        left: Box<Expr>,
-        right: Box<Expr>,
+        left: Box<Expression>,
+        right: Box<Expression>,
         span: Span,
     },
     Field {
-        target: Box<Expr>,
+        target: Box<Expression>,
         name: Name,
         span: Span,
     },
     Call {
-        target: Option<Box<Expr>>,
+        target: Option<Box<Expression>>,
         name: Name,
-        arguments: Vec<Expr>,
+        arguments: Vec<Expression>,
         span: Span,
     },
     Item {
-        array: Box<Expr>,
-        index: Box<Expr>,
+        array: Box<Expression>,
+        index: Box<Expression>,
         span: Span,
     },
     New {
         class: Name,
-        arguments: Vec<Expr>,
+        arguments: Vec<Expression>,
         span: Span,
     },
     NewMarkable {
         class: Name,
-        arguments: Vec<Expr>,
+        arguments: Vec<Expression>,
         span: Span,
     },
     NewArray {
-        length: Box<Expr>,
+        length: Box<Expression>,
         span: Span,
     },
 }
 
-impl Expr {
+impl Expression {
     /// The span of the expression in its text.
     pub fn span(&self) -> Span
         ensures { result ≡ span_of (placed self.now) }
     {
         match self {
-            Expr::Name(name) => name.span,
-            Expr::True(span)
-            | Expr::False(span)
-            | Expr::Null(span)
-            | Expr::This(span)
-            | Expr::Number { span, .. }
-            | Expr::Paren { span, .. }
-            | Expr::Unary { span, .. }
-            | Expr::Binary { span, .. }
-            | Expr::Field { span, .. }
-            | Expr::Call { span, .. }
-            | Expr::Item { span, .. }
-            | Expr::New { span, .. }
-            | Expr::NewMarkable { span, .. }
-            | Expr::NewArray { span, .. } => *span,
+            Expression::Name(name) => name.span,
+            Expression::True(span)
+            | Expression::False(span)
+            | Expression::Null(span)
+            | Expression::This(span)
+            | Expression::Number { span, .. }
+            | Expression::Paren { span, .. }
+            | Expression::Unary { span, .. }
+            | Expression::Binary { span, .. }
+            | Expression::Field { span, .. }
+            | Expression::Call { span, .. }
+            | Expression::Item { span, .. }
+            | Expression::New { span, .. }
+            | Expression::NewMarkable { span, .. }
+            | Expression::NewArray { span, .. } => *span,
         }
     }
 }

@@ -6,7 +6,7 @@ use Rattle.ls_types_elaboration.specs.Trees.{Text}
 use Rattle.ls_types_elaboration.specs.Known.{ClassSign}
 use Rattle.ls_types_elaboration.specs.Elaboration.{Outcome}
 use Rattle.ls_types_elaboration.specs.Tables.{texts_of, class_sign_of}
-use Rattle.ls_types.specs.declared.check.Checked.{Checked}
+use Rattle.ls_types.specs.declared.checked.Checked.{Checked}
 
 abbrev pub file_of : Checked → File
 file_of c = c.file

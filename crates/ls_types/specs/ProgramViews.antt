@@ -21,9 +21,9 @@ abbrev pub Refuses : {X : Type 0} → ProgramFault → Option X → Type 0
 Refuses e said = Says e (said ≡ None)
 
 -- seen by `view`, the answer is what the definition says, or memory ran out
-abbrev pub Gives : {X Y : Type 0} → (X → Y) → Result X ProgramFault → Option Y → Type 0
-Gives view (Ok x) said = said ≡ Some (view x)
-Gives view (Err e) said = Refuses e said
+abbrev pub ReadsAs : {X Y : Type 0} → (X → Y) → Result X ProgramFault → Option Y → Type 0
+ReadsAs view (Ok x) said = said ≡ Some (view x)
+ReadsAs view (Err e) said = Refuses e said
 
 abbrev pub fault_seen : Fault → ProgramFault
 fault_seen (Bad at) = faults.BadProgram at

@@ -4,7 +4,7 @@ use Rattle.ls_checked.specs.CheckedProgram.{Program as PlainProgram}
 use Rattle.ls_checked.specs.PlainProgram.{plain_program}
 use Rattle.ls_checked.specs.declared.program.Program.{Program}
 use Rattle.ls_types.specs.CheckedFile.{outcome_of}
-use Rattle.ls_types.specs.declared.check.Checked.{Checked}
+use Rattle.ls_types.specs.declared.checked.Checked.{Checked}
 use Rattle.ls_types.specs.declared.source.Source.{Source}
 
 abbrev pub checked_of : Source → Checked

@@ -5,11 +5,12 @@ ghost use Rattle.ls_checked.specs.PlainProgram.{plain_call};
 ghost use Rattle.ls_types_elaboration.specs.Known.{number_of};
 ghost use Rattle.ls_types_elaboration.specs.Tables.{method_sign_of};
 ghost use Rattle.ls_types.specs.CheckedFile.{outcome_of, names_of};
-ghost use Rattle.ls_types_programs.specs.ProgramCalls.{maker, is_plain, callable, fits, with_argument, is_full, plain_number, minus_number, call_of};
+ghost use Rattle.ls_types_programs.specs.ProgramCalls.{maker, is_plain, callable, fits, with_argument, is_full};
+ghost use Rattle.ls_types_programs.specs.ProgramCalls.{plain_number, minus_number, call_of};
 ghost use Rattle.ls_types_programs.specs.Stops.{Unknown, unmarked, callee_mark, fault_for, why_method, why_value};
-ghost use Rattle.ls_types.specs.ProgramViews.{callee_of, pending_of, Gives, Called};
+ghost use Rattle.ls_types.specs.ProgramViews.{callee_of, pending_of, ReadsAs, Called};
 
-use crate::check::Checked;
+use crate::checked::Checked;
 use crate::fault::ProgramFault;
 use ls_checked::program::ProgramCall;
 use ls_events::value::{Value, ValueType};
@@ -49,7 +50,8 @@ fn begun<'a>(
     at: usize,
     types: &[ValueType],
 ) -> Result<Pending<'a>, AllocError>
-    ensures read { IfOk result (λ p. pending_of p ≡ record { callee = callee_of callee.entry; types = types.now; values = [] }) }
+    ensures read { IfOk result
+        (λ p. pending_of p ≡ record { callee = callee_of callee.entry; types = types.now; values = [] }) }
     ensures place { IfOk result (λ p. p.at ≡ at) }
 {
     Ok(Pending {
@@ -69,7 +71,9 @@ pub fn maker<'a>(
     class_name: &'a str,
     at: usize,
 ) -> Result<Pending<'a>, ProgramFault>
-    ensures read { Gives pending_of result (maker (outcome_of checked.now) name.entry.now class_name.entry.now (number_of (names_of checked.now) class_name.entry.now)) }
+    ensures read { ReadsAs pending_of result
+        (maker (outcome_of checked.now) name.entry.now class_name.entry.now
+        (number_of (names_of checked.now) class_name.entry.now)) }
     ensures place { Called at (Unknown at) result }
 {
     let Some(class) = class_number(checked.class_names(), class_name) else {
@@ -110,8 +114,10 @@ pub fn called_on<'a>(
     name: &'a str,
     at: usize,
 ) -> Result<Pending<'a>, ProgramFault>
-    ensures read { Gives pending_of result (callable n name.entry.now (option_map (λ m. method_sign_of m.now) found.entry)) }
-    ensures place { Called at (fault_for unmarked at (why_method (option_map (λ m. method_sign_of m.now) found.entry))) result }
+    ensures read { ReadsAs pending_of result
+        (callable n name.entry.now (option_map (λ m. method_sign_of m.now) found.entry)) }
+    ensures place { Called at (fault_for unmarked at (why_method (option_map (λ m. method_sign_of m.now) found.entry)))
+        result }
 {
     let Some(m) = found else {
         return Err(ProgramFault::UnknownThing { at });
@@ -146,7 +152,7 @@ pub fn with_argument<'a>(
     v: Value,
     at: usize,
 ) -> Result<Pending<'a>, ProgramFault>
-    ensures read { Gives pending_of result (with_argument (pending_of p.entry) v) }
+    ensures read { ReadsAs pending_of result (with_argument (pending_of p.entry) v) }
     ensures place { Called p.entry.at (fault_for (callee_mark p.entry.at) at (why_value (pending_of p.entry))) result }
 {
     let Some(t) = p.types.get(p.values.len()) else {

@@ -4,7 +4,7 @@ ghost use Rattle.ls_types_judgement.specs.WellTyped.{IsWellTyped, IsWellTypedPro
 ghost use Rattle.ls_types.specs.CheckedFile.{outcome_of};
 ghost use Rattle.ls_types.specs.Sources.{source_file, source_program};
 
-use crate::check::Checked;
+use crate::checked::Checked;
 use crate::source::Source;
 use ls_types_laws::elaborates_well_typed;
 

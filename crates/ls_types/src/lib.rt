@@ -2,7 +2,7 @@
 #![tactic(auto)]
 
 pub mod calls;
-pub mod check;
+pub mod checked;
 pub mod fault;
 pub mod laws;
 pub mod source;

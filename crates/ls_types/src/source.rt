@@ -6,7 +6,7 @@ ghost use Rattle.ls_checked.specs.PlainProgram.{plain_program};
 ghost use Rattle.ls_types_judgement.specs.WellTyped.{IsWellTypedProgram};
 ghost use Rattle.ls_types.specs.CheckedFile.{outcome_of};
 
-use crate::check::Checked;
+use crate::checked::Checked;
 use ls_checked::program::Program;
 use ls_checked::tree::File;
 

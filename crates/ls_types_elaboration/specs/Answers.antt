@@ -1,5 +1,6 @@
 -- What contracts see of elaboration's answers.
 use Rattle.std.specs.Prelude.{◌≡◌, Result, Ok, Err}
+use Rattle.ls_answers.specs.Answers as answers
 use Rattle.ls_checked.specs.CheckedTree as checked
 use Rattle.ls_checked.specs.Plain.{plain}
 use Rattle.ls_checked.specs.declared.tree.Expression.{Expression}
@@ -9,14 +10,13 @@ use Rattle.ls_types_elaboration.specs.declared.static_types.Typed.{Typed}
 use Rattle.ls_types_elaboration.specs.declared.members.Member.{Member}
 use Rattle.ls_types_elaboration.specs.declared.members.Maker.{Maker}
 use Rattle.ls_types_elaboration.specs.Elaborated.{Elaborated}
-use Rattle.ls_types_elaboration.specs.Refused.{Fails}
+use Rattle.ls_types_elaboration.specs.Refused.{Fails, meant}
 use Rattle.ls_types_elaboration.specs.StaticTypes as statics
 use Rattle.ls_types_elaboration.specs.Members as members
 
 -- seen by `view`, the answer is what the definition says, or memory ran out
 abbrev pub Gives : {X Y : Type 0} → (X → Y) → Result X CheckFault → Elaborated Y → Type 0
-Gives view (Ok x) said = said ≡ Ok (view x)
-Gives view (Err e) said = Fails e said
+Gives view answer said = answers.Gives meant view answer said
 
 -- seen by `view`, the answer leads to what the definition says next, or memory ran out
 abbrev pub Leads : {X Y Z : Type 0} → (X → Y) → (Y → Elaborated Z) → Result X CheckFault → Elaborated Z → Type 0

@@ -2,7 +2,9 @@
 
 ghost use Rattle.std.specs.Prelude.{◌≡◌, Ok};
 ghost use Rattle.ls_checked.specs.Plain.{plain};
-ghost use Rattle.ls_types_elaboration.specs.StaticTypes.{fits, same_type, is_reference, comparable, typed_as as typing, as_type, as_value, is_void, is_array, as_array, result_type as the_result_type};
+ghost use Rattle.ls_types_elaboration.specs.StaticTypes.{fits, same_type, is_reference, comparable};
+ghost use Rattle.ls_types_elaboration.specs.StaticTypes.{typed_as as typing, as_type, as_value, is_void, is_array};
+ghost use Rattle.ls_types_elaboration.specs.StaticTypes.{as_array, result_type as the_result_type};
 ghost use Rattle.ls_types_elaboration.specs.Answers.{typed_of, plain_typed, plain_expression};
 
 use crate::rule::{Broken, Rule, broken_at};

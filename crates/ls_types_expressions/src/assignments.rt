@@ -14,7 +14,7 @@ use crate::site::Site;
 use ls_checked::tree::{Expression, Statement};
 use ls_events::value::ValueType;
 use ls_lexer::token::Span;
-use ls_tree::tree::Expr;
+use ls_tree::tree::Expression as Parsed;
 use ls_types_elaboration::rule::{Broken, CheckFault, Rule, broken_at};
 use ls_types_elaboration::static_types::{Static, Typed};
 use ls_types_elaboration::together::also;
@@ -79,8 +79,9 @@ fn assigned(place: Place, value: Expression) -> Statement
 }
 
 /// An assignment. Refused only by a broken rule, or if memory runs out.
-pub fn assignment(site: Site, target: &Expr, value: &Expr) -> Result<Statement, CheckFault>
-    ensures { Gives plain_statement result (assignment (known_of site.entry.known) (locals_of site.entry) (placed target.now) (placed value.now)) }
+pub fn assignment(site: Site, target: &Parsed, value: &Parsed) -> Result<Statement, CheckFault>
+    ensures { Gives plain_statement result
+        (assignment (known_of site.entry.known) (locals_of site.entry) (placed target.now) (placed value.now)) }
 {
     let x = typed(site, target)?;
     let to = left_side(span_of(target), x)?;

@@ -5,9 +5,13 @@ ghost use Rattle.ls_checked.specs.Plain.{plain, all_plain};
 ghost use Rattle.ls_checked.specs.CheckedTree.{Expression as checked_expression, Field as checked_field};
 ghost use Rattle.ls_types_elaboration.specs.Elaborated.{with_ok};
 ghost use Rattle.ls_types_elaboration.specs.StaticTypes.{typed_as as typing};
-ghost use Rattle.ls_types_elaboration.specs.TypedExpressions.{typed, passed, name_of, field_at, is_integer, integer_constant, call_of, number, fitting};
-ghost use Rattle.ls_types_elaboration.specs.Trees.{Call as a_call, CallOn as a_call_on, New as a_new, NewMarkable as a_new_markable, Item as an_item, Binary as a_binary};
-ghost use Rattle.ls_types_elaboration.specs.Placed.{placed, placed_name, placed_all, placed_target, call_of as call_written};
+ghost use Rattle.ls_types_elaboration.specs.TypedExpressions.{typed, passed, name_of, field_at, is_integer};
+ghost use Rattle.ls_types_elaboration.specs.TypedExpressions.{integer_constant, call_of, number, fitting};
+ghost use Rattle.ls_types_elaboration.specs.Trees.{Call as a_call, CallOn as a_call_on, New as a_new};
+ghost use Rattle.ls_types_elaboration.specs.Trees.{NewMarkable as a_new_markable, Item as an_item};
+ghost use Rattle.ls_types_elaboration.specs.Trees.{Binary as a_binary};
+ghost use Rattle.ls_types_elaboration.specs.Placed.{placed, placed_name, placed_all, placed_target};
+ghost use Rattle.ls_types_elaboration.specs.Placed.{call_of as call_written};
 ghost use Rattle.ls_types_expressions.specs.Views.{locals_of};
 ghost use Rattle.ls_types_elaboration.specs.Answers.{Gives, typed_of, member_of as known_member, plain_typed};
 ghost use Rattle.ls_types_tables.specs.ByName.{known_of};
@@ -19,7 +23,7 @@ use ls_checked::tree::{Expression, Expressions};
 use ls_events::value::{Value, ValueType};
 use ls_lexer::token::Span;
 use ls_together::two;
-use ls_tree::tree::{BinaryOp, Expr, Name};
+use ls_tree::tree::{BinaryOp, Expression as Parsed, Name};
 use ls_types_elaboration::known::{FoundField, local_named};
 use ls_types_elaboration::members::{Member, made};
 use ls_types_elaboration::numbers::digits_of;
@@ -67,7 +71,8 @@ fn name_typed(site: Site, n: &Name) -> Result<Typed, CheckFault>
 
 // The class of an object, and its field of a name.
 fn field_in(known: Known, of: Static, n: &Name) -> Result<(usize, FoundField), Broken>
-    ensures { (e : checked_expression) → field_at (known_of known.entry) of e (placed_name n.now) ≡ with_ok result (λ p. typing p.1.value_type (checked_field e p.0 p.1.number)) }
+    ensures { (e : checked_expression) → field_at (known_of known.entry) of e (placed_name n.now) ≡
+        with_ok result (λ p. typing p.1.value_type (checked_field e p.0 p.1.number)) }
 {
     match of {
         Static::Of(ValueType::Class(class)) => match field_of(known, class, n.text.as_str()) {
@@ -94,11 +99,11 @@ fn field_at(alloc: Global, known: Known, x: Typed, n: &Name) -> Result<Typed, Ch
 }
 
 // Whether an expression is the name `Integer`, if no local or field in scope has that name.
-fn is_integer(site: Site, e: &Expr) -> bool
+fn is_integer(site: Site, e: &Parsed) -> bool
     ensures { result ≡ is_integer (known_of site.entry.known) (locals_of site.entry) (placed e.now) }
 {
     match e {
-        Expr::Name(n) => {
+        Parsed::Name(n) => {
             let name = n.text.as_str();
             name == "Integer"
                 && local_named(site.locals, name).is_none()
@@ -140,67 +145,67 @@ fn call_of(
 
 /// An expression, with its type. Refused only by a broken rule, or if memory runs out.
 #[cycle(expressions)]
-pub fn typed(site: Site, e: &Expr) -> Result<Typed, CheckFault>
+pub fn typed(site: Site, e: &Parsed) -> Result<Typed, CheckFault>
     ensures { Gives typed_of result (typed (known_of site.entry.known) (locals_of site.entry) (placed e.now)) }
 {
     match e {
-        Expr::Number { text, .. } => Ok(typed_as(ValueType::Int, number(text.as_str()))),
-        Expr::True(_) => Ok(typed_as(
+        Parsed::Number { text, .. } => Ok(typed_as(ValueType::Int, number(text.as_str()))),
+        Parsed::True(_) => Ok(typed_as(
             ValueType::Boolean,
             Expression::Literal(Value::Boolean(true)),
         )),
-        Expr::False(_) => Ok(typed_as(
+        Parsed::False(_) => Ok(typed_as(
             ValueType::Boolean,
             Expression::Literal(Value::Boolean(false)),
         )),
-        Expr::Null(_) => {
+        Parsed::Null(_) => {
             let expression = Expression::Literal(Value::Reference(0));
             Ok(Typed {
                 expression,
                 of: Static::NullType,
             })
         }
-        Expr::This(_) => Ok(typed_as(ValueType::Class(site.known.own), Expression::Slot(0))),
-        Expr::Name(n) => name_typed(site, n),
-        Expr::Paren { inner, .. } => {
+        Parsed::This(_) => Ok(typed_as(ValueType::Class(site.known.own), Expression::Slot(0))),
+        Parsed::Name(n) => name_typed(site, n),
+        Parsed::Paren { inner, .. } => {
             let x = typed(site, inner)?;
             Ok(as_value(span_of(inner), x)?)
         }
-        Expr::Unary { op, operand, .. } => {
+        Parsed::Unary { op, operand, .. } => {
             let x = typed(site, operand)?;
             unary_of(site.alloc, *op, span_of(operand), x)
         }
-        Expr::Binary {
+        Parsed::Binary {
             op,
             left,
             right,
             span,
         } => binary(site, *op, left, right, *span),
-        Expr::Field { target, name, .. } => {
+        Parsed::Field { target, name, .. } => {
             if is_integer(site, target) {
                 return Ok(integer_constant(name)?);
             }
             let x = typed(site, target)?;
             field_at(site.alloc, site.known, x, name)
         }
-        Expr::Call {
+        Parsed::Call {
             target,
             name,
             arguments,
             span,
         } => { call(site, target, name, arguments, *span) }
-        Expr::Item { array, index, span } => item(site, array, index, *span),
-        Expr::New {
+        Parsed::Item { array, index, span } => item(site, array, index, *span),
+        Parsed::New {
             class,
             arguments,
             span,
         } => { making(site, class, arguments, *span) }
-        Expr::NewMarkable {
+        Parsed::NewMarkable {
             class,
             arguments,
             span,
         } => { markable(site, class, arguments, *span) }
-        Expr::NewArray { length, .. } => {
+        Parsed::NewArray { length, .. } => {
             let n = fitting(site, ValueType::Int, length)?;
             Ok(typed_as(
                 ValueType::BooleanArray,
@@ -214,11 +219,13 @@ pub fn typed(site: Site, e: &Expr) -> Result<Typed, CheckFault>
 fn binary(
     site: Site,
     op: BinaryOp,
-    left: &Expr,
-    right: &Expr,
+    left: &Parsed,
+    right: &Parsed,
     span: Span,
 ) -> Result<Typed, CheckFault>
-    ensures { Gives typed_of result (typed (known_of site.entry.known) (locals_of site.entry) (a_binary op (placed left.now) (placed right.now) span)) }
+    ensures { Gives typed_of result
+        (typed (known_of site.entry.known) (locals_of site.entry)
+        (a_binary op (placed left.now) (placed right.now) span)) }
 {
     let x = typed(site, left)?;
     let y = typed(site, right);
@@ -234,12 +241,14 @@ fn binary(
 #[cycle(expressions)]
 fn call(
     site: Site,
-    target: &Option<Box<Expr>>,
+    target: &Option<Box<Parsed>>,
     n: &Name,
-    arguments: &[Expr],
+    arguments: &[Parsed],
     span: Span,
 ) -> Result<Typed, CheckFault>
-    ensures { Gives typed_of result (typed (known_of site.entry.known) (locals_of site.entry) (call_written (placed_target target.now) (placed_name n.now) (placed_all arguments.now) span)) }
+    ensures { Gives typed_of result
+        (typed (known_of site.entry.known) (locals_of site.entry)
+        (call_written (placed_target target.now) (placed_name n.now) (placed_all arguments.now) span)) }
 {
     match target {
         None => own_call(site, n, arguments, span),
@@ -249,8 +258,10 @@ fn call(
 
 // A method of the class to which the code belongs.
 #[cycle(expressions)]
-fn own_call(site: Site, n: &Name, arguments: &[Expr], span: Span) -> Result<Typed, CheckFault>
-    ensures { Gives typed_of result (typed (known_of site.entry.known) (locals_of site.entry) (a_call (placed_name n.now) (placed_all arguments.now) span)) }
+fn own_call(site: Site, n: &Name, arguments: &[Parsed], span: Span) -> Result<Typed, CheckFault>
+    ensures { Gives typed_of result
+        (typed (known_of site.entry.known) (locals_of site.entry)
+        (a_call (placed_name n.now) (placed_all arguments.now) span)) }
 {
     let m = own_member(site.alloc, site.known, n)?;
     let es = passed(site, &m.parameters, arguments, span);
@@ -262,12 +273,14 @@ fn own_call(site: Site, n: &Name, arguments: &[Expr], span: Span) -> Result<Type
 #[cycle(expressions)]
 fn call_on(
     site: Site,
-    target: &Expr,
+    target: &Parsed,
     n: &Name,
-    arguments: &[Expr],
+    arguments: &[Parsed],
     span: Span,
 ) -> Result<Typed, CheckFault>
-    ensures { Gives typed_of result (typed (known_of site.entry.known) (locals_of site.entry) (a_call_on (placed target.now) (placed_name n.now) (placed_all arguments.now) span)) }
+    ensures { Gives typed_of result
+        (typed (known_of site.entry.known) (locals_of site.entry)
+        (a_call_on (placed target.now) (placed_name n.now) (placed_all arguments.now) span)) }
 {
     let x = typed(site, target)?;
     let m = member_of(site.alloc, site.known, x.of, n);
@@ -279,8 +292,10 @@ fn call_on(
 
 // An element of an array.
 #[cycle(expressions)]
-fn item(site: Site, array: &Expr, index: &Expr, span: Span) -> Result<Typed, CheckFault>
-    ensures { Gives typed_of result (typed (known_of site.entry.known) (locals_of site.entry) (an_item (placed array.now) (placed index.now) span)) }
+fn item(site: Site, array: &Parsed, index: &Parsed, span: Span) -> Result<Typed, CheckFault>
+    ensures { Gives typed_of result
+        (typed (known_of site.entry.known) (locals_of site.entry)
+        (an_item (placed array.now) (placed index.now) span)) }
 {
     let x = typed(site, array)?;
     let a = as_array(span_of(array), x)?;
@@ -292,8 +307,10 @@ fn item(site: Site, array: &Expr, index: &Expr, span: Span) -> Result<Typed, Che
 
 // An object or a lock.
 #[cycle(expressions)]
-fn making(site: Site, class: &Name, arguments: &[Expr], span: Span) -> Result<Typed, CheckFault>
-    ensures { Gives typed_of result (typed (known_of site.entry.known) (locals_of site.entry) (a_new (placed_name class.now) (placed_all arguments.now) span)) }
+fn making(site: Site, class: &Name, arguments: &[Parsed], span: Span) -> Result<Typed, CheckFault>
+    ensures { Gives typed_of result
+        (typed (known_of site.entry.known) (locals_of site.entry)
+        (a_new (placed_name class.now) (placed_all arguments.now) span)) }
 {
     let m = maker_of(site.alloc, site.known, class)?;
     let es = passed(site, &m.parameters, arguments, span);
@@ -302,8 +319,10 @@ fn making(site: Site, class: &Name, arguments: &[Expr], span: Span) -> Result<Ty
 }
 
 #[cycle(expressions)]
-fn markable(site: Site, class: &Name, arguments: &[Expr], span: Span) -> Result<Typed, CheckFault>
-    ensures { Gives typed_of result (typed (known_of site.entry.known) (locals_of site.entry) (a_new_markable (placed_name class.now) (placed_all arguments.now) span)) }
+fn markable(site: Site, class: &Name, arguments: &[Parsed], span: Span) -> Result<Typed, CheckFault>
+    ensures { Gives typed_of result
+        (typed (known_of site.entry.known) (locals_of site.entry)
+        (a_new_markable (placed_name class.now) (placed_all arguments.now) span)) }
 {
     let m = markable_maker(site.alloc, site.known, class)?;
     let es = passed(site, &m.parameters, arguments, span);
@@ -316,10 +335,11 @@ fn markable(site: Site, class: &Name, arguments: &[Expr], span: Span) -> Result<
 fn passed(
     site: Site,
     types: &[ValueType],
-    es: &[Expr],
+    es: &[Parsed],
     span: Span,
 ) -> Result<Expressions, CheckFault>
-    ensures { Gives all_plain result (passed (known_of site.entry.known) (locals_of site.entry) types.now (placed_all es.now) span) }
+    ensures { Gives all_plain result
+        (passed (known_of site.entry.known) (locals_of site.entry) types.now (placed_all es.now) span) }
 {
     match (types, es) {
         ([], []) => Ok(Expressions::End),
@@ -337,7 +357,7 @@ fn passed(
 
 /// An expression where a value of a type is wanted. Refused only by a broken rule, or if memory runs out.
 #[cycle(expressions)]
-pub fn fitting(site: Site, t: ValueType, e: &Expr) -> Result<Expression, CheckFault>
+pub fn fitting(site: Site, t: ValueType, e: &Parsed) -> Result<Expression, CheckFault>
     ensures { Gives plain result (fitting (known_of site.entry.known) (locals_of site.entry) t (placed e.now)) }
 {
     let x = typed(site, e)?;

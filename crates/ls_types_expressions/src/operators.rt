@@ -67,7 +67,8 @@ fn computed(
 }
 
 fn may_compare(span: Span, x: Static, y: Static) -> Result<(), Broken>
-    ensures { (go : Elaborated the_typed) → (if comparable x y then go else broken WrongType span) ≡ unless_refused result go }
+    ensures { (go : Elaborated the_typed) → (if comparable x y then go else broken WrongType span) ≡
+        unless_refused result go }
 {
     if comparable(x, y) {
         Ok(())
@@ -96,7 +97,9 @@ fn compared(
 
 // Truth values on both sides of `&&` or `||`.
 fn decided(alloc: Global, and: bool, spans: Spans, x: Typed, y: Typed) -> Result<Typed, CheckFault>
-    ensures { Gives typed_of result (binary_of (if and then and_written else or_written) spans.whole spans.left spans.right (typed_of x) (typed_of y)) }
+    ensures { Gives typed_of result
+        (binary_of (if and then and_written else or_written) spans.whole spans.left spans.right (typed_of x)
+        (typed_of y)) }
 {
     let (y, a) = also(y, as_type(ValueType::Boolean, spans.left, x))?;
     let (a, b) = also(a, as_type(ValueType::Boolean, spans.right, y))?;

@@ -7,7 +7,8 @@ ghost use Rattle.ls_checked.specs.Plain.{plain, plain_statement};
 ghost use Rattle.ls_types_elaboration.specs.Elaborated.{with_ok, each};
 ghost use Rattle.ls_types_elaboration.specs.Trees.{span_of};
 ghost use Rattle.ls_types_elaboration.specs.TypedExpressions.{typed};
-ghost use Rattle.ls_types_elaboration.specs.TypedStatements.{counter, added, addition, step, simple, simples, one_simple};
+ghost use Rattle.ls_types_elaboration.specs.TypedStatements.{counter, added, addition, step, simple, simples};
+ghost use Rattle.ls_types_elaboration.specs.TypedStatements.{one_simple};
 ghost use Rattle.ls_types_elaboration.specs.Placed.{placed};
 ghost use Rattle.ls_types_elaboration.specs.PlacedStatements.{placed_simple};
 ghost use Rattle.ls_types_tables.specs.ByName.{known_of};
@@ -22,7 +23,7 @@ use ls_checked::tree::{Expression, Operator, Statement};
 use ls_events::value::{Value, ValueType};
 use ls_lexer::token::Span;
 use ls_together::two;
-use ls_tree::tree::{Expr, Simple};
+use ls_tree::tree::{Expression as Parsed, Simple};
 use ls_types_elaboration::rule::{Broken, CheckFault, Rule, broken_at};
 use ls_types_elaboration::static_types::{Static, Typed};
 use ls_types_elaboration::together::also;
@@ -94,8 +95,10 @@ fn step(up: bool) -> Expression
 }
 
 // The variable to which a form adds.
-fn counted(site: Site, target: &Expr) -> Result<Counter, CheckFault>
-    ensures { Gives counter_of result (with_ok (typed (known_of site.entry.known) (locals_of site.entry) (placed target.now)) (λ x. counter (span_of (placed target.now)) x.expression x.static)) }
+fn counted(site: Site, target: &Parsed) -> Result<Counter, CheckFault>
+    ensures { Gives counter_of result
+        (with_ok (typed (known_of site.entry.known) (locals_of site.entry) (placed target.now))
+        (λ x. counter (span_of (placed target.now)) x.expression x.static)) }
 {
     let x = typed(site, target)?;
     let to = counter_at(span_of(target), x)?;
@@ -104,7 +107,8 @@ fn counted(site: Site, target: &Expr) -> Result<Counter, CheckFault>
 
 /// A simple form. Refused only by a broken rule, or if memory runs out.
 pub fn simple(site: Site, s: &Simple) -> Result<Statement, CheckFault>
-    ensures { Gives plain_statement result (simple (known_of site.entry.known) (locals_of site.entry) (placed_simple s.now)) }
+    ensures { Gives plain_statement result
+        (simple (known_of site.entry.known) (locals_of site.entry) (placed_simple s.now)) }
 {
     match s {
         Simple::Assign { target, value } => assignment(site, target, value),
@@ -126,7 +130,9 @@ pub fn simple(site: Site, s: &Simple) -> Result<Statement, CheckFault>
 
 // One more simple form.
 fn one_simple(site: Site, front: &mut Vec<Statement>, s: &Simple) -> Result<(), CheckFault>
-    ensures { Gives (λ _. map plain_statement front.new.items) result (one_simple (known_of site.entry.known) (locals_of site.entry) (map plain_statement front.old.items) (placed_simple s.now)) }
+    ensures { Gives (λ _. map plain_statement front.new.items) result
+        (one_simple (known_of site.entry.known) (locals_of site.entry) (map plain_statement front.old.items)
+        (placed_simple s.now)) }
 {
     let s = simple(site, s)?;
     front.push(s)?;
@@ -135,7 +141,8 @@ fn one_simple(site: Site, front: &mut Vec<Statement>, s: &Simple) -> Result<(), 
 
 /// Simple forms, one after another. Refused only by a broken rule, or if memory runs out.
 pub fn simples(site: Site, ss: &[Simple]) -> Result<Vec<Statement>, CheckFault>
-    ensures { Gives (λ v. map plain_statement v.items) result (simples (known_of site.entry.known) (locals_of site.entry) (map placed_simple ss.now)) }
+    ensures { Gives (λ v. map plain_statement v.items) result
+        (simples (known_of site.entry.known) (locals_of site.entry) (map placed_simple ss.now)) }
 {
     let mut front = Vec::new(site.alloc);
     for s in ss {

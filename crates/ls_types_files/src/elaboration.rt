@@ -30,7 +30,8 @@ fn file_methods(
     tables: &[ClassTables],
     classes: &[tree::Class],
 ) -> Result<Vec<Method>, CheckFault>
-    ensures { Gives (bodies_of (length classes.now)) result (file_methods (keys_of names.now) (map class_entry_of tables.now) (map placed_class classes.now)) }
+    ensures { Gives (bodies_of (length classes.now)) result
+        (file_methods (keys_of names.now) (map class_entry_of tables.now) (map placed_class classes.now)) }
 {
     let mut methods = Vec::new(alloc);
     for (own, c) in classes.iter().enumerate() {
@@ -51,7 +52,17 @@ fn outcome(
     tables: Vec<ClassTables>,
     methods: Vec<Method>,
 ) -> Result<Outcome, AllocError>
-    ensures { IfOk result (λ o. outcome_of o ≡ record { names = keys_of names; signs = map class_entry_of tables.items; file = record { classes = map checked_class (map class_entry_of tables.items); methods = map plain_method methods.items } }) }
+    ensures { IfOk result
+        (λ o. outcome_of o ≡ record {
+          names = keys_of names;
+          signs = map class_entry_of tables.items;
+          file =
+              record {
+                classes = map checked_class (map class_entry_of tables.items);
+                methods =
+                    map plain_method methods.items;
+              };
+        }) }
 {
     let names = names_of(alloc, names);
     let ((tables, methods), names) = also((tables, methods), names)?;

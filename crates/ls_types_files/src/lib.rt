@@ -1,7 +1,7 @@
 //! Typing of methods and files: the checked file of a class text's tree, or a broken rule and its place.
 #![tactic(auto)]
 
-pub mod checking;
+pub mod check;
 mod completion;
 mod elaboration;
 mod methods;

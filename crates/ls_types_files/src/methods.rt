@@ -9,11 +9,15 @@ ghost use Rattle.ls_types_elaboration.specs.Answers.{Gives, Leads};
 ghost use Rattle.ls_types_elaboration.specs.TypedStatements.{sequence};
 ghost use Rattle.ls_checked.specs.Plain.{plain_statement, plain_method};
 ghost use Rattle.ls_types_elaboration.specs.Elaborated.{Elaborated, each, unless_broken};
-ghost use Rattle.ls_types_elaboration.specs.TypedMethods.{parameter, declarator_set, member_set, initialisers, all_items, in_monitor, method, written_method, written_constructor, one_method, has_constructor, default_constructor, class_methods};
+ghost use Rattle.ls_types_elaboration.specs.TypedMethods.{parameter, declarator_set, member_set, initialisers};
+ghost use Rattle.ls_types_elaboration.specs.TypedMethods.{all_items, in_monitor, method, written_method};
+ghost use Rattle.ls_types_elaboration.specs.TypedMethods.{written_constructor, one_method, has_constructor};
+ghost use Rattle.ls_types_elaboration.specs.TypedMethods.{default_constructor, class_methods};
 ghost use Rattle.ls_types_elaboration.specs.Scopes.{Slots as the_slots};
 ghost use Rattle.ls_types_elaboration.specs.Trees.{some_in};
 ghost use Rattle.ls_types_elaboration.specs.Placed.{placed_name};
-ghost use Rattle.ls_types_elaboration.specs.PlacedStatements.{placed_parameter, placed_declarator, placed_member, placed_items, placed_type};
+ghost use Rattle.ls_types_elaboration.specs.PlacedStatements.{placed_parameter, placed_declarator, placed_member};
+ghost use Rattle.ls_types_elaboration.specs.PlacedStatements.{placed_items, placed_type};
 ghost use Rattle.ls_types_tables.specs.ByName.{known_of};
 ghost use Rattle.ls_types_statements.specs.ScopeViews.{body_of, slots_of, scope_of};
 
@@ -43,7 +47,8 @@ fn parameter<'t>(
     p: &'t Parameter,
 ) -> Result<(), CheckFault>
     requires { slots.old.named ≤ 128 }
-    ensures found { Gives (λ _. scope_of scope.new (slots_of slots.new)) result (parameter (body_of context.entry) (scope_of scope.old (slots_of slots.old)) (placed_parameter p.entry.now)) }
+    ensures found { Gives (λ _. scope_of scope.new (slots_of slots.new)) result
+        (parameter (body_of context.entry) (scope_of scope.old (slots_of slots.old)) (placed_parameter p.entry.now)) }
     ensures low { OnOk result (slots.new.named ≤ 128) }
 {
     may_declare(context.span, scope, slots, &p.name)?;
@@ -59,7 +64,9 @@ fn parameters<'t>(
     ps: &'t [Parameter],
 ) -> Result<(), CheckFault>
     requires { slots.old.named ≤ 128 }
-    ensures found { Gives (λ _. scope_of scope.new (slots_of slots.new)) result (each (parameter (body_of context.entry)) (scope_of scope.old (slots_of slots.old)) (map placed_parameter ps.entry.now)) }
+    ensures found { Gives (λ _. scope_of scope.new (slots_of slots.new)) result
+        (each (parameter (body_of context.entry)) (scope_of scope.old (slots_of slots.old))
+        (map placed_parameter ps.entry.now)) }
     ensures low { OnOk result (slots.new.named ≤ 128) }
 {
     for p in ps {
@@ -75,7 +82,8 @@ fn declarator_set(
     front: Vec<Statement>,
     d: &Declarator,
 ) -> Result<Vec<Statement>, CheckFault>
-    ensures { Gives (λ v. map plain_statement v.items) result (declarator_set (known_of known.entry) (map plain_statement front.items) (placed_declarator d.now)) }
+    ensures { Gives (λ v. map plain_statement v.items) result
+        (declarator_set (known_of known.entry) (map plain_statement front.items) (placed_declarator d.now)) }
 {
     match (field_of(known, known.own, d.name.text.as_str()), &d.value) {
         (Some(f), Some(e)) => {
@@ -104,7 +112,8 @@ fn member_set(
     before: Vec<Statement>,
     m: &Member,
 ) -> Result<Vec<Statement>, CheckFault>
-    ensures { Gives (λ v. map plain_statement v.items) result (member_set (known_of known.entry) (map plain_statement before.items) (placed_member m.now)) }
+    ensures { Gives (λ v. map plain_statement v.items) result
+        (member_set (known_of known.entry) (map plain_statement before.items) (placed_member m.now)) }
 {
     match m {
         Member::Field(d) => {
@@ -125,7 +134,8 @@ fn initialisers(
     known: Known,
     members: &[Member],
 ) -> Result<Vec<Statement>, CheckFault>
-    ensures { Gives (λ v. map plain_statement v.items) result (initialisers (known_of known.entry) (map placed_member members.now)) }
+    ensures { Gives (λ v. map plain_statement v.items) result
+        (initialisers (known_of known.entry) (map placed_member members.now)) }
 {
     let mut front = Vec::new(alloc);
     for m in members {
@@ -145,7 +155,8 @@ fn first_slot(alloc: Global, known: Known) -> Result<Slots, AllocError>
 
 // The statement that locks the monitor of `this`, around the statements of the scope.
 fn in_monitor(alloc: Global, slot: usize, class: usize, scope: &mut Scope) -> Result<(), CheckFault>
-    ensures { (slots : the_slots) → Gives (λ _. scope_of scope.new slots) result (Ok (in_monitor slot class (scope_of scope.old slots))) }
+    ensures { (slots : the_slots) →
+        Gives (λ _. scope_of scope.new slots) result (Ok (in_monitor slot class (scope_of scope.old slots))) }
 {
     let inner = mem::replace(&mut scope.statements, Vec::new(alloc));
     let this = Expression::Slot(0);
@@ -163,7 +174,9 @@ fn body_items<'t>(
     items: &'t [BlockItem],
 ) -> Result<(), CheckFault>
     requires { slots.old.named ≤ 128 }
-    ensures found { Gives (λ _. scope_of scope.new (slots_of slots.new)) result (all_items (body_of context.entry) is_synchronized (scope_of scope.old (slots_of slots.old)) (placed_items items.entry.now)) }
+    ensures found { Gives (λ _. scope_of scope.new (slots_of slots.new)) result
+        (all_items (body_of context.entry) is_synchronized (scope_of scope.old (slots_of slots.old))
+        (placed_items items.entry.now)) }
 {
     let round = Round {
         context,
@@ -181,7 +194,10 @@ fn body_items<'t>(
 
 // Whether a method that answers a value can't complete without a value.
 fn answered(context: Context, body: &[Statement]) -> Result<(), CheckFault>
-    ensures { (go : Elaborated checked_method) → Leads (λ u. u) (λ u. go) result (unless_broken (is_some context.entry.result && all_complete (sequence (map plain_statement body.now))) MissingReturn context.entry.span go) }
+    ensures { (go : Elaborated checked_method) →
+        Leads (λ u. u) (λ u. go) result
+        (unless_broken (is_some context.entry.result && all_complete (sequence (map plain_statement body.now)))
+        MissingReturn context.entry.span go) }
 {
     if context.result.is_some() && all_complete(context.alloc, body)? {
         return Err(refused_at(Rule::MissingReturn, context.span));
@@ -199,7 +215,9 @@ fn method<'t>(
     items: &'t [BlockItem],
 ) -> Result<Method, CheckFault>
     requires { context.span ≡ name.now.span }
-    ensures { Gives plain_method result (method (known_of context.entry.known) is_synchronized context.entry.result (placed_name name.now) (map placed_parameter ps.entry.now) (map plain_statement front.items) (placed_items items.entry.now)) }
+    ensures { Gives plain_method result
+        (method (known_of context.entry.known) is_synchronized context.entry.result (placed_name name.now)
+        (map placed_parameter ps.entry.now) (map plain_statement front.items) (placed_items items.entry.now)) }
 {
     let alloc = context.alloc;
     let (front, mut slots) = also(front, first_slot(alloc, context.known))?;
@@ -230,7 +248,9 @@ fn is_synchronized(locked: &[Vec<Modifier>]) -> bool
 }
 
 fn written_method(alloc: Global, known: Known, m: &MethodText) -> Result<Method, CheckFault>
-    ensures { Gives plain_method result (written_method (known_of known.entry) (some_in m.now.locked.items) (option_map placed_type m.now.result) (placed_name m.now.name) (map placed_parameter m.now.parameters.items) (placed_items m.now.body.items.items)) }
+    ensures { Gives plain_method result
+        (written_method (known_of known.entry) (some_in m.now.locked.items) (option_map placed_type m.now.result)
+        (placed_name m.now.name) (map placed_parameter m.now.parameters.items) (placed_items m.now.body.items.items)) }
 {
     let context = Context {
         alloc,
@@ -249,7 +269,9 @@ fn written_constructor(
     members: &[Member],
     c: &Constructor,
 ) -> Result<Method, CheckFault>
-    ensures { Gives plain_method result (written_constructor (known_of known.entry) (map placed_member members.now) (placed_name c.now.name) (map placed_parameter c.now.parameters.items) (placed_items c.now.body.items.items)) }
+    ensures { Gives plain_method result
+        (written_constructor (known_of known.entry) (map placed_member members.now) (placed_name c.now.name)
+        (map placed_parameter c.now.parameters.items) (placed_items c.now.body.items.items)) }
 {
     let context = Context {
         alloc,
@@ -269,7 +291,9 @@ fn one_method(
     before: Vec<Method>,
     m: &Member,
 ) -> Result<Vec<Method>, CheckFault>
-    ensures { Gives (λ v. map plain_method v.items) result (one_method (known_of known.entry) (map placed_member members.now) (map plain_method before.items) (placed_member m.now)) }
+    ensures { Gives (λ v. map plain_method v.items) result
+        (one_method (known_of known.entry) (map placed_member members.now) (map plain_method before.items)
+        (placed_member m.now)) }
 {
     let made = match m {
         Member::Field(_) => return Ok(before),
@@ -298,7 +322,8 @@ fn default_constructor(
     members: &[Member],
     before: Vec<Method>,
 ) -> Result<Vec<Method>, CheckFault>
-    ensures { Gives (λ v. map plain_method v.items) result (default_constructor (known_of known.entry) (map placed_member members.now) (map plain_method before.items)) }
+    ensures { Gives (λ v. map plain_method v.items) result
+        (default_constructor (known_of known.entry) (map placed_member members.now) (map plain_method before.items)) }
 {
     if has_constructor(members) {
         return Ok(before);
@@ -324,7 +349,8 @@ pub fn class_methods(
     before: Vec<Method>,
     members: &[Member],
 ) -> Result<Vec<Method>, CheckFault>
-    ensures { Gives (λ v. map plain_method v.items) result (class_methods (known_of known.entry) (map plain_method before.items) (map placed_member members.now)) }
+    ensures { Gives (λ v. map plain_method v.items) result
+        (class_methods (known_of known.entry) (map plain_method before.items) (map placed_member members.now)) }
 {
     let mut methods = before;
     for m in members {

@@ -3,6 +3,7 @@ use Rattle.std.specs.Prelude.{ℕ, nat_lt, Bool, true, false, not, ◌&&◌, ◌
 use Rattle.std.specs.Prelude.{None, codes, bytes_eq, if◌then◌else◌, slice_get, is_some, nat_le}
 use Rattle.ls_checked.specs.Limits.{most_threads, most_calls}
 use denote.Enum.Bare.{sameb}
+use Rattle.ls_lexer.specs.Places.{text_limit}
 use Rattle.ls_lexer.specs.declared.sign.Sign.{Sign}
 use Rattle.ls_lexer.specs.declared.sign.Sign.TheVariants as signs
 use Rattle.ls_lexer.specs.contracts.sign.Sign.{the_type as sign_type}
@@ -22,7 +23,7 @@ use Rattle.ls_types_programs.specs.ProgramCalls.{plain_number, minus_number, cal
 
 -- the most bytes of a text
 abbrev pub most_bytes : ℕ
-most_bytes = 262144
+most_bytes = text_limit
 
 -- what is read so far, and what comes next
 pub data Stage : Type 0 where

@@ -13,7 +13,7 @@ pub fn value_named<V: Copy>(values: &IndexMap<String, V>, name: &str) -> Option<
     values.get(name).copied()
 }
 
-/// Gives a name its value, if it has none. If memory runs out, no name has another value than before.
+/// ReadsAs a name its value, if it has none. If memory runs out, no name has another value than before.
 pub fn give<V: Copy>(
     alloc: Global,
     values: &mut IndexMap<String, V>,

@@ -11,7 +11,7 @@ ghost use Rattle.ls_types.specs.CheckedFile.{outcome_of};
 ghost use Rattle.ls_types_programs.specs.ThreadPrograms.{after, beginning, program_of, program_of_tokens};
 ghost use Rattle.ls_types_programs.specs.Programs.{IsTextOf};
 ghost use Rattle.ls_types_programs.specs.Stops.{stops, unmarked};
-ghost use Rattle.ls_types.specs.ProgramViews.{Gives, Refuses};
+ghost use Rattle.ls_types.specs.ProgramViews.{ReadsAs, Refuses};
 ghost use Rattle.ls_types_reading.specs.ReadingViews.{parts_of, reading_of, StopsAt, StopsWith};
 ghost use Rattle.ls_types.specs.ProgramRefusals.{Stands};
 
@@ -22,7 +22,7 @@ use ls_checked::program::Program;
 use ls_lexer::fault::TextFault;
 use ls_lexer::lexing::lex;
 use ls_lexer::token::Token;
-use ls_types::check::Checked;
+use ls_types::checked::Checked;
 use ls_types::fault::ProgramFault;
 use ls_types_laws::reads_well_typed;
 use std::alloc::{AllocError, Global};
@@ -46,8 +46,10 @@ fn read_tokens<'a>(
     tokens: &[Token<'a>],
 ) -> Result<Stage<'a>, ProgramFault>
     requires { parts_of parts.old ≡ beginning.parts }
-    ensures read { Gives (reading_of parts.new) result (after (outcome_of methods.now.checked.now) (Some beginning) (lexemes tokens.now)) }
-    ensures place { (end : ℕ) → StopsAt end (stops (outcome_of methods.now.checked.now) end unmarked beginning tokens.now) result }
+    ensures read { ReadsAs (reading_of parts.new) result
+        (after (outcome_of methods.now.checked.now) (Some beginning) (lexemes tokens.now)) }
+    ensures place { (end : ℕ) →
+        StopsAt end (stops (outcome_of methods.now.checked.now) end unmarked beginning tokens.now) result }
 {
     let mut stage = Stage::AtSetup;
     for token in tokens {
@@ -63,8 +65,10 @@ fn whole<'a>(
     tokens: &[Token<'a>],
     end: usize,
 ) -> Result<Program, ProgramFault>
-    ensures read { Gives plain_program result (program_of_tokens (outcome_of methods.now.checked.now) (Some (lexemes tokens.now))) }
-    ensures place { IfErr result (λ e. StopsWith e (stops (outcome_of methods.now.checked.now) end unmarked beginning tokens.now)) }
+    ensures read { ReadsAs plain_program result
+        (program_of_tokens (outcome_of methods.now.checked.now) (Some (lexemes tokens.now))) }
+    ensures place { IfErr result
+        (λ e. StopsWith e (stops (outcome_of methods.now.checked.now) end unmarked beginning tokens.now)) }
 {
     let mut parts = beginning(alloc)?;
     let stage = read_tokens(alloc, methods, &mut parts, tokens)?;
@@ -122,7 +126,8 @@ fn read(alloc: Global, text: &str, checked: &Checked) -> Result<Program, Program
 ///   - `ProgramLimit`: over 262,144 bytes, over 64 threads beside the setup, or over 256 calls of a thread.
 pub fn read_program(alloc: Global, text: &str, checked: &Checked) -> Result<Program, ProgramFault>
     ensures read { IfOk result (λ p. program_of (outcome_of checked.now) text.now ≡ Some (plain_program p)) }
-    ensures typed { IfOk result (λ p. (f : File) → elaborated f ≡ Ok (outcome_of checked.now) → IsWellTypedProgram (outcome_of checked.now).file (plain_program p)) }
+    ensures typed { IfOk result (λ p. (f : File) → elaborated f ≡ Ok (outcome_of checked.now) →
+        IsWellTypedProgram (outcome_of checked.now).file (plain_program p)) }
     ensures kept { IfOk result (λ p. ∥ IsWellTypedProgram (outcome_of checked.now).file (plain_program p) ∥₁) }
     ensures spelled { IfOk result (λ p. IsTextOf (outcome_of checked.now) (plain_program p) text.now) }
     ensures refused { IfErr result (λ e. Refuses e (program_of (outcome_of checked.now) text.now)) }

@@ -4,11 +4,18 @@ ghost use Rattle.std.specs.Prelude.{◌≡◌, IfErr, IfOk, map, option_copied};
 ghost use Rattle.ls_lexer.specs.Lexemes.{lexeme_of};
 ghost use Rattle.ls_checked.specs.PlainProgram.{plain_thread};
 ghost use Rattle.ls_types.specs.CheckedFile.{outcome_of};
-ghost use Rattle.ls_types_programs.specs.ThreadPrograms.{is_sign, is_word, name_in, number_in, stepped, at_call, after_name, after_new, after_dot, argument, after_minus, at_first, after_argument, at_semicolon, at_thread_name, arguments_end, thread_named, closed, with_finished, with_call, is_text, at_thread};
+ghost use Rattle.ls_types_programs.specs.ThreadPrograms.{is_sign, is_word, name_in, number_in, stepped, at_call};
+ghost use Rattle.ls_types_programs.specs.ThreadPrograms.{after_name, after_new, after_dot, argument, after_minus};
+ghost use Rattle.ls_types_programs.specs.ThreadPrograms.{at_first, after_argument, at_semicolon, at_thread_name};
+ghost use Rattle.ls_types_programs.specs.ThreadPrograms.{arguments_end, thread_named, closed, with_finished};
+ghost use Rattle.ls_types_programs.specs.ThreadPrograms.{with_call, is_text, at_thread};
 ghost use Rattle.ls_types_programs.specs.ThreadPrograms.{AfterArgument as after_argument_stage};
 ghost use Rattle.ls_types_programs.specs.ProgramCalls.{with_argument};
-ghost use Rattle.ls_types_programs.specs.Stops.{fault_for, Form, TooFew, unmarked, name_mark, callee_mark, minus_mark, why, why_name, why_new, why_dot, why_value, why_argument, why_minus, why_first, why_after, why_semicolon, why_thread, why_thread_name};
-ghost use Rattle.ls_types.specs.ProgramViews.{pending_of, fault_seen, Gives};
+ghost use Rattle.ls_types_programs.specs.Stops.{fault_for, Form, TooFew, unmarked, name_mark, callee_mark};
+ghost use Rattle.ls_types_programs.specs.Stops.{minus_mark, why, why_name, why_new, why_dot, why_value, why_argument};
+ghost use Rattle.ls_types_programs.specs.Stops.{why_minus, why_first, why_after, why_semicolon, why_thread};
+ghost use Rattle.ls_types_programs.specs.Stops.{why_thread_name};
+ghost use Rattle.ls_types.specs.ProgramViews.{pending_of, fault_seen, ReadsAs};
 ghost use Rattle.ls_types_reading.specs.ReadingViews.{parts_of, stage_of, reading_of, marks_of, Goes};
 ghost use Rattle.ls_types_reading.specs.declared.reading.Stage.TheVariants.{AtSemicolon as at_semicolon_stage};
 
@@ -106,8 +113,12 @@ impl Parts {
         stage: Stage<'a>,
         token: Token<'a>,
     ) -> Result<Stage<'a>, ProgramFault>
-        ensures read { Gives (reading_of self.new) result (stepped (outcome_of methods.now.checked.now) (parts_of self.old) (stage_of stage.entry) (lexeme_of token.entry.kind)) }
-        ensures place { Goes (marks_of stage.entry) token.entry.span.start (why (outcome_of methods.now.checked.now) (parts_of self.old) (stage_of stage.entry) (lexeme_of token.entry.kind)) result }
+        ensures read { ReadsAs (reading_of self.new) result
+            (stepped (outcome_of methods.now.checked.now) (parts_of self.old) (stage_of stage.entry)
+            (lexeme_of token.entry.kind)) }
+        ensures place { Goes (marks_of stage.entry) token.entry.span.start
+            (why (outcome_of methods.now.checked.now) (parts_of self.old) (stage_of stage.entry)
+            (lexeme_of token.entry.kind)) result }
     {
         let kind = token.kind;
         let bad = ProgramFault::BadProgram {
@@ -149,7 +160,8 @@ impl Parts {
     }
 
     fn at_call<'a>(&mut self, alloc: Global, token: Token<'a>) -> Result<Stage<'a>, ProgramFault>
-        ensures read { Gives (reading_of self.new) result (at_call (parts_of self.old) (lexeme_of token.entry.kind) (name_in (lexeme_of token.entry.kind))) }
+        ensures read { ReadsAs (reading_of self.new) result
+            (at_call (parts_of self.old) (lexeme_of token.entry.kind) (name_in (lexeme_of token.entry.kind))) }
         ensures place { Goes unmarked token.entry.span.start Form result }
     {
         let at = token.span.start;
@@ -170,7 +182,8 @@ impl Parts {
         at: usize,
         token: Token<'a>,
     ) -> Result<Stage<'a>, ProgramFault>
-        ensures read { Gives (reading_of self.now) result (after_name (parts_of self.now) name.entry.now (lexeme_of token.entry.kind)) }
+        ensures read { ReadsAs (reading_of self.now) result
+            (after_name (parts_of self.now) name.entry.now (lexeme_of token.entry.kind)) }
         ensures place { Goes (name_mark at) token.entry.span.start (why_name (lexeme_of token.entry.kind)) result }
     {
         if is_sign(Sign::Assign, token.kind) {
@@ -197,7 +210,9 @@ impl Parts {
         name: &'a str,
         token: Token<'a>,
     ) -> Result<Stage<'a>, ProgramFault>
-        ensures read { Gives (reading_of self.now) result (after_new (outcome_of methods.now.checked.now) (parts_of self.now) name.entry.now (name_in (lexeme_of token.entry.kind))) }
+        ensures read { ReadsAs (reading_of self.now) result
+            (after_new (outcome_of methods.now.checked.now) (parts_of self.now) name.entry.now
+            (name_in (lexeme_of token.entry.kind))) }
         ensures place { Goes unmarked token.entry.span.start (why_new (name_in (lexeme_of token.entry.kind))) result }
     {
         let at = token.span.start;
@@ -214,8 +229,12 @@ impl Parts {
         n: usize,
         token: Token<'a>,
     ) -> Result<Stage<'a>, ProgramFault>
-        ensures read { Gives (reading_of self.now) result (after_dot (outcome_of methods.now.checked.now) (parts_of self.now) n (name_in (lexeme_of token.entry.kind))) }
-        ensures place { Goes unmarked token.entry.span.start (why_dot (outcome_of methods.now.checked.now) (parts_of self.now) n (name_in (lexeme_of token.entry.kind))) result }
+        ensures read { ReadsAs (reading_of self.now) result
+            (after_dot (outcome_of methods.now.checked.now) (parts_of self.now) n
+            (name_in (lexeme_of token.entry.kind))) }
+        ensures place { Goes unmarked token.entry.span.start
+            (why_dot (outcome_of methods.now.checked.now) (parts_of self.now) n (name_in (lexeme_of token.entry.kind)))
+            result }
     {
         let at = token.span.start;
         match name_in(token.kind) {
@@ -230,15 +249,20 @@ impl Parts {
 
     // The value of an argument, which is at `at`.
     fn valued<'a>(&self, p: Pending<'a>, v: Value, at: usize) -> Result<Stage<'a>, ProgramFault>
-        ensures read { Gives (reading_of self.now) result (with_call (parts_of self.now) after_argument_stage (with_argument (pending_of p.entry) v)) }
+        ensures read { ReadsAs (reading_of self.now) result
+            (with_call (parts_of self.now) after_argument_stage (with_argument (pending_of p.entry) v)) }
         ensures place { Goes (callee_mark p.entry.at) at (why_value (pending_of p.entry)) result }
     {
         Ok(Stage::AfterArgument(with_argument(p, v, at)?))
     }
 
     fn argument<'a>(&self, p: Pending<'a>, token: Token<'a>) -> Result<Stage<'a>, ProgramFault>
-        ensures read { Gives (reading_of self.now) result (argument (parts_of self.now) (pending_of p.entry) (lexeme_of token.entry.kind) (number_in (lexeme_of token.entry.kind))) }
-        ensures place { Goes (callee_mark p.entry.at) token.entry.span.start (why_argument (pending_of p.entry) (lexeme_of token.entry.kind) (number_in (lexeme_of token.entry.kind))) result }
+        ensures read { ReadsAs (reading_of self.now) result
+            (argument (parts_of self.now) (pending_of p.entry) (lexeme_of token.entry.kind)
+            (number_in (lexeme_of token.entry.kind))) }
+        ensures place { Goes (callee_mark p.entry.at) token.entry.span.start
+            (why_argument (pending_of p.entry) (lexeme_of token.entry.kind) (number_in (lexeme_of token.entry.kind)))
+            result }
     {
         let at = token.span.start;
         if let Some(digits) = number_in(token.kind) {
@@ -267,8 +291,10 @@ impl Parts {
         minus: usize,
         token: Token<'a>,
     ) -> Result<Stage<'a>, ProgramFault>
-        ensures read { Gives (reading_of self.now) result (after_minus (parts_of self.now) (pending_of p.entry) (number_in (lexeme_of token.entry.kind))) }
-        ensures place { Goes (minus_mark p.entry.at minus) token.entry.span.start (why_minus (pending_of p.entry) (number_in (lexeme_of token.entry.kind))) result }
+        ensures read { ReadsAs (reading_of self.now) result
+            (after_minus (parts_of self.now) (pending_of p.entry) (number_in (lexeme_of token.entry.kind))) }
+        ensures place { Goes (minus_mark p.entry.at minus) token.entry.span.start
+            (why_minus (pending_of p.entry) (number_in (lexeme_of token.entry.kind))) result }
     {
         match number_in(token.kind) {
             None => Err(ProgramFault::BadProgram {
@@ -279,7 +305,7 @@ impl Parts {
     }
 
     fn arguments_end<'a>(&self, p: Pending<'a>) -> Result<Stage<'a>, ProgramFault>
-        ensures read { Gives (reading_of self.now) result (arguments_end (parts_of self.now) (pending_of p.entry)) }
+        ensures read { ReadsAs (reading_of self.now) result (arguments_end (parts_of self.now) (pending_of p.entry)) }
         ensures stage { IfOk result (λ s. s ≡ at_semicolon_stage p.entry) }
         ensures place { IfErr result (λ e. e ≡ fault_seen (fault_for (callee_mark p.entry.at) 0 TooFew)) }
     {
@@ -289,8 +315,10 @@ impl Parts {
     }
 
     fn at_first<'a>(&self, p: Pending<'a>, token: Token<'a>) -> Result<Stage<'a>, ProgramFault>
-        ensures read { Gives (reading_of self.now) result (at_first (parts_of self.now) (pending_of p.entry) (lexeme_of token.entry.kind)) }
-        ensures place { Goes (callee_mark p.entry.at) token.entry.span.start (why_first (pending_of p.entry) (lexeme_of token.entry.kind)) result }
+        ensures read { ReadsAs (reading_of self.now) result
+            (at_first (parts_of self.now) (pending_of p.entry) (lexeme_of token.entry.kind)) }
+        ensures place { Goes (callee_mark p.entry.at) token.entry.span.start
+            (why_first (pending_of p.entry) (lexeme_of token.entry.kind)) result }
     {
         if is_sign(Sign::CloseParen, token.kind) {
             self.arguments_end(p)
@@ -304,8 +332,10 @@ impl Parts {
         p: Pending<'a>,
         token: Token<'a>,
     ) -> Result<Stage<'a>, ProgramFault>
-        ensures read { Gives (reading_of self.now) result (after_argument (parts_of self.now) (pending_of p.entry) (lexeme_of token.entry.kind)) }
-        ensures place { Goes (callee_mark p.entry.at) token.entry.span.start (why_after (lexeme_of token.entry.kind)) result }
+        ensures read { ReadsAs (reading_of self.now) result
+            (after_argument (parts_of self.now) (pending_of p.entry) (lexeme_of token.entry.kind)) }
+        ensures place { Goes (callee_mark p.entry.at) token.entry.span.start (why_after (lexeme_of token.entry.kind))
+            result }
     {
         if is_sign(Sign::CloseParen, token.kind) {
             return self.arguments_end(p);
@@ -338,8 +368,10 @@ impl Parts {
         p: Pending<'a>,
         token: Token<'a>,
     ) -> Result<Stage<'a>, ProgramFault>
-        ensures read { Gives (reading_of self.new) result (at_semicolon (parts_of self.old) (pending_of p.entry) (lexeme_of token.entry.kind)) }
-        ensures place { Goes (callee_mark p.entry.at) token.entry.span.start (why_semicolon (lexeme_of token.entry.kind)) result }
+        ensures read { ReadsAs (reading_of self.new) result
+            (at_semicolon (parts_of self.old) (pending_of p.entry) (lexeme_of token.entry.kind)) }
+        ensures place { Goes (callee_mark p.entry.at) token.entry.span.start
+            (why_semicolon (lexeme_of token.entry.kind)) result }
     {
         if !is_sign(Sign::Semicolon, token.kind) {
             return Err(ProgramFault::BadProgram {
@@ -355,7 +387,8 @@ impl Parts {
 
     // Another thread, if there is room.
     fn at_thread<'a>(&self, token: Token<'a>) -> Result<Stage<'a>, ProgramFault>
-        ensures read { Gives (reading_of self.now) result (at_thread (parts_of self.now) (lexeme_of token.entry.kind)) }
+        ensures read { ReadsAs (reading_of self.now) result
+            (at_thread (parts_of self.now) (lexeme_of token.entry.kind)) }
         ensures place { Goes unmarked token.entry.span.start (why_thread (lexeme_of token.entry.kind)) result }
     {
         if !is_text("thread", name_in(token.kind)) {
@@ -374,8 +407,10 @@ impl Parts {
         alloc: Global,
         token: Token<'a>,
     ) -> Result<Stage<'a>, ProgramFault>
-        ensures read { Gives (reading_of self.new) result (at_thread_name (parts_of self.old) (name_in (lexeme_of token.entry.kind))) }
-        ensures place { Goes unmarked token.entry.span.start (why_thread_name (name_in (lexeme_of token.entry.kind))) result }
+        ensures read { ReadsAs (reading_of self.new) result
+            (at_thread_name (parts_of self.old) (name_in (lexeme_of token.entry.kind))) }
+        ensures place { Goes unmarked token.entry.span.start (why_thread_name (name_in (lexeme_of token.entry.kind)))
+            result }
     {
         let at = token.span.start;
         let Some(name) = name_in(token.kind) else {

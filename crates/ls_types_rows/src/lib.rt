@@ -3,12 +3,21 @@
 //! new text changes neither of those crates.
 #![tactic(auto)]
 
-ghost use Rattle.ls_types_rows.specs.Expressions.{Literals, Constants, IntegerIsALocal, Names, Fields, Arithmetic, Comparisons, OperandsOfInts, ShortCircuits, Signs, Comparable, NotComparable};
-ghost use Rattle.ls_types_rows.specs.Calls.{Methods, Arguments, Locks, Markables, OtherArgumentsOfMarkables, Makings, Arrays};
-ghost use Rattle.ls_types_rows.specs.Statements.{Assignments, NotAssigned, Evaluations, Declarations, OwnInitialiser, OutOfScope, TwoOfOneName, OwnSlots, MostSlots, Jumps, NoLoops, Labels, Conditions, Returns, ForLoops, Additions};
-ghost use Rattle.ls_types_rows.specs.Monitors.{Forms, JumpsThrough, OutOfBlock, Locked, NamedSlotsAlone, SynchronizedMethods};
-ghost use Rattle.ls_types_rows.specs.Files.{ReservedClasses, MembersOfOneName, OneNameForSeveral, OtherConstructors, Types, Numbers, Parameters, Initialisers, MissingReturns, EnoughReturns, MostOfAll};
-ghost use Rattle.ls_types_rows.specs.Programs.{Wholes, WrittenNumbers, PlainArguments, MethodsCalled, SetupNames, ThreadNames, Blocks, MostThreads, MostCalls, MostBytes};
+ghost use Rattle.ls_types_rows.specs.Expressions.{Literals, Constants, IntegerIsALocal, Names, Fields, Arithmetic};
+ghost use Rattle.ls_types_rows.specs.Expressions.{Comparisons, OperandsOfInts, ShortCircuits, Signs, Comparable};
+ghost use Rattle.ls_types_rows.specs.Expressions.{NotComparable};
+ghost use Rattle.ls_types_rows.specs.Calls.{Methods, Arguments, Locks, Markables, OtherArgumentsOfMarkables, Makings};
+ghost use Rattle.ls_types_rows.specs.Calls.{Arrays};
+ghost use Rattle.ls_types_rows.specs.Statements.{Assignments, NotAssigned, Evaluations, Declarations, OwnInitialiser};
+ghost use Rattle.ls_types_rows.specs.Statements.{OutOfScope, TwoOfOneName, OwnSlots, MostSlots, Jumps, NoLoops};
+ghost use Rattle.ls_types_rows.specs.Statements.{Labels, Conditions, Returns, ForLoops, Additions};
+ghost use Rattle.ls_types_rows.specs.Monitors.{Forms, JumpsThrough, OutOfBlock, Locked, NamedSlotsAlone};
+ghost use Rattle.ls_types_rows.specs.Monitors.{SynchronizedMethods};
+ghost use Rattle.ls_types_rows.specs.Files.{ReservedClasses, MembersOfOneName, OneNameForSeveral, OtherConstructors};
+ghost use Rattle.ls_types_rows.specs.Files.{Types, Numbers, Parameters, Initialisers, MissingReturns, EnoughReturns};
+ghost use Rattle.ls_types_rows.specs.Files.{MostOfAll};
+ghost use Rattle.ls_types_rows.specs.Programs.{Wholes, WrittenNumbers, PlainArguments, MethodsCalled, SetupNames};
+ghost use Rattle.ls_types_rows.specs.Programs.{ThreadNames, Blocks, MostThreads, MostCalls, MostBytes};
 
 /// Names, literals and operators (JLS 6, 15).
 pub fn expressions()

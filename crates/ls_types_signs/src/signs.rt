@@ -1,9 +1,12 @@
 // What the classes of a text declare.
 
 ghost use Rattle.std.specs.Prelude.{◌≡◌, map, string_bytes};
-ghost use Rattle.ls_types_elaboration.specs.Signs.{is_reserved, one_name, class_names, parameter_types, field_met, fields_met, method_met, constructor_met, member_met, nothing_met, class_met, one_class, class_signs};
+ghost use Rattle.ls_types_elaboration.specs.Signs.{is_reserved, one_name, class_names, parameter_types, field_met};
+ghost use Rattle.ls_types_elaboration.specs.Signs.{fields_met, method_met, constructor_met, member_met, nothing_met};
+ghost use Rattle.ls_types_elaboration.specs.Signs.{class_met, one_class, class_signs};
 ghost use Rattle.ls_types_elaboration.specs.Placed.{placed_name};
-ghost use Rattle.ls_types_elaboration.specs.PlacedStatements.{placed_parameter, placed_declarator, placed_member, placed_class, placed_declaration};
+ghost use Rattle.ls_types_elaboration.specs.PlacedStatements.{placed_parameter, placed_declarator, placed_member};
+ghost use Rattle.ls_types_elaboration.specs.PlacedStatements.{placed_class, placed_declaration};
 ghost use Rattle.ls_types_tables.specs.ByName.{keys_of};
 ghost use Rattle.ls_types_signs.specs.SignViews.{met_of, classes_of};
 ghost use Rattle.ls_types_elaboration.specs.Answers.{Gives, seen};
@@ -88,7 +91,8 @@ fn parameter_types(
     n: &Name,
     ps: &[Parameter],
 ) -> Result<Vec<ValueType>, CheckFault>
-    ensures { Gives (λ v. v.items) result (parameter_types (keys_of names.now) (placed_name n.now) (map placed_parameter ps.now)) }
+    ensures { Gives (λ v. v.items) result
+        (parameter_types (keys_of names.now) (placed_name n.now) (map placed_parameter ps.now)) }
 {
     if ps.len() >= MOST_SLOTS {
         return Err(refused_at(Rule::Limit, n.span));
@@ -147,7 +151,8 @@ fn constructor_met(
     n: &Name,
     types: Vec<ValueType>,
 ) -> Result<(), Broken>
-    ensures { seen (λ u. met_of met.new) result ≡ constructor_met (string_bytes class.now.text) (met_of met.old) (placed_name n.now) types.items }
+    ensures { seen (λ u. met_of met.new) result ≡ constructor_met (string_bytes class.now.text) (met_of met.old)
+        (placed_name n.now) types.items }
 {
     if n.text.as_str() != class.text.as_str() {
         return Err(broken_at(Rule::UnknownType, n.span));
@@ -170,7 +175,8 @@ fn fields_met(
     met: &mut Met,
     d: &Declaration,
 ) -> Result<(), CheckFault>
-    ensures { Gives (λ u. met_of met.new) result (fields_met (keys_of names.now) (met_of met.old) (placed_declaration d.now)) }
+    ensures { Gives (λ u. met_of met.new) result
+        (fields_met (keys_of names.now) (met_of met.old) (placed_declaration d.now)) }
 {
     let t = type_of(names, &d.type_name)?;
     field_met(alloc, t, met, &d.first)?;
@@ -187,7 +193,8 @@ fn member_met(
     met: &mut Met,
     m: &Member,
 ) -> Result<(), CheckFault>
-    ensures { Gives (λ u. met_of met.new) result (member_met (keys_of names.now) (string_bytes class.now.text) (met_of met.old) (placed_member m.now)) }
+    ensures { Gives (λ u. met_of met.new) result
+        (member_met (keys_of names.now) (string_bytes class.now.text) (met_of met.old) (placed_member m.now)) }
 {
     match m {
         Member::Field(d) => fields_met(alloc, names, met, d),
@@ -206,7 +213,8 @@ fn member_met(
 
 // A class of which all is read, after those before it.
 fn class_met(alloc: Global, classes: &mut Classes, n: &Name, met: Met) -> Result<(), CheckFault>
-    ensures { Gives (λ u. classes_of classes.new) result (class_met (classes_of classes.old) (placed_name n.now) (met_of met) met.constructor) }
+    ensures { Gives (λ u. classes_of classes.new) result
+        (class_met (classes_of classes.old) (placed_name n.now) (met_of met) met.constructor) }
 {
     let Met {
         fields,
@@ -260,7 +268,8 @@ fn one_class(
     classes: &mut Classes,
     c: &Class,
 ) -> Result<(), CheckFault>
-    ensures { Gives (λ u. classes_of classes.new) result (one_class (keys_of names.now) (classes_of classes.old) (placed_class c.now)) }
+    ensures { Gives (λ u. classes_of classes.new) result
+        (one_class (keys_of names.now) (classes_of classes.old) (placed_class c.now)) }
 {
     let mut met = nothing_met(alloc, classes.next);
     for m in &c.members {

@@ -2,7 +2,7 @@
 use Rattle.std.proofs.Common.{◌≡◌, refl, ap, ◌∙◌, Option, Some, None}
 use Rattle.std.specs.Global.{Vec, Box}
 use Rattle.ls_lexer.specs.declared.token.Span.{Span}
-use Rattle.ls_tree.specs.declared.tree.Expr.{Expr}
+use Rattle.ls_tree.specs.declared.tree.Expression.{Expression}
 use Rattle.ls_tree.specs.declared.tree.Block.{Block}
 use Rattle.ls_tree.specs.declared.tree.BlockItem.{BlockItem}
 use Rattle.ls_tree.specs.declared.tree.BlockItem.TheBlock.{hidden-the_row-BlockItem-0, back-Statement-If-2}
@@ -31,7 +31,7 @@ pub block_read : (s : Statement) (b : Block) →
     placed_statement s ≡ trees.Block (placed_items b.items.items)
 block_read s b is = ap placed_statement is ∙ ap trees.Block (row_read b.items)
 
-pub if_read : (s : Statement) (c : Expr) (a : Box Statement) (o : Option (Box Statement)) (span : Span) →
+pub if_read : (s : Statement) (c : Expression) (a : Box Statement) (o : Option (Box Statement)) (span : Span) →
     s ≡ statements.If c a o span →
     placed_statement s ≡ if_of (placed c) (placed_statement a.value) (placed_other o)
 if_read s c a o span is = ap placed_statement is ∙ ap (if_of (placed c) (placed_statement a.value)) (other_read o)
@@ -43,7 +43,7 @@ pub try_read : (s : Statement) (b f : Block) (span : Span) →
 try_read s b f span is = ap placed_statement is ∙ (λ i. trees.Try (row_read b.items i) (row_read f.items i))
 
 -- a `synchronized`, read from its tree
-pub synchronized_read : (s : Statement) (e : Expr) (b : Block) (span : Span) →
+pub synchronized_read : (s : Statement) (e : Expression) (b : Block) (span : Span) →
     s ≡ statements.Synchronized e b span →
     placed_statement s ≡ trees.Synchronized (placed e) (placed_items b.items.items)
 synchronized_read s e b span is = ap placed_statement is ∙ ap (trees.Synchronized (placed e)) (row_read b.items)

@@ -4,7 +4,9 @@ ghost use Rattle.std.specs.Prelude.{◌≡◌, ◌<◌, ◌≤◌, OnOk, length,
 ghost use Rattle.ls_types_elaboration.specs.Elaborated.{Elaborated};
 ghost use Rattle.ls_checked.specs.CheckedTree.{Literal as literal, SetSlot as set_slot};
 ghost use Rattle.ls_types_elaboration.specs.Answers.{Gives, unless_refused};
-ghost use Rattle.ls_types_elaboration.specs.Scopes.{start_of, with_variable, with_statement, initialised, declared, declaration, may_declare, Scope as the_scope, Slots as the_slots, with_named, with_unnamed};
+ghost use Rattle.ls_types_elaboration.specs.Scopes.{start_of, with_variable, with_statement, initialised, declared};
+ghost use Rattle.ls_types_elaboration.specs.Scopes.{declaration, may_declare, Scope as the_scope, Slots as the_slots};
+ghost use Rattle.ls_types_elaboration.specs.Scopes.{with_named, with_unnamed};
 ghost use Rattle.ls_types_elaboration.specs.PlacedStatements.{placed_declarator, placed_declaration};
 ghost use Rattle.ls_types_elaboration.specs.Placed.{placed, placed_name};
 ghost use Rattle.ls_types_tables.specs.ByName.{known_of};
@@ -13,7 +15,7 @@ ghost use Rattle.ls_types_statements.specs.ScopeViews.{body_of, slots_of, scope_
 use ls_checked::tree::{Expression, Statement};
 use ls_events::value::{Value, ValueType};
 use ls_lexer::token::Span;
-use ls_tree::tree::{Declaration, Declarator, Expr, Name};
+use ls_tree::tree::{Declaration, Declarator, Expression as Parsed, Name};
 use ls_types_elaboration::known::{Local, MOST_SLOTS, local_named};
 use ls_types_elaboration::rule::{Broken, CheckFault, Rule, broken_at};
 use ls_types_expressions::expressions::fitting;
@@ -92,7 +94,8 @@ pub fn with_variable<'t>(
     t: ValueType,
 ) -> Result<(), AllocError>
     requires { slots.old.named < 128 }
-    ensures grown { OnOk result (scope_of scope.new (slots_of slots.new) ≡ with_variable (scope_of scope.old (slots_of slots.old)) name.entry.now t) }
+    ensures grown { OnOk result (scope_of scope.new (slots_of slots.new) ≡
+        with_variable (scope_of scope.old (slots_of slots.old)) name.entry.now t) }
     ensures low { OnOk result (slots.new.named ≤ 128) }
 {
     scope.locals.push(Local {
@@ -112,7 +115,9 @@ fn started<'t>(
     t: ValueType,
 ) -> Result<(), AllocError>
     requires { slots.old.named < 128 }
-    ensures grown { OnOk result (scope_of scope.new (slots_of slots.new) ≡ with_statement (with_variable (scope_of scope.old (slots_of slots.old)) name.entry.now t) (set_slot (length slots.old.types.items) (literal (start_of t)))) }
+    ensures grown { OnOk result (scope_of scope.new (slots_of slots.new) ≡
+        with_statement (with_variable (scope_of scope.old (slots_of slots.old)) name.entry.now t)
+        (set_slot (length slots.old.types.items) (literal (start_of t)))) }
     ensures low { OnOk result (slots.new.named ≤ 128) }
 {
     let slot = slots.types.len();
@@ -124,7 +129,8 @@ fn started<'t>(
 
 /// A name may be declared if no variable in scope has it, and if there is room. Else the rule that it breaks.
 pub fn may_declare(method: Span, scope: &Scope, slots: &Slots, n: &Name) -> Result<(), Broken>
-    ensures may { (go : Elaborated (the_scope)) → may_declare method (scope_of scope.now (slots_of slots.now)) (placed_name n.now) go ≡ unless_refused result go }
+    ensures may { (go : Elaborated (the_scope)) →
+        may_declare method (scope_of scope.now (slots_of slots.now)) (placed_name n.now) go ≡ unless_refused result go }
     ensures room { OnOk result (slots.now.named < 128) }
 {
     if local_named(&scope.locals, n.text.as_str()).is_some() {
@@ -142,9 +148,11 @@ fn initialised(
     t: ValueType,
     slot: usize,
     scope: &mut Scope,
-    value: &Option<Expr>,
+    value: &Option<Parsed>,
 ) -> Result<(), CheckFault>
-    ensures { (slots : the_slots) → Gives (λ _. scope_of scope.new slots) result (initialised (known_of context.entry.known) t slot (scope_of scope.old slots) (option_map placed value.now)) }
+    ensures { (slots : the_slots) →
+        Gives (λ _. scope_of scope.new slots) result
+        (initialised (known_of context.entry.known) t slot (scope_of scope.old slots) (option_map placed value.now)) }
 {
     match value {
         None => Ok(()),
@@ -170,7 +178,8 @@ fn declared<'t>(
     d: &'t Declarator,
 ) -> Result<(), CheckFault>
     requires { slots.old.named ≤ 128 }
-    ensures found { Gives (λ _. scope_of scope.new (slots_of slots.new)) result (declared (body_of context.entry) t (scope_of scope.old (slots_of slots.old)) (placed_declarator d.entry.now)) }
+    ensures found { Gives (λ _. scope_of scope.new (slots_of slots.new)) result
+        (declared (body_of context.entry) t (scope_of scope.old (slots_of slots.old)) (placed_declarator d.entry.now)) }
     ensures low { OnOk result (slots.new.named ≤ 128) }
 {
     may_declare(context.span, scope, slots, &d.name)?;
@@ -187,7 +196,9 @@ pub fn declaration<'t>(
     d: &'t Declaration,
 ) -> Result<(), CheckFault>
     requires { slots.old.named ≤ 128 }
-    ensures found { Gives (λ _. scope_of scope.new (slots_of slots.new)) result (declaration (body_of context.entry) (scope_of scope.old (slots_of slots.old)) (placed_declaration d.entry.now)) }
+    ensures found { Gives (λ _. scope_of scope.new (slots_of slots.new)) result
+        (declaration (body_of context.entry) (scope_of scope.old (slots_of slots.old))
+        (placed_declaration d.entry.now)) }
     ensures low { OnOk result (slots.new.named ≤ 128) }
 {
     let t = type_of(context.known.names, &d.type_name)?;

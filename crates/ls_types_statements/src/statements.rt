@@ -1,22 +1,34 @@
 // Statements: loops, and what fits where.
 
-ghost use Rattle.std.specs.Prelude.{◌≡◌, ◌<◌, ◌≤◌, ◌∷◌, [], IfOk, Ok, IfSome, OnOk, length, map, option_map, option_copied};
+ghost use Rattle.std.specs.Prelude.{◌≡◌, ◌<◌, ◌≤◌, ◌∷◌, [], IfOk, Ok, IfSome, OnOk, length, map, option_map};
+ghost use Rattle.std.specs.Prelude.{option_copied};
 ghost use Rattle.ls_events.specs.declared.value.ValueType.TheVariants.{Class as class_type};
 ghost use Rattle.ls_checked.specs.Plain.{plain, plain_statement};
-ghost use Rattle.ls_checked.specs.CheckedTree.{Block as checked_block, If as checked_if, While as checked_while, Evaluate as evaluate, Call as call, Slot as slot_read, End as no_argument, Statement as checked_statement};
-ghost use Rattle.ls_types_elaboration.specs.Trees.{Items, While as while_written, For as for_written, Block as block_written, Try as try_written, Synchronized as synchronized_written};
-ghost use Rattle.ls_types_elaboration.specs.TypedStatements.{statement, items as the_items, sequence, loop_named, may_leave, is_label, is_target, found_loop, jump, continued, label_text, loop_of as the_loop_of, fresh_label, returned, opening as the_opening, condition as the_condition, turn_once, for_loop, monitor, WithSlots};
+ghost use Rattle.ls_checked.specs.CheckedTree.{Block as checked_block, If as checked_if, While as checked_while};
+ghost use Rattle.ls_checked.specs.CheckedTree.{Evaluate as evaluate, Call as call, Slot as slot_read};
+ghost use Rattle.ls_checked.specs.CheckedTree.{End as no_argument, Statement as checked_statement};
+ghost use Rattle.ls_types_elaboration.specs.Trees.{Items, While as while_written, For as for_written};
+ghost use Rattle.ls_types_elaboration.specs.Trees.{Block as block_written, Try as try_written};
+ghost use Rattle.ls_types_elaboration.specs.Trees.{Synchronized as synchronized_written};
+ghost use Rattle.ls_types_elaboration.specs.TypedStatements.{statement, items as the_items, sequence, loop_named};
+ghost use Rattle.ls_types_elaboration.specs.TypedStatements.{may_leave, is_label, is_target, found_loop, jump};
+ghost use Rattle.ls_types_elaboration.specs.TypedStatements.{continued, label_text, loop_of as the_loop_of};
+ghost use Rattle.ls_types_elaboration.specs.TypedStatements.{fresh_label, returned, opening as the_opening};
+ghost use Rattle.ls_types_elaboration.specs.TypedStatements.{condition as the_condition, turn_once, for_loop};
+ghost use Rattle.ls_types_elaboration.specs.TypedStatements.{monitor, WithSlots};
 ghost use Rattle.ls_types_elaboration.specs.Scopes.{with_unnamed};
 ghost use Rattle.ls_types_elaboration.specs.Monitors.{synchronized};
 ghost use Rattle.ls_types_elaboration.specs.Placed.{placed, placed_name};
-ghost use Rattle.ls_types_elaboration.specs.PlacedStatements.{placed_simple, placed_opening, placed_statement, placed_items, placed_before, placed_other, if_of};
+ghost use Rattle.ls_types_elaboration.specs.PlacedStatements.{placed_simple, placed_opening, placed_statement};
+ghost use Rattle.ls_types_elaboration.specs.PlacedStatements.{placed_items, placed_before, placed_other, if_of};
 ghost use Rattle.ls_types_elaboration.specs.Tables.{local_of};
 ghost use Rattle.ls_types_tables.specs.ByName.{known_of};
 ghost use Rattle.ls_types_elaboration.specs.Answers.{Gives, Leads, unless_refused};
 ghost use Rattle.ls_types_elaboration.specs.Elaborated.{Elaborated};
 ghost use Rattle.ls_types_elaboration.specs.declared.loops.LoopPart.TheVariants as parts;
 ghost use Rattle.ls_types_expressions.specs.Views.{locals_of};
-ghost use Rattle.ls_types_statements.specs.ScopeViews.{body_of, loop_of, loops_of, slots_of, scope_of, formed_of, monitor_seen};
+ghost use Rattle.ls_types_statements.specs.ScopeViews.{body_of, loop_of, loops_of, slots_of, scope_of, formed_of};
+ghost use Rattle.ls_types_statements.specs.ScopeViews.{monitor_seen};
 
 use crate::scope::{Context, Scope, Slots, declaration, with_unnamed};
 use ls_checked::tree::{Called, Expression, Expressions, Statement};
@@ -24,7 +36,7 @@ use ls_events::value::{Value, ValueType};
 use ls_lexer::token::Span;
 use ls_together::{push, two, with_box};
 use ls_tree::tree;
-use ls_tree::tree::{BlockItem, Expr, Name, Opening, Simple};
+use ls_tree::tree::{BlockItem, Expression as Parsed, Name, Opening, Simple};
 use ls_types_elaboration::known::Local;
 use ls_types_elaboration::loops::LoopPart;
 use ls_types_elaboration::rule::{Broken, CheckFault, Rule, broken_at, refused_at};
@@ -168,7 +180,8 @@ fn continued(way: (usize, LoopPart)) -> Statement
 
 // A loop's label isn't the label of a loop around it.
 fn fresh_label(loops: &[Loop], label: &Option<Name>) -> Result<(), Broken>
-    ensures { (go : Elaborated (WithSlots checked_statement)) → fresh_label (map loop_of loops.now) (option_map placed_name label.now) go ≡ unless_refused result go }
+    ensures { (go : Elaborated (WithSlots checked_statement)) →
+        fresh_label (map loop_of loops.now) (option_map placed_name label.now) go ≡ unless_refused result go }
 {
     match label {
         None => Ok(()),
@@ -188,7 +201,8 @@ fn within<'t>(
     part: LoopPart,
     label: &'t Option<Name>,
 ) -> Result<Vec<Loop<'t>>, AllocError>
-    ensures { IfOk result (λ v. map loop_of v.items ≡ the_loop_of part (label_text (option_map placed_name label.entry.now)) ∷ map loop_of loops.now) }
+    ensures { IfOk result (λ v. map loop_of v.items ≡
+        the_loop_of part (label_text (option_map placed_name label.entry.now)) ∷ map loop_of loops.now) }
 {
     let mut inner = Vec::new(alloc);
     inner.push(Loop {
@@ -220,10 +234,11 @@ pub fn block_of(statements: Vec<Statement>) -> Statement
 fn returned(
     site: Site,
     answers: Option<ValueType>,
-    value: &Option<Expr>,
+    value: &Option<Parsed>,
     span: Span,
 ) -> Result<Statement, CheckFault>
-    ensures { Gives plain_statement result (returned (known_of site.entry.known) (locals_of site.entry) answers (option_map placed value.now) span) }
+    ensures { Gives plain_statement result
+        (returned (known_of site.entry.known) (locals_of site.entry) answers (option_map placed value.now) span) }
 {
     match (answers, value) {
         (None, None) => Ok(Statement::ReturnNothing),
@@ -251,7 +266,7 @@ struct Monitor {
 }
 
 // What has a monitor: an object of a class of the file.
-fn find_monitor(site: Site, e: &Expr) -> Result<Monitor, CheckFault>
+fn find_monitor(site: Site, e: &Parsed) -> Result<Monitor, CheckFault>
     ensures { Gives monitor_seen result (monitor (known_of site.entry.known) (locals_of site.entry) (placed e.now)) }
 {
     let x = typed(site, e)?;
@@ -315,7 +330,9 @@ fn opening_of<'r, 't>(
     opening: &'t Opening,
 ) -> Result<Scope<'t>, CheckFault>
     requires { slots.old.named ≤ 128 }
-    ensures found { Gives (λ scope. scope_of scope (slots_of slots.new)) result (the_opening (body_of round.entry.context) (map local_of locals.now) (slots_of slots.old) (placed_opening opening.entry.now)) }
+    ensures found { Gives (λ scope. scope_of scope (slots_of slots.new)) result
+        (the_opening (body_of round.entry.context) (map local_of locals.now) (slots_of slots.old)
+        (placed_opening opening.entry.now)) }
     ensures low { OnOk result (slots.new.named ≤ 128) }
 {
     let alloc = round.context.alloc;
@@ -337,8 +354,9 @@ fn opening_of<'r, 't>(
 }
 
 // A condition. If none is written, it is `true`.
-fn condition_of(site: Site, condition: &Option<Expr>) -> Result<Expression, CheckFault>
-    ensures { Gives plain result (the_condition (known_of site.entry.known) (locals_of site.entry) (option_map placed condition.now)) }
+fn condition_of(site: Site, condition: &Option<Parsed>) -> Result<Expression, CheckFault>
+    ensures { Gives plain result
+        (the_condition (known_of site.entry.known) (locals_of site.entry) (option_map placed condition.now)) }
 {
     match condition {
         None => Ok(Expression::Literal(Value::Boolean(true))),
@@ -348,7 +366,8 @@ fn condition_of(site: Site, condition: &Option<Expr>) -> Result<Expression, Chec
 
 // Two statements as a block.
 fn pair_of(alloc: Global, a: Statement, b: Statement) -> Result<Statement, AllocError>
-    ensures { IfOk result (λ s. plain_statement s ≡ checked_block (sequence (plain_statement a ∷ plain_statement b ∷ []))) }
+    ensures { IfOk result (λ s. plain_statement s ≡
+        checked_block (sequence (plain_statement a ∷ plain_statement b ∷ []))) }
 {
     let both = push(Vec::new(alloc), a);
     let (b, both) = also(b, both)?;
@@ -380,7 +399,9 @@ fn for_of(
     s: Statement,
     updates: Vec<Statement>,
 ) -> Result<Statement, CheckFault>
-    ensures { Gives plain_statement result (Ok (for_loop (map plain_statement front.items) (plain e) (plain_statement s) (map plain_statement updates.items))) }
+    ensures { Gives plain_statement result
+        (Ok (for_loop (map plain_statement front.items) (plain e) (plain_statement s)
+        (map plain_statement updates.items))) }
 {
     let updates = block_of(updates);
     let turn = turn_once(alloc, s);
@@ -402,7 +423,9 @@ pub fn statement<'r, 't>(
     s: &'t tree::Statement,
 ) -> Result<Statement, CheckFault>
     requires { slots.old.named ≤ 128 }
-    ensures found { Gives (formed_of (slots_of slots.new)) result (statement (body_of round.entry.context) (loops_of round.entry) (map local_of locals.now) (slots_of slots.old) (placed_statement s.entry.now)) }
+    ensures found { Gives (formed_of (slots_of slots.new)) result
+        (statement (body_of round.entry.context) (loops_of round.entry) (map local_of locals.now) (slots_of slots.old)
+        (placed_statement s.entry.now)) }
     ensures low { OnOk result (slots.new.named ≤ 128) }
 {
     match s {
@@ -456,12 +479,14 @@ fn branches<'r, 't>(
     round: Round<'r, 't>,
     locals: &[Local<'t>],
     slots: &mut Slots,
-    condition: &'t Expr,
+    condition: &'t Parsed,
     then: &'t tree::Statement,
     otherwise: &'t Option<Box<tree::Statement>>,
 ) -> Result<Statement, CheckFault>
     requires { slots.old.named ≤ 128 }
-    ensures found { Gives (formed_of (slots_of slots.new)) result (statement (body_of round.entry.context) (loops_of round.entry) (map local_of locals.now) (slots_of slots.old) (if_of (placed condition.entry.now) (placed_statement then.entry.now) (placed_other otherwise.entry.now))) }
+    ensures found { Gives (formed_of (slots_of slots.new)) result
+        (statement (body_of round.entry.context) (loops_of round.entry) (map local_of locals.now) (slots_of slots.old)
+        (if_of (placed condition.entry.now) (placed_statement then.entry.now) (placed_other otherwise.entry.now))) }
     ensures low { OnOk result (slots.new.named ≤ 128) }
 {
     let alloc = round.context.alloc;
@@ -482,11 +507,14 @@ fn while_loop<'r, 't>(
     locals: &[Local<'t>],
     slots: &mut Slots,
     label: &'t Option<Name>,
-    condition: &'t Expr,
+    condition: &'t Parsed,
     body: &'t tree::Statement,
 ) -> Result<Statement, CheckFault>
     requires { slots.old.named ≤ 128 }
-    ensures found { Gives (formed_of (slots_of slots.new)) result (statement (body_of round.entry.context) (loops_of round.entry) (map local_of locals.now) (slots_of slots.old) (while_written (option_map placed_name label.entry.now) (placed condition.entry.now) (placed_statement body.entry.now))) }
+    ensures found { Gives (formed_of (slots_of slots.new)) result
+        (statement (body_of round.entry.context) (loops_of round.entry) (map local_of locals.now) (slots_of slots.old)
+        (while_written (option_map placed_name label.entry.now) (placed condition.entry.now)
+        (placed_statement body.entry.now))) }
     ensures low { OnOk result (slots.new.named ≤ 128) }
 {
     fresh_label(round.loops, label)?;
@@ -510,7 +538,9 @@ fn looped<'r, 't>(
     body: &'t tree::Statement,
 ) -> Result<Statement, CheckFault>
     requires { slots.old.named ≤ 128 }
-    ensures found { Gives (formed_of (slots_of slots.new)) result (statement (body_of round.entry.context) (the_loop_of part (label_text (option_map placed_name label.entry.now)) ∷ loops_of round.entry) (map local_of locals.now) (slots_of slots.old) (placed_statement body.entry.now)) }
+    ensures found { Gives (formed_of (slots_of slots.new)) result
+        (statement (body_of round.entry.context) (the_loop_of part (label_text (option_map placed_name label.entry.now))
+        ∷ loops_of round.entry) (map local_of locals.now) (slots_of slots.old) (placed_statement body.entry.now)) }
     ensures low { OnOk result (slots.new.named ≤ 128) }
 {
     let inner = within(round.context.alloc, round.loops, part, label)?;
@@ -531,7 +561,11 @@ fn turned<'r, 't>(
     body: &'t tree::Statement,
 ) -> Result<Statement, CheckFault>
     requires { slots.old.named ≤ 128 }
-    ensures found { Gives (formed_of (slots_of slots.new)) result (statement (body_of round.entry.context) (the_loop_of parts.Turn (label_text (option_map placed_name label.entry.now)) ∷ the_loop_of parts.For (label_text (option_map placed_name label.entry.now)) ∷ loops_of round.entry) (map local_of locals.now) (slots_of slots.old) (placed_statement body.entry.now)) }
+    ensures found { Gives (formed_of (slots_of slots.new)) result
+        (statement (body_of round.entry.context)
+        (the_loop_of parts.Turn (label_text (option_map placed_name label.entry.now)) ∷
+        the_loop_of parts.For (label_text (option_map placed_name label.entry.now)) ∷ loops_of round.entry)
+        (map local_of locals.now) (slots_of slots.old) (placed_statement body.entry.now)) }
     ensures low { OnOk result (slots.new.named ≤ 128) }
 {
     let whole = within(round.context.alloc, round.loops, LoopPart::For, label)?;
@@ -549,12 +583,16 @@ fn for_loop<'r, 't>(
     slots: &mut Slots,
     label: &'t Option<Name>,
     opening: &'t Opening,
-    condition: &'t Option<Expr>,
+    condition: &'t Option<Parsed>,
     updates: &'t [Simple],
     body: &'t tree::Statement,
 ) -> Result<Statement, CheckFault>
     requires { slots.old.named ≤ 128 }
-    ensures found { Gives (formed_of (slots_of slots.new)) result (statement (body_of round.entry.context) (loops_of round.entry) (map local_of locals.now) (slots_of slots.old) (for_written (option_map placed_name label.entry.now) (placed_opening opening.entry.now) (option_map placed condition.entry.now) (map placed_simple updates.entry.now) (placed_statement body.entry.now))) }
+    ensures found { Gives (formed_of (slots_of slots.new)) result
+        (statement (body_of round.entry.context) (loops_of round.entry) (map local_of locals.now) (slots_of slots.old)
+        (for_written (option_map placed_name label.entry.now) (placed_opening opening.entry.now)
+        (option_map placed condition.entry.now) (map placed_simple updates.entry.now)
+        (placed_statement body.entry.now))) }
     ensures low { OnOk result (slots.new.named ≤ 128) }
 {
     fresh_label(round.loops, label)?;
@@ -577,7 +615,9 @@ fn try_finally<'r, 't>(
     finally: &'t [BlockItem],
 ) -> Result<Statement, CheckFault>
     requires { slots.old.named ≤ 128 }
-    ensures found { Gives (formed_of (slots_of slots.new)) result (statement (body_of round.entry.context) (loops_of round.entry) (map local_of locals.now) (slots_of slots.old) (try_written (placed_items body.entry.now) (placed_items finally.entry.now))) }
+    ensures found { Gives (formed_of (slots_of slots.new)) result
+        (statement (body_of round.entry.context) (loops_of round.entry) (map local_of locals.now) (slots_of slots.old)
+        (try_written (placed_items body.entry.now) (placed_items finally.entry.now))) }
     ensures low { OnOk result (slots.new.named ≤ 128) }
 {
     let b = block(round, locals, slots, body)?;
@@ -591,11 +631,13 @@ fn synchronized<'r, 't>(
     round: Round<'r, 't>,
     locals: &[Local<'t>],
     slots: &mut Slots,
-    target: &'t Expr,
+    target: &'t Parsed,
     body: &'t [BlockItem],
 ) -> Result<Statement, CheckFault>
     requires { slots.old.named ≤ 128 }
-    ensures found { Gives (formed_of (slots_of slots.new)) result (statement (body_of round.entry.context) (loops_of round.entry) (map local_of locals.now) (slots_of slots.old) (synchronized_written (placed target.entry.now) (placed_items body.entry.now))) }
+    ensures found { Gives (formed_of (slots_of slots.new)) result
+        (statement (body_of round.entry.context) (loops_of round.entry) (map local_of locals.now) (slots_of slots.old)
+        (synchronized_written (placed target.entry.now) (placed_items body.entry.now))) }
     ensures low { OnOk result (slots.new.named ≤ 128) }
 {
     let m = find_monitor(site_in(round, locals), target)?;
@@ -615,7 +657,9 @@ fn kept_block<'r, 't>(
     items: &'t [BlockItem],
 ) -> Result<Statement, CheckFault>
     requires { slots.old.named ≤ 128 }
-    ensures found { Gives (formed_of (slots_of slots.new)) result (statement (body_of round.entry.context) (loops_of round.entry) (map local_of locals.now) (with_unnamed (slots_of slots.old) (class_type class)) (block_written (placed_items items.entry.now))) }
+    ensures found { Gives (formed_of (slots_of slots.new)) result
+        (statement (body_of round.entry.context) (loops_of round.entry) (map local_of locals.now)
+        (with_unnamed (slots_of slots.old) (class_type class)) (block_written (placed_items items.entry.now))) }
     ensures low { OnOk result (slots.new.named ≤ 128) }
 {
     with_unnamed(slots, ValueType::Class(class))?;
@@ -631,7 +675,9 @@ fn block<'r, 't>(
     items: &'t [BlockItem],
 ) -> Result<Statement, CheckFault>
     requires { slots.old.named ≤ 128 }
-    ensures found { Gives (formed_of (slots_of slots.new)) result (statement (body_of round.entry.context) (loops_of round.entry) (map local_of locals.now) (slots_of slots.old) (block_written (placed_items items.entry.now))) }
+    ensures found { Gives (formed_of (slots_of slots.new)) result
+        (statement (body_of round.entry.context) (loops_of round.entry) (map local_of locals.now) (slots_of slots.old)
+        (block_written (placed_items items.entry.now))) }
     ensures low { OnOk result (slots.new.named ≤ 128) }
 {
     let alloc = round.context.alloc;
@@ -654,7 +700,9 @@ pub fn all_items<'r, 't>(
     items: &'t [BlockItem],
 ) -> Result<(), CheckFault>
     requires { slots.old.named ≤ 128 }
-    ensures found { Gives (λ _. scope_of scope.new (slots_of slots.new)) result (the_items (body_of round.entry.context) (loops_of round.entry) (scope_of scope.old (slots_of slots.old)) (placed_items items.entry.now)) }
+    ensures found { Gives (λ _. scope_of scope.new (slots_of slots.new)) result
+        (the_items (body_of round.entry.context) (loops_of round.entry) (scope_of scope.old (slots_of slots.old))
+        (placed_items items.entry.now)) }
     ensures low { OnOk result (slots.new.named ≤ 128) }
 {
     for item in items {
@@ -672,7 +720,11 @@ fn one_item<'r, 't>(
     item: &'t BlockItem,
 ) -> Result<(), CheckFault>
     requires { slots.old.named ≤ 128 }
-    ensures found { (rest : Items) → Leads (λ _. scope_of scope.new (slots_of slots.new)) (λ s. the_items (body_of round.entry.context) (loops_of round.entry) s rest) result (the_items (body_of round.entry.context) (loops_of round.entry) (scope_of scope.old (slots_of slots.old)) (placed_before item.entry.now rest)) }
+    ensures found { (rest : Items) →
+        Leads (λ _. scope_of scope.new (slots_of slots.new))
+        (λ s. the_items (body_of round.entry.context) (loops_of round.entry) s rest) result
+        (the_items (body_of round.entry.context) (loops_of round.entry) (scope_of scope.old (slots_of slots.old))
+        (placed_before item.entry.now rest)) }
     ensures low { OnOk result (slots.new.named ≤ 128) }
 {
     match item {

@@ -4,7 +4,8 @@ ghost use Rattle.std.specs.Prelude.{◌≡◌, ◌<◌, IfSome, map, option_map,
 ghost use Rattle.indexmap.specs.IndexMap.{index_map_len};
 ghost use Rattle.indexmap.specs.IndexSet.{index_set_len};
 ghost use Rattle.ls_types_elaboration.specs.Known.{field_named, method_named, number_of, field_of, method_of};
-ghost use Rattle.ls_types_tables.specs.ByName.{keys_of, field_entries_of, method_entry, method_entries_of, class_entry_of, known_of};
+ghost use Rattle.ls_types_tables.specs.ByName.{keys_of, field_entries_of, method_entry, method_entries_of};
+ghost use Rattle.ls_types_tables.specs.ByName.{class_entry_of, known_of};
 
 use crate::tables::{ClassTables, MethodEntry};
 use indexmap::{IndexMap, IndexSet};
@@ -45,14 +46,16 @@ pub fn method_named<'a>(
     methods: &'a IndexMap<String, MethodEntry>,
     name: &str,
 ) -> Option<&'a MethodEntry>
-    ensures { option_map (λ m. method_entry name.now m.now) result ≡ method_named (method_entries_of methods.now) name.now }
+    ensures { option_map (λ m. method_entry name.now m.now) result ≡
+        method_named (method_entries_of methods.now) name.now }
 {
     methods.get(name)
 }
 
 /// The class of a number, or none.
 pub fn class_at<'a>(known: Known<'a>, class: usize) -> Option<&'a ClassTables>
-    ensures { option_map (λ c. class_entry_of c.now) result ≡ slice_get (map class_entry_of known.entry.classes.now) class }
+    ensures { option_map (λ c. class_entry_of c.now) result ≡
+        slice_get (map class_entry_of known.entry.classes.now) class }
 {
     known.classes.get(class)
 }

@@ -25,7 +25,8 @@ fn method_member(
     class: usize,
     name: &str,
 ) -> Result<Option<Member>, AllocError>
-    ensures { IfOk result (λ o. option_map known_member o ≡ method_member (method_of (known_of known.entry) class name.now)) }
+    ensures { IfOk result (λ o. option_map known_member o ≡
+        method_member (method_of (known_of known.entry) class name.now)) }
 {
     match method_of(known, class, name) {
         None => Ok(None),
@@ -52,7 +53,9 @@ fn member_in(
 /// A method of the class to which the code belongs (JLS 15.12.1). If that class has no method of the name, it is
 /// refused by `UnknownName` at the name. Else the only refusal is that memory ran out.
 pub fn own_member(alloc: Global, known: Known, n: &Name) -> Result<Member, CheckFault>
-    ensures { Gives known_member result (found (method_member (method_of (known_of known.entry) known.entry.own (string_bytes n.now.text))) n.now.span) }
+    ensures { Gives known_member result
+        (found (method_member (method_of (known_of known.entry) known.entry.own (string_bytes n.now.text)))
+        n.now.span) }
 {
     match method_member(alloc, known, known.own, n.text.as_str())? {
         None => Err(refused_at(Rule::UnknownName, n.span)),
@@ -68,7 +71,8 @@ pub fn member_of(
     target: Static,
     n: &Name,
 ) -> Result<Member, CheckFault>
-    ensures { Gives known_member result (found (member_of (known_of known.entry) target (string_bytes n.now.text)) n.now.span) }
+    ensures { Gives known_member result
+        (found (member_of (known_of known.entry) target (string_bytes n.now.text)) n.now.span) }
 {
     match member_in(alloc, known, target, n.text.as_str())? {
         None => Err(refused_at(Rule::UnknownName, n.span)),
@@ -116,7 +120,8 @@ pub fn maker_of(alloc: Global, known: Known, n: &Name) -> Result<Maker, CheckFau
 /// What `new AtomicMarkableReference` makes, for references to objects of a class. If there is no such class, it is
 /// refused by `UnknownType` at the name. Else the only refusal is that memory ran out.
 pub fn markable_maker(alloc: Global, known: Known, n: &Name) -> Result<Maker, CheckFault>
-    ensures { Gives plain_maker result (markable_maker (number_of (keys_of known.entry.names.now) (string_bytes n.now.text)) n.now.span) }
+    ensures { Gives plain_maker result
+        (markable_maker (number_of (keys_of known.entry.names.now) (string_bytes n.now.text)) n.now.span) }
 {
     match number_of(known.names, n.text.as_str()) {
         None => Err(refused_at(Rule::UnknownType, n.span)),

@@ -5,7 +5,8 @@ use Rattle.ls_tree.specs.Views.{bare, expressions_of}
 use Rattle.ls_tree.specs.Placed.{placed, placed_all}
 use Rattle.ls_parser_spelling.specs.Places.{At, SomeAt, spots}
 use Rattle.ls_parser_tokens.specs.Reading.{group_at}
-use Rattle.ls_parser_expressions.specs.ReadingExpressions.{binary_at, unary_at, expression_at, post_at, has_suffix, suffix_at}
+use Rattle.ls_parser_expressions.specs.ReadingExpressions.{binary_at, unary_at, expression_at, post_at, has_suffix}
+use Rattle.ls_parser_expressions.specs.ReadingExpressions.{suffix_at}
 use Rattle.ls_parser_expressions.proofs.Repeats.{InRepeat, InGroup}
 use Rattle.ls_parser_expressions.proofs.Chains.{InChain}
 use Rattle.ls_parser_expressions.proofs.+expressions.Given as goal
@@ -65,8 +66,12 @@ abbrev pub invariant-expressions::binary-loop-rank : goal.invariant-expressions:
 invariant-expressions::binary-loop-rank l = record {
   from : 0 < l.rank;
   most : l.rank ≤ l.wanted + 1;
-  chain : l.rank ≤ l.wanted → InChain l.rank l.limit (unary_at l.limit false) (lexemes l.fn.tokens) (bare l.left.tree) (lexemes l.left.rest.now);
-  done : l.wanted < l.rank → binary_at l.wanted l.limit (unary_at l.limit false) (lexemes l.fn.tokens) ≡ Some (bare l.left.tree, lexemes l.left.rest.now);
+  chain : l.rank ≤ l.wanted →
+      InChain l.rank l.limit (unary_at l.limit false) (lexemes l.fn.tokens) (bare l.left.tree)
+      (lexemes l.left.rest.now);
+  done : l.wanted < l.rank →
+      binary_at l.wanted l.limit (unary_at l.limit false) (lexemes l.fn.tokens) ≡
+      Some (bare l.left.tree, lexemes l.left.rest.now);
   places : At (placed l.left.tree) (spots l.fn.tokens) (spots l.left.rest.now);
   height : l.left.height ≡ expression_height (bare l.left.tree);
   low : l.left.height ≤ l.limit;
@@ -77,7 +82,9 @@ decreases-expressions::binary-loop-rank l = l.limit - l.left.height + (l.wanted 
 
 abbrev pub invariant-expressions::post-loop-context : goal.invariant-expressions::post-loop-context
 invariant-expressions::post-loop-context l = record {
-  chain : InRepeat has_suffix (suffix_at l.limit (expression_at (l.limit - 1))) (l.limit - expression_height (bare l.left.tree)) (bare l.left.tree) (lexemes l.left.rest.now) (post_at l.limit l.after_minus (lexemes l.fn.tokens));
+  chain : InRepeat has_suffix (suffix_at l.limit (expression_at (l.limit - 1)))
+      (l.limit - expression_height (bare l.left.tree)) (bare l.left.tree) (lexemes l.left.rest.now)
+      (post_at l.limit l.after_minus (lexemes l.fn.tokens));
   places : At (placed l.left.tree) (spots l.fn.tokens) (spots l.left.rest.now);
   height : l.left.height ≡ expression_height (bare l.left.tree);
   low : l.left.height ≤ l.limit;
@@ -88,7 +95,8 @@ decreases-expressions::post-loop-context l = l.limit - l.left.height
 
 abbrev pub invariant-suffixes::arguments-loop-context : goal.invariant-suffixes::arguments-loop-context
 invariant-suffixes::arguments-loop-context l = record {
-  group : InGroup (expression_at l.limit) (map bare l.all.tree.items) (lexemes l.all.rest.now) (group_at (expression_at l.limit) (lexemes l.fn.tokens));
+  group : InGroup (expression_at l.limit) (map bare l.all.tree.items) (lexemes l.all.rest.now)
+      (group_at (expression_at l.limit) (lexemes l.fn.tokens));
   places : SomeAt (placed_all l.all.tree.items) (spots l.fn.tokens) (spots l.all.rest.now);
   height : l.all.height ≡ expressions_height (expressions_of l.all.tree.items);
   low : l.all.height ≤ l.limit;

@@ -11,7 +11,9 @@ use Rattle.ls_parser.proofs.classes.all_locked.Given as goal
 
 abbrev pub invariant-loop-context : goal.invariant-loop-context
 invariant-loop-context l = record {
-  list : InRepeat starts_locked (one_more locked_at) (length (lexemes l.all.rest.now)) (map bare_modifiers l.all.tree.items) (lexemes l.all.rest.now) (many_at starts_locked locked_at (lexemes l.fn.tokens));
+  list : InRepeat starts_locked (one_more locked_at) (length (lexemes l.all.rest.now))
+      (map bare_modifiers l.all.tree.items) (lexemes l.all.rest.now)
+      (many_at starts_locked locked_at (lexemes l.fn.tokens));
   places : ManyAt LockedAt (map bare_modifiers l.all.tree.items) (spots l.fn.tokens) (spots l.all.rest.now);
 }
 

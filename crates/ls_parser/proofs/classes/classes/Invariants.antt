@@ -12,7 +12,8 @@ use Rattle.ls_parser.proofs.classes.classes.Given as goal
 
 abbrev pub invariant-loop-context : goal.invariant-loop-context
 invariant-loop-context l = record {
-  list : InRepeat is_left (one_more class_at) (length (lexemes l.all.rest.now)) (map bare_class l.all.tree.items) (lexemes l.all.rest.now) (many_at is_left class_at (lexemes l.fn.tokens));
+  list : InRepeat is_left (one_more class_at) (length (lexemes l.all.rest.now)) (map bare_class l.all.tree.items)
+      (lexemes l.all.rest.now) (many_at is_left class_at (lexemes l.fn.tokens));
   places : ManyAt ClassAt (map placed_class l.all.tree.items) (spots l.fn.tokens) (spots l.all.rest.now);
 }
 

@@ -13,7 +13,9 @@ use Rattle.ls_parser.proofs.classes.members.Given as goal
 
 abbrev pub invariant-loop-context : goal.invariant-loop-context
 invariant-loop-context l = record {
-  list : InRepeat (not_yet signs.CloseBrace) (one_more member_at) (length (lexemes l.all.rest.now)) (map bare_member l.all.tree.items) (lexemes l.all.rest.now) (many_at (not_yet signs.CloseBrace) member_at (lexemes l.fn.tokens));
+  list : InRepeat (not_yet signs.CloseBrace) (one_more member_at) (length (lexemes l.all.rest.now))
+      (map bare_member l.all.tree.items) (lexemes l.all.rest.now)
+      (many_at (not_yet signs.CloseBrace) member_at (lexemes l.fn.tokens));
   places : ManyAt MemberAt (map placed_member l.all.tree.items) (spots l.fn.tokens) (spots l.all.rest.now);
 }
 

@@ -11,7 +11,8 @@ use Rattle.ls_parser.proofs.classes.parameter_group.Given as goal
 
 abbrev pub invariant-loop-context : goal.invariant-loop-context
 invariant-loop-context l = record {
-  group : InGroup parameter_at (map bare_parameter l.all.tree.items) (lexemes l.all.rest.now) (group_at parameter_at (lexemes l.fn.tokens));
+  group : InGroup parameter_at (map bare_parameter l.all.tree.items) (lexemes l.all.rest.now)
+      (group_at parameter_at (lexemes l.fn.tokens));
   places : SomeParametersAt (map placed_parameter l.all.tree.items) (spots l.fn.tokens) (spots l.all.rest.now);
 }
 

@@ -10,7 +10,8 @@ use Rattle.ls_parser.proofs.imports.import_parts.Given as goal
 
 abbrev pub invariant-loop-context : goal.invariant-loop-context
 invariant-loop-context l = record {
-  list : InRepeat more_path (one_more part_at) (length (lexemes l.all.rest.now)) (map name_text l.all.tree.items) (lexemes l.all.rest.now) (many_at more_path part_at (lexemes l.fn.tokens));
+  list : InRepeat more_path (one_more part_at) (length (lexemes l.all.rest.now)) (map name_text l.all.tree.items)
+      (lexemes l.all.rest.now) (many_at more_path part_at (lexemes l.fn.tokens));
   leaves : Leaves (spots l.fn.tokens) (spots l.all.rest.now);
 }
 

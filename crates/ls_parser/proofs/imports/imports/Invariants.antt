@@ -10,7 +10,9 @@ use Rattle.ls_parser.proofs.imports.imports.Given as goal
 
 abbrev pub invariant-loop-context : goal.invariant-loop-context
 invariant-loop-context l = record {
-  list : InRepeat starts_import (one_more import_at) (length (lexemes l.all.rest.now)) (map bare_import l.all.tree.items) (lexemes l.all.rest.now) (many_at starts_import import_at (lexemes l.fn.tokens));
+  list : InRepeat starts_import (one_more import_at) (length (lexemes l.all.rest.now))
+      (map bare_import l.all.tree.items) (lexemes l.all.rest.now)
+      (many_at starts_import import_at (lexemes l.fn.tokens));
   leaves : Leaves (spots l.fn.tokens) (spots l.all.rest.now);
 }
 

@@ -8,16 +8,22 @@ use Rattle.ls_parser.proofs.imports.package_parts.Goals as goal
 pub returns-in_err-all-clause-read : goal.returns-in_err-all-clause-read
 returns-in_err-all-clause-read c =
     let p = err_from_is_err_and c.from_residual.result c.from_residual.ensures.1 in
-    rw (p.1, p.2) (repeat_fails c.in_err-all.field-0.0 c.loop-context.invariant.list (cc (c.loop-context-test.true, c.starts_with.ensures)) c.in_err-all.ensures.read)
+    rw (p.1, p.2)
+    (repeat_fails c.in_err-all.field-0.0 c.loop-context.invariant.list
+    (cc (c.loop-context-test.true, c.starts_with.ensures)) c.in_err-all.ensures.read)
 
 pub loop-context-smaller : goal.loop-context-smaller
-loop-context-smaller c = tokens_shrink c.loop-context.all.rest.now c.in_ok-all.all.rest.now (one_more_shrinks _ part_shrinks _ _ _ _ c.in_ok-all.ensures.read)
+loop-context-smaller c =
+    tokens_shrink c.loop-context.all.rest.now c.in_ok-all.all.rest.now
+    (one_more_shrinks _ part_shrinks _ _ _ _ c.in_ok-all.ensures.read)
 
 pub loop-context-preserved : goal.loop-context-preserved
 loop-context-preserved c = record {
-  list = list_goes_on _ _ _ _ _ c.loop-context.invariant.list (cc (c.loop-context-test.true, c.starts_with.ensures)) c.in_ok-all.ensures.read (one_more_shrinks _ part_shrinks _ _ _ _ c.in_ok-all.ensures.read);
+  list = list_goes_on _ _ _ _ _ c.loop-context.invariant.list (cc (c.loop-context-test.true, c.starts_with.ensures))
+      c.in_ok-all.ensures.read (one_more_shrinks _ part_shrinks _ _ _ _ c.in_ok-all.ensures.read);
   leaves = leaves_then c.loop-context.invariant.leaves c.in_ok-all.ensures.leaves;
 }
 
 pub returns-clause-read : goal.returns-clause-read
-returns-clause-read c = repeat_ends c.loop-context.invariant.list (cc (c.loop-context-test.false, c.starts_with.ensures))
+returns-clause-read c =
+    repeat_ends c.loop-context.invariant.list (cc (c.loop-context-test.false, c.starts_with.ensures))

@@ -11,7 +11,9 @@ use Rattle.ls_parser.proofs.imports.package_parts.Given as goal
 
 abbrev pub invariant-loop-context : goal.invariant-loop-context
 invariant-loop-context l = record {
-  list : InRepeat (not_yet signs.Semicolon) (one_more part_at) (length (lexemes l.all.rest.now)) (map name_text l.all.tree.items) (lexemes l.all.rest.now) (many_at (not_yet signs.Semicolon) part_at (lexemes l.fn.tokens));
+  list : InRepeat (not_yet signs.Semicolon) (one_more part_at) (length (lexemes l.all.rest.now))
+      (map name_text l.all.tree.items) (lexemes l.all.rest.now)
+      (many_at (not_yet signs.Semicolon) part_at (lexemes l.fn.tokens));
   leaves : Leaves (spots l.fn.tokens) (spots l.all.rest.now);
 }
 

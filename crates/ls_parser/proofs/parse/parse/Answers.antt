@@ -16,9 +16,12 @@ pub returns-clause-found : goal.returns-clause-found
 returns-clause-found c =
     let parts = c.in_ok-parts.parts in
     let e = c.new.ensures in
-    let same : bare_file c.new.result ≡ file_of parts.header parts.imports.items parts.classes.items = λ i. file_of (e.0 i) (e.1 i).items (e.2 i).items in
-    subst (λ (f : File). Spells f (lexemes c.args.tokens.now)) (sym same) (found_is (lexemes c.args.tokens.now) _ c.in_ok-parts.ensures.read)
+    let same : bare_file c.new.result ≡ file_of parts.header parts.imports.items parts.classes.items =
+    λ i. file_of (e.0 i) (e.1 i).items (e.2 i).items in
+    subst (λ (f : File). Spells f (lexemes c.args.tokens.now)) (sym same)
+    (found_is (lexemes c.args.tokens.now) _ c.in_ok-parts.ensures.read)
 
 pub returns-clause-placed : goal.returns-clause-placed
 returns-clause-placed c =
-    subst (λ (v : Vec Class). FileAt (record { classes = map placed_class v.items }) (spots c.args.tokens.now)) (sym c.new.ensures.2) c.in_ok-parts.ensures.places
+    subst (λ (v : Vec Class). FileAt (record { classes = map placed_class v.items }) (spots c.args.tokens.now))
+    (sym c.new.ensures.2) c.in_ok-parts.ensures.places

@@ -5,4 +5,5 @@ use Rattle.ls_parser_declarations.proofs.declarations.modifier_part.Goals as goa
 
 pub returns-in_ok-tree-in-Word-clause-places : goal.returns-in_ok-tree-in-Word-clause-places
 returns-in_ok-tree-in-Word-clause-places c =
-    modifier_first _ c.args.tokens.now _ c.in_ok-tree-in-Word.ensures.spelled c.in-len1-up.len_at_least (ap lexeme_of c.in-Word.is)
+    modifier_first _ c.args.tokens.now _ c.in_ok-tree-in-Word.ensures.spelled c.in-len1-up.len_at_least
+    (ap lexeme_of c.in-Word.is)

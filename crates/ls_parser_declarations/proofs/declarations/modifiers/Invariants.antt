@@ -10,7 +10,9 @@ use Rattle.ls_parser_declarations.proofs.declarations.modifiers.Given as goal
 
 abbrev pub invariant-loop-context : goal.invariant-loop-context
 invariant-loop-context l = record {
-  list : InRepeat starts_modifier (one_more modifier_at) (length (lexemes l.all.rest.now)) (map bare_modifier l.all.tree.items) (lexemes l.all.rest.now) (many_at starts_modifier modifier_at (lexemes l.fn.tokens));
+  list : InRepeat starts_modifier (one_more modifier_at) (length (lexemes l.all.rest.now))
+      (map bare_modifier l.all.tree.items) (lexemes l.all.rest.now)
+      (many_at starts_modifier modifier_at (lexemes l.fn.tokens));
   places : ManyAt ModifierAt (map bare_modifier l.all.tree.items) (spots l.fn.tokens) (spots l.all.rest.now);
 }
 

@@ -14,8 +14,11 @@ use Rattle.ls_parser_declarations.proofs.declarations.more_declarators.Given as 
 
 abbrev pub invariant-loop-context : goal.invariant-loop-context
 invariant-loop-context l = record {
-  list : InRepeat (not_yet signs.Semicolon) (one_more (behind_comma (declarator_at (expression_at l.limit)))) (length (lexemes l.all.rest.now)) (map bare_declarator l.all.tree.items) (lexemes l.all.rest.now) (many_at (not_yet signs.Semicolon) (behind_comma (declarator_at (expression_at l.limit))) (lexemes l.fn.tokens));
-  places : ManyAt (BehindComma DeclaratorAt) (map placed_declarator l.all.tree.items) (spots l.fn.tokens) (spots l.all.rest.now);
+  list : InRepeat (not_yet signs.Semicolon) (one_more (behind_comma (declarator_at (expression_at l.limit))))
+      (length (lexemes l.all.rest.now)) (map bare_declarator l.all.tree.items) (lexemes l.all.rest.now)
+      (many_at (not_yet signs.Semicolon) (behind_comma (declarator_at (expression_at l.limit))) (lexemes l.fn.tokens));
+  places : ManyAt (BehindComma DeclaratorAt) (map placed_declarator l.all.tree.items) (spots l.fn.tokens)
+      (spots l.all.rest.now);
   height : l.all.height ≡ declarators_height (map bare_declarator l.all.tree.items);
   low : l.all.height ≤ l.limit;
 }

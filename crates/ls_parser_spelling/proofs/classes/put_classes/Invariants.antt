@@ -6,4 +6,5 @@ use Rattle.ls_tree.specs.Views.{bare_class}
 use Rattle.ls_parser_spelling.proofs.classes.put_classes.Given as goal
 
 abbrev pub invariant-loop-class : goal.invariant-loop-class
-invariant-loop-class l = lexemes_of l.out.items ++ flat_map spell_class (map bare_class (drop l.class-index l.classes)) ≡ lexemes_of l.initial.out.items ++ flat_map spell_class (map bare_class l.classes)
+invariant-loop-class l = lexemes_of l.out.items ++ flat_map spell_class (map bare_class (drop l.class-index l.classes))
+    ≡ lexemes_of l.initial.out.items ++ flat_map spell_class (map bare_class l.classes)

@@ -8,4 +8,7 @@ use Rattle.ls_tree.specs.Views.{bare_parameter}
 use Rattle.ls_parser_spelling.proofs.classes.put_more_parameters.Given as goal
 
 abbrev pub invariant-loop-parameter : goal.invariant-loop-parameter
-invariant-loop-parameter l = lexemes_of l.out.items ++ flat_map (λ p. Marked signs.Comma ∷ spell_parameter p) (map bare_parameter (drop l.parameter-index l.more)) ≡ lexemes_of l.initial.out.items ++ flat_map (λ p. Marked signs.Comma ∷ spell_parameter p) (map bare_parameter l.more)
+invariant-loop-parameter l =
+    lexemes_of l.out.items ++
+    flat_map (λ p. Marked signs.Comma ∷ spell_parameter p) (map bare_parameter (drop l.parameter-index l.more)) ≡
+    lexemes_of l.initial.out.items ++ flat_map (λ p. Marked signs.Comma ∷ spell_parameter p) (map bare_parameter l.more)

@@ -7,4 +7,7 @@ use Rattle.ls_tree.specs.Views.{name_text}
 use Rattle.ls_parser_spelling.proofs.classes.put_parts.Given as goal
 
 abbrev pub invariant-loop-part : goal.invariant-loop-part
-invariant-loop-part l = lexemes_of l.out.items ++ flat_map (λ name. Marked signs.Dot ∷ Named name ∷ []) (map name_text (drop l.part-index l.parts)) ≡ lexemes_of l.initial.out.items ++ flat_map (λ name. Marked signs.Dot ∷ Named name ∷ []) (map name_text l.parts)
+invariant-loop-part l =
+    lexemes_of l.out.items ++
+    flat_map (λ name. Marked signs.Dot ∷ Named name ∷ []) (map name_text (drop l.part-index l.parts)) ≡
+    lexemes_of l.initial.out.items ++ flat_map (λ name. Marked signs.Dot ∷ Named name ∷ []) (map name_text l.parts)

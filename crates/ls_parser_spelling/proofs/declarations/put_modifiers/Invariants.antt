@@ -6,4 +6,6 @@ use Rattle.ls_tree.specs.Views.{bare_modifier}
 use Rattle.ls_parser_spelling.proofs.declarations.put_modifiers.Given as goal
 
 abbrev pub invariant-loop-modifier : goal.invariant-loop-modifier
-invariant-loop-modifier l = lexemes_of l.out.items ++ flat_map spell_modifier (map bare_modifier (drop l.modifier-index l.modifiers)) ≡ lexemes_of l.initial.out.items ++ flat_map spell_modifier (map bare_modifier l.modifiers)
+invariant-loop-modifier l =
+    lexemes_of l.out.items ++ flat_map spell_modifier (map bare_modifier (drop l.modifier-index l.modifiers)) ≡
+    lexemes_of l.initial.out.items ++ flat_map spell_modifier (map bare_modifier l.modifiers)

@@ -8,4 +8,8 @@ use Rattle.ls_tree.specs.Views.{bare_declarator}
 use Rattle.ls_parser_spelling.proofs.declarations.put_more_declarators.Given as goal
 
 abbrev pub invariant-loop-declarator : goal.invariant-loop-declarator
-invariant-loop-declarator l = lexemes_of l.out.items ++ flat_map (λ d. Marked signs.Comma ∷ spell_declarator d) (map bare_declarator (drop l.declarator-index l.more)) ≡ lexemes_of l.initial.out.items ++ flat_map (λ d. Marked signs.Comma ∷ spell_declarator d) (map bare_declarator l.more)
+invariant-loop-declarator l =
+    lexemes_of l.out.items ++
+    flat_map (λ d. Marked signs.Comma ∷ spell_declarator d) (map bare_declarator (drop l.declarator-index l.more)) ≡
+    lexemes_of l.initial.out.items ++
+    flat_map (λ d. Marked signs.Comma ∷ spell_declarator d) (map bare_declarator l.more)

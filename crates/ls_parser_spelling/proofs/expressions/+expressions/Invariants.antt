@@ -29,5 +29,6 @@ decreases-put_others l = 4 * all_nodes (expressions_of l.others.now) + 1
 abbrev pub invariant-put_others-loop-e : goal.invariant-put_others-loop-e
 invariant-put_others-loop-e l = record {
   few : all_nodes (expressions_of (drop l.e-index l.others)) ≤ all_nodes (expressions_of l.others);
-  same : lexemes_of l.out.items ++ spell_others (expressions_of (drop l.e-index l.others)) ≡ lexemes_of l.initial.out.items ++ spell_others (expressions_of l.others);
+  same : lexemes_of l.out.items ++ spell_others (expressions_of (drop l.e-index l.others)) ≡
+      lexemes_of l.initial.out.items ++ spell_others (expressions_of l.others);
 }

@@ -9,5 +9,7 @@ use Rattle.ls_parser_spelling.proofs.expressions.put_markable.Goals as goal
 
 pub returns : goal.returns
 returns c =
-    first_and_more (lexemes_of c.args.out.now.items) (lexemes_of c.put_text.new.out.items) (lexemes_of c.put_in_angles.new.out.items)
-    (Marked signs.Less ∷ Named (name_text c.args.class.now) ∷ Marked signs.Greater ∷ []) (Named (codes "AtomicMarkableReference")) c.in_ok-put_text.ensures c.in_ok-put_in_angles.ensures
+    first_and_more (lexemes_of c.args.out.now.items) (lexemes_of c.put_text.new.out.items)
+    (lexemes_of c.put_in_angles.new.out.items)
+    (Marked signs.Less ∷ Named (name_text c.args.class.now) ∷ Marked signs.Greater ∷ [])
+    (Named (codes "AtomicMarkableReference")) c.in_ok-put_text.ensures c.in_ok-put_in_angles.ensures

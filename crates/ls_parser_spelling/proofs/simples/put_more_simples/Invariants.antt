@@ -8,4 +8,7 @@ use Rattle.ls_tree.specs.Views.{bare_simple}
 use Rattle.ls_parser_spelling.proofs.simples.put_more_simples.Given as goal
 
 abbrev pub invariant-loop-simple : goal.invariant-loop-simple
-invariant-loop-simple l = lexemes_of l.out.items ++ flat_map (λ s. Marked signs.Comma ∷ spell_simple s) (map bare_simple (drop l.simple-index l.more)) ≡ lexemes_of l.initial.out.items ++ flat_map (λ s. Marked signs.Comma ∷ spell_simple s) (map bare_simple l.more)
+invariant-loop-simple l =
+    lexemes_of l.out.items ++
+    flat_map (λ s. Marked signs.Comma ∷ spell_simple s) (map bare_simple (drop l.simple-index l.more)) ≡
+    lexemes_of l.initial.out.items ++ flat_map (λ s. Marked signs.Comma ∷ spell_simple s) (map bare_simple l.more)

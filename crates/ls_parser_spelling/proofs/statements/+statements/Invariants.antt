@@ -36,5 +36,6 @@ decreases-put_item l = 4 * items_nodes (put_before (bare_piece l.item.now) NoIte
 abbrev pub invariant-put_items-loop-item : goal.invariant-put_items-loop-item
 invariant-put_items-loop-item l = record {
   few : items_nodes (items_of (drop l.item-index l.items)) ≤ items_nodes (items_of l.items);
-  same : lexemes_of l.out.items ++ spell_items (items_of (drop l.item-index l.items)) ≡ lexemes_of l.initial.out.items ++ spell_items (items_of l.items);
+  same : lexemes_of l.out.items ++ spell_items (items_of (drop l.item-index l.items)) ≡ lexemes_of l.initial.out.items
+      ++ spell_items (items_of l.items);
 }

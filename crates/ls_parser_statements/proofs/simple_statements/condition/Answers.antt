@@ -3,4 +3,7 @@ use Rattle.ls_parser_statements.proofs.Places.{condition_is}
 use Rattle.ls_parser_statements.proofs.simple_statements.condition.Goals as goal
 
 pub returns-clause-places : goal.returns-clause-places
-returns-clause-places c = both_ok c.closed_part.result _ _ _ (λ p same close. condition_is same.0 c.in_ok-open.ensures.placed c.in_ok-condition.ensures.places close) c.closed_part.ensures.same c.closed_part.ensures.placed
+returns-clause-places c =
+    both_ok c.closed_part.result _ _ _
+    (λ p same close. condition_is same.0 c.in_ok-open.ensures.placed c.in_ok-condition.ensures.places close)
+    c.closed_part.ensures.same c.closed_part.ensures.placed

@@ -2,4 +2,6 @@ use Rattle.ls_parser_statements.proofs.SimplePlaces.{head_is}
 use Rattle.ls_parser_statements.proofs.simples.head.Goals as goal
 
 pub returns-clause-places : goal.returns-clause-places
-returns-clause-places c = head_is c.in_ok-paren.ensures.placed c.in_ok-opening.ensures.places c.in_ok-condition.ensures.places c.in_ok-updates.ensures.places
+returns-clause-places c =
+    head_is c.in_ok-paren.ensures.placed c.in_ok-opening.ensures.places c.in_ok-condition.ensures.places
+    c.in_ok-updates.ensures.places

@@ -13,7 +13,9 @@ use Rattle.ls_parser_statements.proofs.simples.some_simples.Given as goal
 
 abbrev pub invariant-loop-context : goal.invariant-loop-context
 invariant-loop-context l = record {
-  list : InRepeat (starts signs.Comma) (one_more (behind_comma (simple_at l.limit))) (length (lexemes l.all.rest.now)) (map bare_simple l.all.tree.items) (lexemes l.all.rest.now) (simples_at (simple_at l.limit) (lexemes l.fn.tokens));
+  list : InRepeat (starts signs.Comma) (one_more (behind_comma (simple_at l.limit))) (length (lexemes l.all.rest.now))
+      (map bare_simple l.all.tree.items) (lexemes l.all.rest.now)
+      (simples_at (simple_at l.limit) (lexemes l.fn.tokens));
   places : SomeSimplesAt (map placed_simple l.all.tree.items) (spots l.fn.tokens) (spots l.all.rest.now);
   height : l.all.height ≡ simples_height (map bare_simple l.all.tree.items);
   low : l.all.height ≤ l.limit;

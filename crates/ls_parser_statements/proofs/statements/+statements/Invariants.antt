@@ -58,7 +58,9 @@ decreases-other_statement l = l.limit * 20 + 16
 
 abbrev pub invariant-block_items-loop-context : goal.invariant-block_items-loop-context
 invariant-block_items-loop-context l = record {
-  list : InRepeat (not_yet signs.CloseBrace) (one_more (piece_at (local_at l.limit) (statement_at l.limit))) (length (lexemes l.all.rest.now)) (map bare_piece l.all.tree.items) (lexemes l.all.rest.now) (many_at (not_yet signs.CloseBrace) (piece_at (local_at l.limit) (statement_at l.limit)) (lexemes l.fn.tokens));
+  list : InRepeat (not_yet signs.CloseBrace) (one_more (piece_at (local_at l.limit) (statement_at l.limit)))
+      (length (lexemes l.all.rest.now)) (map bare_piece l.all.tree.items) (lexemes l.all.rest.now)
+      (many_at (not_yet signs.CloseBrace) (piece_at (local_at l.limit) (statement_at l.limit)) (lexemes l.fn.tokens));
   places : ItemsAt (placed_items l.all.tree.items) (spots l.fn.tokens) (spots l.all.rest.now);
   height : l.all.height ≡ items_height (items_of l.all.tree.items);
   low : l.all.height ≤ l.limit;

@@ -3,7 +3,7 @@ use Rattle.ls_checked.specs.Plain.{plain_file}
 use Rattle.ls_types_judgement.specs.WellTyped.{IsWellTyped}
 use Rattle.ls_types_elaboration.specs.Outcomes.{outcome_of}
 use Rattle.ls_types_elaboration.specs.PlacedStatements.{placed_file}
-use Rattle.ls_types_files.proofs.checking.check.Goals as goal
+use Rattle.ls_types_files.proofs.check.check.Goals as goal
 
 pub returns-clause-typed : goal.returns-clause-typed
 returns-clause-typed c =

@@ -9,7 +9,7 @@ ghost use Rattle.ls_types.specs.CheckedFile.{outcome_of};
 
 use crate::elaboration::elaborate;
 use ls_tree::tree::ClassFile;
-use ls_types::check::Checked;
+use ls_types::checked::Checked;
 use ls_types_elaboration::rule::CheckFault;
 use ls_types_laws::elaborates_well_typed;
 use std::alloc::Global;
