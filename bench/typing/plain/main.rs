@@ -35,7 +35,7 @@ fn main() {
     if !check {
         return println!("parsed");
     }
-    match ls_types_files::checking::check(Global, parsed) {
+    match ls_types_files::check::check(Global, parsed) {
         Ok(_) => println!("accepted"),
         Err(fault) => println!("{fault:?}"),
     }

@@ -1,5 +1,5 @@
-//! Threads of single steps, worked out by hand, and samples of seeds, made by a generator that was written apart: the definitions of
-//! ls_batch compute them. They stand above ls_batch, so that a new one is no change of that crate.
+//! Threads of single steps, worked out by hand, and samples of seeds, made by a generator that was written apart: the
+//! definitions of ls_batch compute them. They stand above ls_batch, so that a new one is no change of that crate.
 #![tactic(auto)]
 
 ghost use Rattle.ls_batch_rows.specs.Samples.{AtTheEnds, EachDrawn, FewDrawn, NothingDrawn, OneThread};

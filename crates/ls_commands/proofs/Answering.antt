@@ -8,7 +8,7 @@ use Rattle.ls_compiler.specs.declared.fault.CompileFault.{CompileFault}
 use Rattle.ls_image.specs.declared.image.Image.{Image}
 use Rattle.ls_report.specs.Events.{Text}
 use Rattle.ls_faults.specs.Faults.{lifted_compile}
-use Rattle.ls_faults.specs.Given.{Gives}
+use Rattle.ls_faults.specs.Given.{GivesText}
 use Rattle.ls_faults.specs.declared.fault.ToolFault.{ToolFault}
 use Rattle.ls_commands.specs.Compiled.{AnswersOn, NotCompiled, OnImage}
 use Rattle.ls_faults.proofs.Answering.{Failed, fails, wider}
@@ -16,13 +16,13 @@ use Rattle.ls_faults.proofs.Answering.{Failed, fails, wider}
 -- where the texts aren't compiled, and where they are
 pub not_compiled : (classes program : Text) (May : Image → Result Text ToolFault → Type 0) (f : CompileFault) →
     CompilesTo classes program (Err f) →
-    Gives (AnswersOn classes program May) (Failed (lifted_compile f))
+    GivesText (AnswersOn classes program May) (Failed (lifted_compile f))
 not_compiled classes program May f h = fails (AnswersOn classes program May) (lifted_compile f) (NotCompiled f h)
 
 pub on_image : (classes program : Text) (May : Image → Result Text ToolFault → Type 0) (image : Image)
     (r : Result (String Global) ToolFault) →
-    Compiles classes program image → IsWithinLimits image → Gives (May image) r →
-    Gives (AnswersOn classes program May) r
+    Compiles classes program image → IsWithinLimits image → GivesText (May image) r →
+    GivesText (AnswersOn classes program May) r
 on_image classes program May image r compiles limits given = wider (May image) (AnswersOn classes program May) r
     (λ a h. OnImage image a compiles limits h) given
 

@@ -20,7 +20,7 @@ use Rattle.ls_report.specs.Printing.{run_text}
 use Rattle.ls_commands.proofs.Answering.{not_refused}
 use Rattle.ls_commands.specs.Compiled.{Replayed, Runs, NoCells, NoSchedule}
 use Rattle.ls_faults.specs.Faults.{lifted_cells, lifted_schedule}
-use Rattle.ls_faults.specs.Given.{Gives}
+use Rattle.ls_faults.specs.Given.{GivesText}
 use Rattle.ls_faults.specs.declared.fault.ToolFault.{ToolFault}
 use Rattle.ls_faults.specs.declared.fault.ToolFault.TheVariants as fault
 
@@ -37,7 +37,7 @@ Failed f = Err f
 pub cells_fail : (i : Image) (cells : ℕ) (read : Result (List ℕ) ScheduleFault) (steps : List ℕ) (f : LoadFault) →
     read ≡ Ok steps →
     (IsErrOf (Refused f) load.BadCells ↔ AreBadCells (code_of_image i).names cells) →
-    Gives (Replayed i cells read) (Failed (lifted_cells f))
+    GivesText (Replayed i cells read) (Failed (lifted_cells f))
 cells_fail i cells read steps load.Memory e h = tt
 cells_fail i cells read steps load.BadCells e h = rw e (NoCells steps (h.0 refl))
 

@@ -19,13 +19,13 @@ use Rattle.ls_report.specs.Events.{Text}
 use Rattle.ls_text_laws.specs.Histories.{IsReadable}
 use Rattle.ls_verdicts.specs.Verdicts.{IsHistoryOf}
 use Rattle.ls_faults.specs.Faults.{lifted_batch}
-use Rattle.ls_faults.specs.Given.{Gives}
+use Rattle.ls_faults.specs.Given.{GivesText}
 use Rattle.ls_commands.proofs.Answering.{not_refused}
 use Rattle.ls_commands.proofs.ReadBackLemmas.{are_cells}
 use Rattle.ls_commands.specs.Compiled.{plain_program_of}
 use Rattle.ls_commands.specs.Judged.{BadCount, Judged, Judges, NoCells}
 use Rattle.ls_commands.specs.Readable.{RunsAreReadable}
-use Rattle.ls_commands.specs.declared.tallying.Sampling.{Sampling}
+use Rattle.ls_commands.specs.declared.batch.Sampling.{Sampling}
 
 -- an item of what f makes is made of one
 of_one : {A B : Type 0} (f : A → B) (xs : List A) (k : ℕ) (y : B) →
@@ -97,7 +97,7 @@ module _ (i : Image) (cells : ℕ) (s : Sampling) where
   pub judging_fails : (f : BatchFault) →
       (IsErrOf (Refused f) batch.BadCells ↔ Bad) →
       (IsErrOf (Refused f) batch.BadCount ↔ (¬ Bad × Many)) →
-      Gives (Judged i cells s) (Err (lifted_batch f))
+      GivesText (Judged i cells s) (Err (lifted_batch f))
   judging_fails batch.Memory bad many = tt
   judging_fails batch.BadCells bad many = NoCells (bad.0 refl)
   judging_fails batch.BadCount bad many = BadCount (many.0 refl).0 (many.0 refl).1

@@ -21,7 +21,7 @@ use Rattle.ls_following.specs.declared.fault.TapeFault.TheVariants as turns
 use Rattle.ls_report.specs.Events.{Text}
 use Rattle.ls_report.specs.Printing.{run_text}
 use Rattle.ls_faults.specs.Faults.{lifted_live, lifted_turns}
-use Rattle.ls_faults.specs.Given.{Gives}
+use Rattle.ls_faults.specs.Given.{GivesText}
 use Rattle.ls_commands.proofs.Answering.{not_refused}
 use Rattle.ls_commands.specs.Compiled.{names_of_image, NoCells as TooFewOrMany, plain_program_of, Replayed, Runs}
 use Rattle.ls_commands.specs.Lived.{AreLived, AsReplayed, BadLimit, Disagree, Lived, Lives, NoCells, NoMore}
@@ -41,7 +41,7 @@ module _ (i : Image) (cells : ℕ) where
     pub live_fails : (f : LiveFault) →
         (IsErrOf (Unlived f) (live.Open opening.BadCells) ↔ Bad) →
         (IsErrOf (Unlived f) (live.Open opening.BadLimit) ↔ (¬ Bad × (most_steps < limit))) →
-        Gives (Lived i cells limit NoMore) (Err (lifted_live f))
+        GivesText (Lived i cells limit NoMore) (Err (lifted_live f))
     live_fails (live.Open opening.Memory) bad large = tt
     live_fails (live.Open opening.BadCells) bad large = NoCells (bad.0 refl)
     live_fails (live.Open opening.BadLimit) bad large = BadLimit (large.0 refl).0 (large.0 refl).1
@@ -76,7 +76,7 @@ module _ (i : Image) (cells : ℕ) where
 
     pub turns_fail : (f : TurnsFault) → (IsErrOf (Unfollowed f) (turns.Load load.BadCells) ↔ Bad) →
         ((place : ℕ) → IsErrOf (Unfollowed f) (turns.Follow (follow.TurnsSpent place)) → place < length steps) →
-        Gives (ReplayedLive i cells read) (Err (lifted_turns f))
+        GivesText (ReplayedLive i cells read) (Err (lifted_turns f))
     turns_fail (turns.Load load.Memory) bad spent = tt
     turns_fail (turns.Load load.BadCells) bad spent = AsReplayed _ (rw reads (TooFewOrMany steps (bad.0 refl)))
     turns_fail (turns.Follow follow.Memory) bad spent = tt

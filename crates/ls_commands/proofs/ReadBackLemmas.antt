@@ -26,7 +26,7 @@ use Rattle.ls_commands.specs.Lived.{AreLived, AsReplayed, BadLimit, Disagree, Li
 use Rattle.ls_commands.specs.Lived.{NoCells as TooFewOrMany, NoMore, NotFollowed, NoThread, ReadsBackAs, ReplayedLive}
 use Rattle.ls_commands.specs.Lived.{ReplayedLiveOf, lived_history, lived_schedule}
 use Rattle.ls_faults.specs.ReadBack.{IsHistoryText, ReadsBack}
-use Rattle.ls_faults.specs.Given.{Gives}
+use Rattle.ls_faults.specs.Given.{GivesText}
 use Rattle.ls_faults.specs.declared.fault.ToolFault.{ToolFault}
 
 pub are_cells : (code : Code) (cells : ℕ) → ¬ AreBadCells code.names cells → IsCells code cells
@@ -68,14 +68,14 @@ module _ (readable : CompiledIsReadable) (classes program : Text) (i : Image) (c
   replayed_live_back (NotFollowed steps f e h) = tt
 
   pub replayed_of : (s : Text) (r : Result (String Global) ToolFault) →
-      Gives (Replayed i cells (schedule_of (names_of_image i) s)) r →
-      Gives (ReplayedOf cells s i) r
+      GivesText (Replayed i cells (schedule_of (names_of_image i) s)) r →
+      GivesText (ReplayedOf cells s i) r
   replayed_of s r g = wider (Replayed i cells (schedule_of (names_of_image i) s)) (ReplayedOf cells s i) r
       (λ a h. (h, replayed_back h)) g
 
   pub replayed_live_of : (s : Text) (r : Result (String Global) ToolFault) →
-      Gives (ReplayedLive i cells (schedule_of (names_of_image i) s)) r →
-      Gives (ReplayedLiveOf cells s i) r
+      GivesText (ReplayedLive i cells (schedule_of (names_of_image i) s)) r →
+      GivesText (ReplayedLiveOf cells s i) r
   replayed_live_of s r g = wider (ReplayedLive i cells (schedule_of (names_of_image i) s)) (ReplayedLiveOf cells s i) r
       (λ a h. (h, replayed_live_back h)) g
 
@@ -114,6 +114,6 @@ module _ (readable : CompiledIsReadable) (classes program : Text) (i : Image) (c
     lived_back Disagree = Disagree
 
     pub lived_of : (r : Result (String Global) ToolFault) →
-        Gives (Lived i cells limit NoMore) r →
-        Gives (LivedOf cells limit i) r
+        GivesText (Lived i cells limit NoMore) r →
+        GivesText (LivedOf cells limit i) r
     lived_of r g = wider (Lived i cells limit NoMore) (LivedOf cells limit i) r (λ a h. lived_back h) g

@@ -20,7 +20,7 @@ use Rattle.ls_report.specs.Events.{Text}
 use Rattle.ls_report.specs.Printing.{run_text}
 use Rattle.ls_text_laws.specs.Schedules.{SchedulesReadBack}
 use Rattle.ls_faults.specs.Faults.{lifted_batch}
-use Rattle.ls_faults.specs.Given.{Gives}
+use Rattle.ls_faults.specs.Given.{GivesText}
 use Rattle.ls_faults.specs.declared.fault.ToolFault.{ToolFault}
 use Rattle.ls_faults.proofs.Answering.{wider}
 use Rattle.ls_commands.proofs.Answering.{not_refused}
@@ -41,7 +41,7 @@ module _ (i : Image) (cells seed : ℕ) (d : Drawing) where
   pub sample_fails : (f : BatchFault) →
       (IsErrOf (Refused f) batch.BadCells ↔ Bad) →
       (IsErrOf (Refused f) batch.BadCount ↔ (¬ Bad × Many))
-      → Gives (Sampled i cells seed d (Unit {0})) (Err (lifted_batch f))
+      → GivesText (Sampled i cells seed d (Unit {0})) (Err (lifted_batch f))
   sample_fails batch.Memory bad many = tt
   sample_fails batch.BadCells bad many = NoCells (bad.0 refl)
   sample_fails batch.BadCount bad many = BadCount (many.0 refl).0 (many.0 refl).1
@@ -101,6 +101,6 @@ module _ (i : Image) (cells seed : ℕ) (d : Drawing) where
     sampled_back (BadCount good many) = BadCount good many
 
     pub sampled_of : (r : Result (String Global) ToolFault) →
-        Gives (Sampled i cells seed d (Unit {0})) r →
-        Gives (SampledOf cells seed d i) r
+        GivesText (Sampled i cells seed d (Unit {0})) r →
+        GivesText (SampledOf cells seed d i) r
     sampled_of r g = wider (Sampled i cells seed d (Unit {0})) (SampledOf cells seed d i) r (λ a h. sampled_back h) g

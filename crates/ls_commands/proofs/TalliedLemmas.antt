@@ -11,11 +11,11 @@ use Rattle.ls_batch.specs.declared.fault.BatchFault.{BatchFault}
 use Rattle.ls_batch.specs.declared.fault.BatchFault.TheVariants as batch
 use Rattle.ls_report.specs.Events.{Text}
 use Rattle.ls_faults.specs.Faults.{lifted_batch}
-use Rattle.ls_faults.specs.Given.{Gives}
+use Rattle.ls_faults.specs.Given.{GivesText}
 use Rattle.ls_commands.proofs.Answering.{not_refused}
 use Rattle.ls_commands.specs.Compiled.{plain_program_of}
 use Rattle.ls_commands.specs.Tallied.{BadCount, NoCells, Tallied, Tallies}
-use Rattle.ls_commands.specs.declared.tallying.Sampling.{Sampling}
+use Rattle.ls_commands.specs.declared.batch.Sampling.{Sampling}
 
 module _ (i : Image) (cells : ℕ) (s : Sampling) where
   abbrev Bad : Type 0
@@ -30,7 +30,7 @@ module _ (i : Image) (cells : ℕ) (s : Sampling) where
   pub batch_fails : (f : BatchFault) →
       (IsErrOf (Refused f) batch.BadCells ↔ Bad) →
       (IsErrOf (Refused f) batch.BadCount ↔ (¬ Bad × Many)) →
-      Gives (Tallied i cells s) (Err (lifted_batch f))
+      GivesText (Tallied i cells s) (Err (lifted_batch f))
   batch_fails batch.Memory bad many = tt
   batch_fails batch.BadCells bad many = NoCells (bad.0 refl)
   batch_fails batch.BadCount bad many = BadCount (many.0 refl).0 (many.0 refl).1

@@ -16,7 +16,7 @@ use Rattle.ls_report.specs.Events.{Text}
 use Rattle.ls_command_line.specs.declared.words.Side.{Side}
 use Rattle.ls_command_line.specs.declared.words.Side.TheVariants as sides
 use Rattle.ls_faults.specs.Faults.{lifted_translation}
-use Rattle.ls_faults.specs.Given.{Gives, GivesSeen}
+use Rattle.ls_faults.specs.Given.{GivesText, GivesOne}
 use Rattle.ls_faults.specs.declared.fault.ToolFault.{ToolFault}
 use Rattle.ls_faults.proofs.Answering.{passed_on}
 use Rattle.ls_commands.proofs.Answering.{not_refused}
@@ -31,7 +31,7 @@ module _ (i : Image) (cells : ℕ) (steps : List ℕ) where
   Refused f = Err f
 
   abbrev Given : Side → Result (List ℕ) ToolFault → Type 0
-  Given to r = GivesSeen (λ s. s) (Turned i cells steps to) r
+  Given to r = GivesOne (λ s. s) (Turned i cells steps to) r
 
   pub source_fails : (f : TranslationFault) →
       (IsErrOf (Refused f) translation.BadCells ↔ Bad) →
@@ -78,7 +78,7 @@ module _ (i : Image) (cells : ℕ) (steps : List ℕ) where
       (ToMachine (not_refused s translation.BadCells Bad bad) fits)
 
   module _ (to : Side) (read : Result (List ℕ) ScheduleFault) (reads : read ≡ Ok steps) where
-    pub turn_fails : (f : ToolFault) → Given to (Err f) → Gives (Translated i to cells read) (Err f)
+    pub turn_fails : (f : ToolFault) → Given to (Err f) → GivesText (Translated i to cells read) (Err f)
     turn_fails f given = passed_on (Turned i cells steps to) (Translated i to cells read) f
         (λ h. rw reads (Translates steps (Err f) h)) given
 

@@ -11,7 +11,7 @@ use Rattle.ls_report.specs.Events.{Text}
 use Rattle.ls_verdicts.specs.declared.verdicts.Verdict.{Verdict}
 use Rattle.ls_faults.specs.declared.fault.ToolFault.{ToolFault}
 use Rattle.ls_faults.specs.declared.fault.ToolFault.TheVariants as faults
-use Rattle.ls_commands.specs.declared.tallying.Sampling.{Sampling}
+use Rattle.ls_commands.specs.declared.batch.Sampling.{Sampling}
 use Rattle.ls_commands.specs.Compiled.{AnswersOn, plain_program_of}
 
 -- the tally of the seeds' histories, with a verdict on each; or the cells are too few or too many, or the seeds or the

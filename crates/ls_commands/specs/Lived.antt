@@ -30,8 +30,7 @@ AreDone code cells limit steps =
     (length steps ≡ limit)
 
 -- the steps of a live run: at most so many, each of a thread that is there and due then, so that none is idle, up to
--- the ends of
--- all threads or to the limit
+-- the ends of all threads or to the limit
 pub record AreLived (code : Code) (cells limit : ℕ) (steps : List ℕ) : Type 0 where
   pub few : length steps ≤ limit
   pub there : All (λ t. t < length code.starts) steps
@@ -45,8 +44,7 @@ abbrev pub lived_history : Image → ℕ → List ℕ → Text
 lived_history i cells steps = run_text (plain_program_of i) (machine_history (code_of_image i) cells steps)
 
 -- The schedule of a live run, and the history of the machine's run of it, of which more is said. Or the cells are too
--- few or too
--- many, or else the limit is too large; or a thread couldn't be started.
+-- few or too many, or else the limit is too large; or a thread couldn't be started.
 pub data Lived (i : Image) (cells limit : ℕ) (More : List ℕ → Type 0) : Result Text ToolFault → Type 0 where
   Lives : (steps : List ℕ) →
       ¬ AreBadCells (code_of_image i).names cells →

@@ -20,8 +20,7 @@ use Rattle.ls_faults.specs.declared.fault.ToolFault.TheVariants as faults
 use Rattle.ls_commands.specs.Compiled.{AnswersOn, file_of_image, names_of_image, plain_program_of}
 
 -- The schedule of the other side, for the steps of one side; or what is made has no room in the cells, from a step on,
--- or the
--- machine would take too many steps; or the cells are too few or too many.
+-- or the machine would take too many steps; or the cells are too few or too many.
 pub data Turned (i : Image) (cells : ℕ) (steps : List ℕ) : Side → Result (List ℕ) ToolFault → Type 0 where
   ToSource : ¬ AreBadCells (code_of_image i).names cells →
       Turned i cells steps sides.Source (Ok (to_source (code_of_image i) cells steps))

@@ -12,7 +12,7 @@ use Rattle.ls_types_elaboration.specs.Elaboration.{elaborated}
 use Rattle.ls_types.specs.CheckedFile.{outcome_of}
 use Rattle.ls_types_programs.specs.Programs.{IsTextOf}
 use Rattle.ls_types.specs.Sources.{checked_of, program_of, source_file, source_program}
-use Rattle.ls_types.specs.declared.check.Checked.{Checked}
+use Rattle.ls_types.specs.declared.checked.Checked.{Checked}
 use Rattle.ls_types.specs.declared.source.Source.{Source}
 use Rattle.ls_linker.specs.Limits.{KeepsLimits, GoesPast}
 use Rattle.ls_linker.specs.declared.fault.BuildFault.{BuildFault}

@@ -25,8 +25,7 @@ use Rattle.ls_image.specs.Images.{Compiles, checked_of, code_of_image, program_o
 use Rattle.ls_image.specs.declared.image.Image.{Image}
 
 -- An image has the code that is made of its file and its program, so that one code runs wherever two texts are
--- compiled; and it keeps each limit
--- of the code.
+-- compiled; and it keeps each limit of the code.
 pub record IsWithinLimits (image : Image) : Type 0 where
   pub made : code_of_image image ≡ code_of (outcome_of (checked_of image)).file (plain_program (program_of_image image))
   pub limits : KeepsLimits (outcome_of (checked_of image)).file (plain_program (program_of_image image))

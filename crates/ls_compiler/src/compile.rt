@@ -9,7 +9,7 @@ use ls_image::image::Image;
 use ls_linker::build::build;
 use ls_parser::parse::parse_text;
 use ls_types::source::Source;
-use ls_types_files::checking::check;
+use ls_types_files::check::check;
 use ls_types_reading::program::read_program;
 use std::alloc::Global;
 

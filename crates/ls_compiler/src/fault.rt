@@ -5,7 +5,7 @@ ghost use Rattle.ls_compiler.specs.declared.fault.CompileFault.TheVariants.{Text
 
 use ls_lexer::fault::TextFault;
 use ls_linker::fault::BuildFault;
-use ls_types::check::CheckFault;
+use ls_types::checked::CheckFault;
 use ls_types::fault::ProgramFault;
 use thiserror::Error;
 

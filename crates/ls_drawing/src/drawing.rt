@@ -5,7 +5,10 @@ ghost use Rattle.ls_checked.specs.PlainProgram.{plain_name};
 ghost use Rattle.ls_labels.specs.Names.{names_of};
 ghost use Rattle.ls_labels.specs.Objects.{object_text};
 ghost use Rattle.ls_source_store.specs.SeenThing.{hold_of, thing_of};
-ghost use Rattle.ls_drawing.specs.Drawing.{arrow_text, arrows_text, drawing_text, drawn_name, drawn_name_of, drawn_thing, field_arrow, field_row, fill_text, graph_of, head_text, label_text, mark_style, monitor_row, name_node, node_text, null_text, port_arrow, reference_row, row_text, rows_text};
+ghost use Rattle.ls_drawing.specs.Drawing.{arrow_text, arrows_text, drawing_text, drawn_name, drawn_name_of};
+ghost use Rattle.ls_drawing.specs.Drawing.{drawn_thing, field_arrow, field_row, fill_text, graph_of, head_text};
+ghost use Rattle.ls_drawing.specs.Drawing.{label_text, mark_style, monitor_row, name_node, node_text, null_text};
+ghost use Rattle.ls_drawing.specs.Drawing.{port_arrow, reference_row, row_text, rows_text};
 ghost use Rattle.ls_state.specs.Parts.{numbered};
 ghost use Rattle.ls_state.specs.Seen.{names_in, scene_seen};
 
@@ -282,7 +285,8 @@ fn push_names(out: &mut String, scene: &Scene) -> Result<(), AllocError>
 
 /// Adds the graph of a run.
 pub(crate) fn push_graph(out: &mut String, scene: &Scene) -> Result<(), AllocError>
-    ensures { OnOk result (string_bytes out.new ≡ string_bytes out.old ++ graph_of (names_in scene.now) (scene_seen scene.now)) }
+    ensures { OnOk result (string_bytes out.new ≡ string_bytes out.old ++
+        graph_of (names_in scene.now) (scene_seen scene.now)) }
 {
     out.push_str("digraph state {\nrankdir=LR;\n")?;
     push_things(out, scene)?;

@@ -22,8 +22,8 @@ fn push_headed(out: &mut String, number: usize, scene: &Scene) -> Result<(), All
     out.push_str("\n")
 }
 
-/// The graph after each step of a schedule whose number, counted from 1, lies in `from..=to`, each after a comment with its number.
-/// Steps after `to` aren't made. Refused where memory runs out.
+/// The graph after each step of a schedule whose number, counted from 1, lies in `from..=to`, each after a comment with
+/// its number. Steps after `to` aren't made. Refused where memory runs out.
 pub fn drawings<'n>(
     alloc: Global,
     names: Names<'n>,

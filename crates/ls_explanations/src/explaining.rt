@@ -2,7 +2,8 @@
 
 ghost use Rattle.std.specs.Prelude.{◌≡◌, ◌++◌, IfOk, OnOk, length, map, replicate, string_bytes};
 ghost use Rattle.std.specs.List.{flat_map, list_any};
-ghost use Rattle.ls_explanations.specs.Explanations.{counted, explanation, has_return, heading, hint, in_part, marks, minds_returns, note, part_text, shown, space_below};
+ghost use Rattle.ls_explanations.specs.Explanations.{counted, explanation, has_return, heading, hint, in_part, marks};
+ghost use Rattle.ls_explanations.specs.Explanations.{minds_returns, note, part_text, shown, space_below};
 
 use crate::place::{Part, Place, place_of};
 use crate::sentence::sentence;

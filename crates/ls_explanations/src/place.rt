@@ -2,7 +2,9 @@
 
 ghost use Rattle.std.specs.Prelude.{◌≡◌};
 ghost use Rattle.ls_explanations.specs.declared.place.Part.TheVariants as parts;
-ghost use Rattle.ls_explanations.specs.Places.{aim_place, at_byte as byte_place, at_span as span_place, check_place, history_place, order_place, place_of, program_place, schedule_place, tally_place, text_place};
+ghost use Rattle.ls_explanations.specs.Places.{aim_place, at_byte as byte_place, at_span as span_place, check_place};
+ghost use Rattle.ls_explanations.specs.Places.{history_place, order_place, place_of, program_place, schedule_place};
+ghost use Rattle.ls_explanations.specs.Places.{tally_place, text_place};
 ghost use Rattle.ls_explanations.specs.Explanations.{part_name, part_number};
 
 use ls_aim::fault::AimFault;
@@ -13,7 +15,7 @@ use ls_orders::OrderFault;
 use ls_report::HistoryFault;
 use ls_schedule::fault::ScheduleFault;
 use ls_tallies_reading::TallyFault;
-use ls_types::check::CheckFault;
+use ls_types::checked::CheckFault;
 use ls_types::fault::ProgramFault;
 use std::alloc::AllocError;
 

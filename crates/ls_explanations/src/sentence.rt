@@ -1,7 +1,8 @@
 // What is wrong at a fault, and what to write in its place.
 
 ghost use Rattle.std.specs.Prelude.{◌≡◌};
-ghost use Rattle.ls_explanations.specs.Sentences.{aim_sentence, check_sentence, program_sentence, rule_sentence, schedule_sentence, sentence, text_sentence};
+ghost use Rattle.ls_explanations.specs.Sentences.{aim_sentence, check_sentence, program_sentence, rule_sentence};
+ghost use Rattle.ls_explanations.specs.Sentences.{schedule_sentence, sentence, text_sentence};
 ghost use Rattle.ls_lessons.specs.Tokens.{byte_at};
 
 use ls_aim::fault::AimFault;
@@ -12,7 +13,7 @@ use ls_orders::OrderFault;
 use ls_report::HistoryFault;
 use ls_schedule::fault::ScheduleFault;
 use ls_tallies_reading::TallyFault;
-use ls_types::check::CheckFault;
+use ls_types::checked::CheckFault;
 use ls_types::fault::ProgramFault;
 use ls_types_elaboration::rule::Rule;
 

@@ -2,7 +2,8 @@
 
 ghost use Rattle.std.specs.Prelude.{◌≡◌};
 ghost use Rattle.std.specs.List.{before_first, count_by};
-ghost use Rattle.ls_explanations.specs.Spots.{before, begins_character, characters, from_on, is_feed, last_line, line_number};
+ghost use Rattle.ls_explanations.specs.Spots.{before, begins_character, characters, from_on, is_feed, last_line};
+ghost use Rattle.ls_explanations.specs.Spots.{line_number};
 
 /// Whether a byte is the first of its character.
 pub(crate) fn begins_character(byte: u8) -> bool

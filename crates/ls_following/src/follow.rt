@@ -306,7 +306,8 @@ pub fn follow_tape<'x, G: Gate + Sync, R: Threads + Wait + Sync>(
         move |scope| -> Back
             requires seats { All (IsSeatOf shared.now.turnstile) seats.items }
             requires empty { (room.left.items ≡ []) × (room.rest.items ≡ []) }
-            requires room { (length seats.items ≤ vec_capacity room.left) × (length seats.items ≤ vec_capacity room.rest) }
+            requires room { (length seats.items ≤ vec_capacity room.left) ×
+                (length seats.items ≤ vec_capacity room.rest) }
             ensures back { AreBack shared.entry.now.turnstile seats.items result.seats.items }
             ensures over { IfNone result.fault (AreOver shared.entry.now.turnstile result.seats.items) }
             ensures fault { IfSome result.fault (IsFaultOf shared.entry.now.turnstile) }

@@ -30,8 +30,10 @@ pub fn play_turns<'x, G: Gate + Sync, R: Threads + Wait + Sync>(
     schedule: &Schedule,
     gate: &'x G,
 ) -> Result<Record, TapeFault>
-    ensures bad { IsErrOf result (TapeFault.Load LoadFault.BadCells) ↔ AreBadCells (code_of_image image.now).names cells }
-    ensures spent { (place : ℕ) → IsErrOf result (TapeFault.Follow (FollowFault.TurnsSpent place)) → place < length schedule.now }
+    ensures bad { IsErrOf result (TapeFault.Load LoadFault.BadCells) ↔ AreBadCells (code_of_image image.now).names
+        cells }
+    ensures spent { (place : ℕ) → IsErrOf result (TapeFault.Follow (FollowFault.TurnsSpent place)) →
+        place < length schedule.now }
     ensures record { IfOk result (IsRecordOf (code_of_image image.now) cells schedule.now) }
     ensures image { ∥ RunsAsItsTexts image.now ∥₁ }
 {

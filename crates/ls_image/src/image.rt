@@ -6,7 +6,7 @@ ghost use Rattle.ls_types.specs.Sources.{source_file, source_program};
 
 use ls_checked::program::Program;
 use ls_code::code::Code;
-use ls_types::check::Checked;
+use ls_types::checked::Checked;
 use ls_types::source::Source;
 
 /// The code of a class text and a program text, with the checked file and the program of these texts. The code runs as

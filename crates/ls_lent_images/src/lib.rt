@@ -1,4 +1,5 @@
-//! What tests borrow: images, digests of what steps did, a gate in which threads meet, and a hoard that takes all memory away.
+//! What tests borrow: images, digests of what steps did, a gate in which threads meet, and a hoard that takes all
+//! memory away.
 #![tactic(auto)]
 
 mod digests;

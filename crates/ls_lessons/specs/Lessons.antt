@@ -1,5 +1,6 @@
 -- What is said of a fault of a class text, by the text at its place: a sentence or two, or nothing.
-use Rattle.std.specs.Prelude.{ℕ, ◌+◌, ◌==◌, ◌&&◌, ◌||◌, nat_le, Bool, List, [], ◌∷◌, take, drop, not, codes, if◌then◌else◌}
+use Rattle.std.specs.Prelude.{ℕ, ◌+◌, ◌==◌, ◌&&◌, ◌||◌, nat_le, Bool, List, [], ◌∷◌, take, drop, not, codes}
+use Rattle.std.specs.Prelude.{if◌then◌else◌}
 use Rattle.std.specs.List.{list_any}
 use Rattle.std.specs.Str.{bytes_eq}
 use Rattle.ls_lessons.specs.Tokens.{Bytes, byte_at, front_name, gap, last_byte, last_name, trimmed}
@@ -59,7 +60,8 @@ syntax_lesson text at = lesson_between (take at text) (drop at text)
 -- of a byte that begins no token
 abbrev pub byte_lesson : ℕ → ℕ → Bytes
 byte_lesson byte at =
-    if byte == 34 then codes "no text in quotes is taken. Leave out what prints it: histories and traces tell what was done\n"
+    if byte == 34
+    then codes "no text in quotes is taken. Leave out what prints it: histories and traces tell what was done\n"
     else (if byte == 39 then codes "no character is taken. Write a number\n"
     else (if byte == 239 && at == 0 then codes "the text begins with a byte order mark. Save it without one\n"
     else (if nat_le 128 byte then codes "outside of comments all is ASCII. Write names of the letters A to Z\n"

@@ -8,7 +8,8 @@ Bytes = List ℕ
 
 -- a byte of a name or a number: a letter, a digit, `_` or `$`
 abbrev pub is_part : ℕ → Bool
-is_part b = (nat_le 48 b && nat_le b 57) || (nat_le 65 b && nat_le b 90) || (nat_le 97 b && nat_le b 122) || b == 95 || b == 36
+is_part b = (nat_le 48 b && nat_le b 57) || (nat_le 65 b && nat_le b 90) || (nat_le 97 b && nat_le b 122) || b == 95 ||
+    b == 36
 
 abbrev pub is_white : ℕ → Bool
 is_white b = b == 32 || b == 9 || b == 12 || b == 13 || b == 10

@@ -1,7 +1,9 @@
 // What is said of a fault of a class text, by the text at its place.
 
 ghost use Rattle.std.specs.Prelude.{◌≡◌};
-ghost use Rattle.ls_lessons.specs.Lessons.{byte_lesson, lacks_semicolon, lesson_between, name_lesson, or_else, semicolon_lesson, sign_lesson, syntax_lesson, token_lesson, type_lesson, word_lesson};
+ghost use Rattle.ls_lessons.specs.Lessons.{byte_lesson, lacks_semicolon, lesson_between, name_lesson, or_else};
+ghost use Rattle.ls_lessons.specs.Lessons.{semicolon_lesson, sign_lesson, syntax_lesson, token_lesson, type_lesson};
+ghost use Rattle.ls_lessons.specs.Lessons.{word_lesson};
 
 use crate::names::method_lesson;
 use crate::signs::operator_lesson;

@@ -1,7 +1,8 @@
 // What is said of a name that is no type.
 
 ghost use Rattle.std.specs.Prelude.{◌≡◌};
-ghost use Rattle.ls_lessons.specs.Types.{atomic_lesson, flag_lesson, gate_lesson, lock_lesson, number_lesson, value_lesson};
+ghost use Rattle.ls_lessons.specs.Types.{atomic_lesson, flag_lesson, gate_lesson, lock_lesson, number_lesson};
+ghost use Rattle.ls_lessons.specs.Types.{value_lesson};
 
 /// Other classes.
 fn value_lesson(name: &[u8]) -> &'static str

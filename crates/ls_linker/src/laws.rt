@@ -22,7 +22,9 @@ use ls_soundness::laws::{is_sound, suited_in_call};
 
 /// The code of a well typed file and a well typed program of it runs as these do, if the code isn't too long.
 pub fn compiled_runs()
-    ensures { (file : File) (program : Program) → ∥ IsWellTyped file ∥₁ → ∥ IsWellTypedProgram file program ∥₁ → AllPlaced (lowered_file file) (lowered_file file) → IsEmittableFile (flat_of file) → length (code_of file program).instructions ≤ most_instructions → Runs file program (code_of file program) }
+    ensures { (file : File) (program : Program) → ∥ IsWellTyped file ∥₁ → ∥ IsWellTypedProgram file program ∥₁ →
+        AllPlaced (lowered_file file) (lowered_file file) → IsEmittableFile (flat_of file) →
+        length (code_of file program).instructions ≤ most_instructions → Runs file program (code_of file program) }
 {
     suited_in_call();
     keeps_courses();

@@ -58,7 +58,8 @@ fn add_program(
     program: &Program,
 ) -> Result<(), AllocError>
     requires { All (ThreadLinks (plain_file file.now).classes) (plain_program program.now).threads }
-    ensures { OnOk result (AddsThreads (plain_file file.now).classes parts.old (plain_program program.now).threads parts.new) }
+    ensures { OnOk result (AddsThreads (plain_file file.now).classes parts.old (plain_program program.now).threads
+        parts.new) }
 {
     add_threads(alloc, parts, &file.classes, &program.threads)?;
     Ok(())
@@ -90,7 +91,8 @@ pub fn link(
 ) -> Result<Code, LinkFault>
     requires { Links (plain_file file.now) (plain_program program.now) units.now }
     ensures code { IfOk result (λ c. c ≡ linked (plain_file file.now) (plain_program program.now) units.now) }
-    ensures long { result ≡ Err faults.CodeTooLong → most_instructions < length (linked (plain_file file.now) (plain_program program.now) units.now).instructions }
+    ensures long { result ≡ Err faults.CodeTooLong →
+        most_instructions < length (linked (plain_file file.now) (plain_program program.now) units.now).instructions }
     ensures short { IfOk result (λ c. length c.instructions ≤ most_instructions) }
 {
     let parts = linked_parts(alloc, units, file, program)?;

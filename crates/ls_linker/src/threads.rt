@@ -80,7 +80,9 @@ fn push_making(
     values: &[Value],
 ) -> Result<(), AllocError>
     requires { All IsWritten values.now }
-    ensures { OnOk result (Adds code.old.items (op.Call number ∷ op.NewObject class ∷ op.Dup ∷ pushes values.now ++ op.Enter constructor ∷ op.Pop ∷ op.PutName name ∷ op.Result number ∷ []) code.new.items) }
+    ensures { OnOk result
+        (Adds code.old.items (op.Call number ∷ op.NewObject class ∷ op.Dup ∷ pushes values.now ++ op.Enter constructor ∷
+        op.Pop ∷ op.PutName name ∷ op.Result number ∷ []) code.new.items) }
 {
     code.push(Instruction::Call(number))?;
     code.push(Instruction::NewObject(class))?;
@@ -116,7 +118,9 @@ fn push_calling(
     values: &[Value],
 ) -> Result<(), AllocError>
     requires { All IsWritten values.now }
-    ensures { OnOk result (Adds code.old.items (op.Call number ∷ op.GetName name ∷ pushes values.now ++ op.Enter method ∷ result_code answers number) code.new.items) }
+    ensures { OnOk result
+        (Adds code.old.items (op.Call number ∷ op.GetName name ∷ pushes values.now ++ op.Enter method ∷
+        result_code answers number) code.new.items) }
 {
     code.push(Instruction::Call(number))?;
     code.push(Instruction::GetName(name))?;
@@ -133,7 +137,8 @@ fn push_call(
     call: &ProgramCall,
 ) -> Result<(), AllocError>
     requires { CallLinks (map plain_class classes.now) (plain_call call.now) }
-    ensures { OnOk result (Adds code.old.items (call_code (map plain_class classes.now) number (plain_call call.now)) code.new.items) }
+    ensures { OnOk result (Adds code.old.items (call_code (map plain_class classes.now) number (plain_call call.now))
+        code.new.items) }
 {
     match call {
         ProgramCall::Making {
@@ -176,7 +181,9 @@ fn push_calls(
 ) -> Result<(), AllocError>
     requires numbers { number + length calls.now < 2 ^ 32 }
     requires links { All (λ call. CallLinks (map plain_class classes.now) (plain_call call)) calls.now }
-    ensures { OnOk result (Adds code.old.items (calls_code (map plain_class classes.now) number (map plain_call calls.now)) code.new.items) }
+    ensures { OnOk result
+        (Adds code.old.items (calls_code (map plain_class classes.now) number (map plain_call calls.now))
+        code.new.items) }
 {
     match calls {
         [] => {
@@ -229,7 +236,8 @@ fn push_thread(
 ) -> Result<HandlerRow, AllocError>
     requires few { length calls.now ≤ 256 }
     requires links { All (λ call. CallLinks (map plain_class classes.now) (plain_call call)) calls.now }
-    ensures { IfOk result (λ row. PushesThread (map plain_class classes.now) code.old.items (map plain_call calls.now) code.new.items row) }
+    ensures { IfOk result (λ row. PushesThread (map plain_class classes.now) code.old.items (map plain_call calls.now)
+        code.new.items row) }
 {
     let from = code.len();
     push_calls(code, classes, 1, calls)?;
@@ -249,7 +257,8 @@ fn add_thread(
     thread: &ThreadProgram,
 ) -> Result<(), AllocError>
     requires { ThreadLinks (map plain_class classes.now) (plain_thread thread.now) }
-    ensures { OnOk result (AddsThreads (map plain_class classes.now) parts.old (plain_thread thread.now ∷ []) parts.new) }
+    ensures { OnOk result
+        (AddsThreads (map plain_class classes.now) parts.old (plain_thread thread.now ∷ []) parts.new) }
 {
     let place = parts.instructions.len();
     let results = call_results(alloc, &thread.calls)?;
@@ -269,7 +278,8 @@ pub fn add_threads(
     threads: &[ThreadProgram],
 ) -> Result<(), AllocError>
     requires { All (λ thread. ThreadLinks (map plain_class classes.now) (plain_thread thread)) threads.now }
-    ensures { OnOk result (AddsThreads (map plain_class classes.now) parts.old (map plain_thread threads.now) parts.new) }
+    ensures { OnOk result
+        (AddsThreads (map plain_class classes.now) parts.old (map plain_thread threads.now) parts.new) }
 {
     match threads {
         [] => Ok(()),

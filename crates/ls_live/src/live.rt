@@ -7,7 +7,8 @@ ghost use Rattle.ls_live_book.specs.Seats.{Seat as SeatValue, agrees, seat_of};
 ghost use Rattle.ls_live_book.specs.declared.book.Told.TheVariants.{Nothing};
 ghost use Rattle.ls_machine.specs.Room.{AreBadCells};
 ghost use Rattle.std.specs.List.{list_all};
-ghost use Rattle.std.specs.Prelude.{◌≡◌, ◌↔◌, ℕ, ◌+◌, ◌≤◌, ◌<◌, ◌^◌, length, sum_by, IfOk, IfErr, IsErrOf, IsTrue, slice_get, Some, true, vec_len, vec_capacity};
+ghost use Rattle.std.specs.Prelude.{◌≡◌, ◌↔◌, ℕ, ◌+◌, ◌≤◌, ◌<◌, ◌^◌, length, sum_by, IfOk, IfErr, IsErrOf, IsTrue};
+ghost use Rattle.std.specs.Prelude.{slice_get, Some, true, vec_len, vec_capacity};
 
 use crate::fault::LiveFault;
 use ls_code::code::Code;
@@ -168,7 +169,8 @@ fn audit_all<L: Session>(steps: &mut ledger::Book<L>, seats: &mut [Seat<L>], see
     ensures amount { seen.new.amount ≡ seen.old.amount }
     ensures total { steps.new.total ≡ steps.old.total }
     ensures apart { seen.old.parts + length seats.old ≤ L.parts }
-    ensures whole { seen.old.parts + length seats.old ≡ L.parts → seen.old.amount + sum_by (λ s. s.steps) seats.old ≡ steps.old.total }
+    ensures whole { seen.old.parts + length seats.old ≡ L.parts → seen.old.amount + sum_by (λ s. s.steps) seats.old ≡
+        steps.old.total }
 {
     match seats.split_first_mut() {
         None => steps.audit(seen),
@@ -224,7 +226,8 @@ impl<L: Session> Live<L> {
         requires start { L.start ≡ loaded (code_of_image image.now) cells }
         requires limit { L.limit ≡ limit }
         ensures cells { IsErrOf result LiveFault.BadCells ↔ AreBadCells (code_of_image image.now).names cells }
-        ensures limit { IsErrOf result LiveFault.BadLimit ↔ (¬ AreBadCells (code_of_image image.now).names cells × (most_steps < limit)) }
+        ensures limit { IsErrOf result LiveFault.BadLimit ↔ (¬ AreBadCells (code_of_image image.now).names cells ×
+            (most_steps < limit)) }
         ensures seats { IfOk result (λ r. length r.1.items ≡ L.seats) }
         ensures seat { IfOk result (λ r. (t : ℕ) → t < L.seats → slice_get r.1.items t ≡ Some (seat_of t 0 Nothing)) }
     {

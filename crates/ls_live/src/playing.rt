@@ -48,8 +48,10 @@ fn played<L: Session + Send + Sync, G: Gate + Sync, R: Threads + Wait + Sync>(
     requires seats { (L.seats ≡ L.parts) × (L.seats ≡ length (code_of_image image.now).starts) }
     requires start { L.start ≡ loaded (code_of_image image.now) bounds.cells }
     requires limit { L.limit ≡ bounds.limit }
-    ensures cells { IsErrOf result (PlayFault.Open BadCells) ↔ AreBadCells (code_of_image image.now).names bounds.cells }
-    ensures limit { IsErrOf result (PlayFault.Open BadLimit) ↔ (¬ AreBadCells (code_of_image image.now).names bounds.cells × (most_steps < bounds.limit)) }
+    ensures cells { IsErrOf result (PlayFault.Open BadCells) ↔ AreBadCells (code_of_image image.now).names
+        bounds.cells }
+    ensures limit { IsErrOf result (PlayFault.Open BadLimit) ↔
+        (¬ AreBadCells (code_of_image image.now).names bounds.cells × (most_steps < bounds.limit)) }
     ensures record { IfOk result (λ r. IsRecordOf (code_of_image image.now) bounds.cells (scheduled r) r) }
     ensures there { IfOk result (AreThere (code_of_image image.now)) }
     ensures due { IfOk result (λ r. AreDue (loaded (code_of_image image.now) bounds.cells) (scheduled r)) }
@@ -87,7 +89,8 @@ pub fn play_live<G: Gate + Sync, R: Threads + Wait + Sync>(
     gate: &G,
 ) -> Result<Record, PlayFault>
     ensures cells { IsErrOf result (PlayFault.Open BadCells) ↔ AreBadCells (code_of_image image.now).names cells }
-    ensures limit { IsErrOf result (PlayFault.Open BadLimit) ↔ (¬ AreBadCells (code_of_image image.now).names cells × (most_steps < limit)) }
+    ensures limit { IsErrOf result (PlayFault.Open BadLimit) ↔ (¬ AreBadCells (code_of_image image.now).names cells ×
+        (most_steps < limit)) }
     ensures record { IfOk result (λ r. IsRecordOf (code_of_image image.now) cells (scheduled r) r) }
     ensures there { IfOk result (AreThere (code_of_image image.now)) }
     ensures due { IfOk result (λ r. AreDue (loaded (code_of_image image.now) cells) (scheduled r)) }

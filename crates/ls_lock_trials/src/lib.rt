@@ -1,4 +1,5 @@
-//! Tests of locks in compiled Java: what each step of the machine answers where an exchange is lost, and where a thread waits.
+//! Tests of locks in compiled Java: what each step of the machine answers where an exchange is lost, and where a thread
+//! waits.
 #![tactic(auto)]
 
 #[cfg(test)]

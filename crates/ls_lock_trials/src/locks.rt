@@ -21,8 +21,8 @@ const CELLS: usize = 100;
 // More steps than the setup, or a call, takes.
 const MANY: usize = 999;
 
-// An answer as a letter: a call, its return, the entering of a method, the reads of a name and a field, a lock, an unlock, and whether a lock
-// that was tried is had.
+// An answer as a letter: a call, its return, the entering of a method, the reads of a name and a field, a lock, an
+// unlock, and whether a lock that was tried is had.
 fn letter_of(action: Action<u64>, answer: Answer<u64>) -> char {
     match (action, answer) {
         (Action::Call(_), Answer::Done) => 'c',

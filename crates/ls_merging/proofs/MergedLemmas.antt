@@ -7,13 +7,13 @@ use Rattle.ls_tallies_reading.specs.Reading.{Explains, Lists}
 use Rattle.ls_tallies_reading.specs.declared.fault.TallyFault.{TallyFault}
 use Rattle.ls_tallies_reading.specs.declared.fault.TallyFault.TheVariants as tally
 use Rattle.ls_faults.specs.Faults.{lifted_tally}
-use Rattle.ls_faults.specs.Given.{Gives}
+use Rattle.ls_faults.specs.Given.{GivesText}
 use Rattle.ls_faults.proofs.Answering.{Failed}
 use Rattle.ls_merging.specs.Merging.{IsOther, Merges, MergesTo, NoTally}
 
 pub not_read : (wanted : Option ℕ) (text : Text) (f : TallyFault) →
     Explains text f →
-    Gives (MergesTo wanted text) (Failed (lifted_tally f))
+    GivesText (MergesTo wanted text) (Failed (lifted_tally f))
 not_read wanted text tally.Memory h = tt
 not_read wanted text (tally.BadTally at) h = NoTally at h
 not_read wanted text tally.CountTooGreat h = absurd h

@@ -14,8 +14,7 @@ IsOther None total = ⊥
 IsOther (Some wanted) total = wanted ≢ total
 
 -- The text of the merge of all rows of the text; or the text isn't that of tallies, or the counts have more than 64
--- bits or come
--- to another number than is wanted.
+-- bits or come to another number than is wanted.
 pub data MergesTo (wanted : Option ℕ) (text : Text) : Result Text ToolFault → Type 0 where
   Merges : (rows merge : List Row) →
       Lists text rows →

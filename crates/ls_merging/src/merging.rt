@@ -1,7 +1,7 @@
 // The command `merge`.
 
 ghost use Rattle.std.specs.Prelude.{◌≡◌, ◌↔◌, ◌<◌, ◌^◌, IsTrue};
-ghost use Rattle.ls_faults.specs.Given.{Gives};
+ghost use Rattle.ls_faults.specs.Given.{GivesText};
 ghost use Rattle.ls_merging.specs.Merging.{IsOther, MergesTo};
 
 use ls_faults::fault::ToolFault;
@@ -20,10 +20,10 @@ fn is_other(wanted: Option<u64>, total: u64) -> bool
     }
 }
 
-/// The tally of all that is tallied in a text of tallies, one after another: each distinct history once, with its counts added and
-/// its least seed, in order of seed. With a number that is wanted, the counts come to that.
+/// The tally of all that is tallied in a text of tallies, one after another: each distinct history once, with its
+/// counts added and its least seed, in order of seed. With a number that is wanted, the counts come to that.
 pub fn merge(alloc: Global, wanted: Option<u64>, text: &str) -> Result<String, ToolFault>
-    ensures { Gives (MergesTo wanted text.now) result }
+    ensures { GivesText (MergesTo wanted text.now) result }
 {
     let rows = read_rows(alloc, text)?;
     let Some(total) = total(rows.as_slice()) else {

@@ -4,7 +4,9 @@ ghost use Rattle.std.specs.Prelude.{◌≡◌, ◌-◌, ◌++◌, IfOk, OnOk, st
 ghost use Rattle.ls_labels.specs.Names.{names_of};
 ghost use Rattle.ls_state.specs.State.{state_text};
 ghost use Rattle.ls_trace.specs.Lines.{trace_text};
-ghost use Rattle.ls_page.specs.Data.{before_text, field, head_text, history_text, judged_of, judged_text, ordered_page_text, page_text, rest_text, run_fields, texts_of, texts_text, told_text};
+ghost use Rattle.ls_page.specs.Data.{before_text, field, head_text, history_text, judged_of, judged_text};
+ghost use Rattle.ls_page.specs.Data.{ordered_page_text, page_text, rest_text, run_fields, texts_of, texts_text};
+ghost use Rattle.ls_page.specs.Data.{told_text};
 
 use crate::parts::{Judged, Texts, Window};
 use crate::quoted::push_quoted;

@@ -9,7 +9,7 @@ use Rattle.ls_orders.specs.Rules.{judgement_of}
 use Rattle.ls_orders.specs.declared.fault.OrderFault.{OrderFault}
 use Rattle.ls_orders.specs.declared.fault.OrderFault.TheVariants as order_faults
 use Rattle.ls_faults.specs.Faults.{lifted_history, lifted_order}
-use Rattle.ls_faults.specs.Given.{Gives}
+use Rattle.ls_faults.specs.Given.{GivesText}
 use Rattle.ls_faults.proofs.Answering.{Failed}
 use Rattle.ls_faults.specs.declared.fault.ToolFault.{ToolFault}
 use Rattle.ls_views.specs.Check.{judged_by, judgement_text}
@@ -20,7 +20,7 @@ pub history_reads :
     (May : Result Text ToolFault → Type 0)
     (f : HistoryFault) (events : List Event)
     → IsReadAs events (Err f)
-    → Gives May (Failed (lifted_history f))
+    → GivesText May (Failed (lifted_history f))
 history_reads May history_faults.Memory events h = tt
 history_reads May (history_faults.BadHistory at) events h = absurd h
 
@@ -37,7 +37,7 @@ pub order_fails :
     (history order : Text) (events : List Event) (f : OrderFault)
     → Says history events
     → Fails f (order_of order)
-    → Gives (JudgesTo history order) (Failed (lifted_order f))
+    → GivesText (JudgesTo history order) (Failed (lifted_order f))
 order_fails history order events order_faults.Memory says is = tt
 order_fails history order events (order_faults.BadOrder at) says is =
     judged_so history order events (Err (order_faults.BadOrder at)) says is

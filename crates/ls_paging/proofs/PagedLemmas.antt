@@ -12,7 +12,7 @@ use Rattle.ls_report.specs.Events.{Text}
 use Rattle.ls_labels.specs.Names.{Names}
 use Rattle.ls_page.specs.Data.{history_text, ordered_page_text, page_text}
 use Rattle.ls_faults.specs.Faults.{lifted_schedule}
-use Rattle.ls_faults.specs.Given.{Gives}
+use Rattle.ls_faults.specs.Given.{GivesText}
 use Rattle.ls_faults.proofs.Answering.{Failed, wider}
 use Rattle.ls_faults.specs.declared.fault.ToolFault.{ToolFault}
 use Rattle.ls_faults.specs.declared.fault.ToolFault.TheVariants as fault
@@ -24,8 +24,8 @@ use Rattle.ls_paging.specs.Paged.{JudgesTo, NoSchedule, Ordered, Plain, Played, 
 through : (May : Result Text ToolFault → Type 0) (g : Result Text ToolFault → Result Text ToolFault)
     → ((f : ToolFault) → g (Err f) ≡ Err f)
     → (f : ToolFault)
-    → Gives (λ a. May (g a)) (Failed f)
-    → Gives May (Failed f)
+    → GivesText (λ a. May (g a)) (Failed f)
+    → GivesText May (Failed f)
 through May g same fault.Memory h = tt
 through May g same (fault.Text f) h = subst May (same (fault.Text f)) h
 through May g same (fault.Check f) h = subst May (same (fault.Check f)) h
@@ -63,8 +63,8 @@ module _ (w : Wanted) (names : Names) (steps : List ℕ) where
 
     -- a fault of the order
     pub verdict_fails : (f : ToolFault)
-        → Gives (JudgesTo history order) (Failed f)
-        → Gives (TellsTo w names steps (Some order)) (Failed f)
+        → GivesText (JudgesTo history order) (Failed f)
+        → GivesText (TellsTo w names steps (Some order)) (Failed f)
     verdict_fails f g =
         through (TellsTo w names steps (Some order)) (with_verdict w names steps order) (λ f. refl) f
         (wider (JudgesTo history order) (λ a. TellsTo w names steps (Some order) (with_verdict w names steps order a))
@@ -90,7 +90,7 @@ module _ (w : Wanted) (names : Names) (p : code.Program) (is : names.program ≡
   -- a schedule that breaks
   pub schedule_fails : (f : ScheduleFault)
       → Fails f (schedule_of (thread_names p) w.texts.schedule)
-      → Gives (PlaysTo w names) (Failed (lifted_schedule f))
+      → GivesText (PlaysTo w names) (Failed (lifted_schedule f))
   schedule_fails schedule.Memory e = tt
   schedule_fails (schedule.BadItem at) e = NoSchedule (schedule.BadItem at) (read (Err (schedule.BadItem at)) e)
   schedule_fails (schedule.UnknownThread at) e = NoSchedule (schedule.UnknownThread at)
@@ -101,8 +101,8 @@ module _ (w : Wanted) (names : Names) (p : code.Program) (is : names.program ≡
   pub schedule_plays : (steps given : List ℕ) (r : Result (String Global) ToolFault)
       → schedule_of (thread_names p) w.texts.schedule ≡ Ok steps
       → given ≡ steps
-      → Gives (TellsTo w names given w.order) r
-      → Gives (PlaysTo w names) r
+      → GivesText (TellsTo w names given w.order) r
+      → GivesText (PlaysTo w names) r
   schedule_plays steps given r e same g =
       wider (TellsTo w names given w.order) (PlaysTo w names) r
       (λ a h. Played steps a (read (Ok steps) e) (subst (λ s. TellsTo w names s w.order a) same h)) g

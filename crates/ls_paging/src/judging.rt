@@ -1,19 +1,19 @@
 // What `check` says of a history that was printed.
 
-ghost use Rattle.ls_faults.specs.Given.{Gives};
+ghost use Rattle.ls_faults.specs.Given.{GivesText};
 ghost use Rattle.ls_faults.specs.ReadBack.{IsHistoryText};
 ghost use Rattle.ls_paging.specs.Paged.{JudgesTo};
 
 use ls_faults::fault::ToolFault;
 use ls_orders::{check_order, read_order};
 use ls_report::read_history;
-use ls_views::checking::verdict_text;
+use ls_views::check::verdict_text;
 use std::alloc::Global;
 
 /// The verdict on an order of a history. Refused if the order is no order, or if memory runs out.
 pub fn judge(alloc: Global, history: &str, order: &str) -> Result<String, ToolFault>
     requires { IsHistoryText history.now }
-    ensures { Gives (JudgesTo history.now order.now) result }
+    ensures { GivesText (JudgesTo history.now order.now) result }
 {
     let history = read_history(alloc, history)?;
     let order = read_order(alloc, order)?;

@@ -2,5 +2,5 @@
 #![tactic(auto)]
 
 pub mod judging;
-pub mod paging;
+pub mod page;
 pub mod wanted;

@@ -23,7 +23,8 @@ pub(crate) fn push_count(out: &mut String, count: u32, thing: &str) -> Result<()
 
 // Where the items are true, in the time of what was written, whatever the array's size.
 fn push_places(out: &mut String, size: u32, items: &BTreeMap<u32, Value>) -> Result<(), AllocError>
-    ensures { OnOk result (string_bytes out.new ≡ string_bytes out.old ++ places_text (true_places size (items_of items.now))) }
+    ensures { OnOk result (string_bytes out.new ≡ string_bytes out.old ++
+        places_text (true_places size (items_of items.now))) }
 {
     let mut has_one = false;
     for (place, item) in items.iter() {

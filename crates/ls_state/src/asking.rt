@@ -4,7 +4,8 @@ ghost use Rattle.std.specs.Prelude.{◌≡◌, ◌==◌, ◌&&◌, ◌++◌, OnO
 ghost use Rattle.ls_checked.specs.PlainProgram.{plain_thread};
 ghost use Rattle.ls_meaning.specs.Effect.{effect};
 ghost use Rattle.ls_source.specs.Shown.{progress_of};
-ghost use Rattle.ls_state.specs.Asking.{asked_text, asking_text, asks_text, call_of, calls_begun, has_to_wait, is_call, thread_line};
+ghost use Rattle.ls_state.specs.Asking.{asked_text, asking_text, asks_text, call_of, calls_begun, has_to_wait};
+ghost use Rattle.ls_state.specs.Asking.{is_call, thread_line};
 ghost use Rattle.ls_state.specs.Seen.{IsOwn, names_in, scene_seen};
 ghost use Rattle.ls_state.specs.State.{threads_text};
 
@@ -50,7 +51,8 @@ fn call_of(history: &[Event], thread: usize, action: Action<Value>) -> usize
 
 // Whether a thread's action has to wait: it takes a lock or a monitor that another owns.
 fn has_to_wait(run: &SourceRun, thread: usize, action: Action<Value>) -> bool
-    ensures { result ≡ has_to_wait (effect (progress_of run.now).file.classes (progress_of run.now).state.store thread action) }
+    ensures { result ≡
+        has_to_wait (effect (progress_of run.now).file.classes (progress_of run.now).state.store thread action) }
 {
     match action {
         Action::Lock(lock) => match run.thing(lock) {
@@ -148,7 +150,8 @@ fn push_thread_line(
 /// Adds a line for each thread, the setup first.
 pub(crate) fn push_threads(alloc: Global, out: &mut String, scene: &Scene) -> Result<(), AllocError>
     requires { IsOwn scene.now }
-    ensures { OnOk result (string_bytes out.new ≡ string_bytes out.old ++ threads_text (names_in scene.now) (scene_seen scene.now)) }
+    ensures { OnOk result (string_bytes out.new ≡ string_bytes out.old ++
+        threads_text (names_in scene.now) (scene_seen scene.now)) }
 {
     let threads = scene.names.program.threads.as_slice();
     for (thread, program) in threads.iter().enumerate() {

@@ -28,8 +28,8 @@ fn push_headed(
     out.push_str("\n")
 }
 
-/// What holds after each step of a schedule whose number, counted from 1, lies in `from..=to`, each under its number. Steps after `to`
-/// aren't made. Refused where memory runs out.
+/// What holds after each step of a schedule whose number, counted from 1, lies in `from..=to`, each under its number.
+/// Steps after `to` aren't made. Refused where memory runs out.
 pub fn states<'n>(
     alloc: Global,
     names: Names<'n>,

@@ -3,7 +3,8 @@
 ghost use Rattle.std.specs.Prelude.{◌≡◌, ◌++◌, OnOk, string_bytes};
 ghost use Rattle.ls_checked.specs.PlainProgram.{plain_name, plain_program};
 ghost use Rattle.ls_source_store.specs.SeenThing.{hold_of, thing_of};
-ghost use Rattle.ls_state.specs.Objects.{field_name_of, field_part, held_text, monitor_part, name_line, thing_line, thing_text};
+ghost use Rattle.ls_state.specs.Objects.{field_name_of, field_part, held_text, monitor_part, name_line, thing_line};
+ghost use Rattle.ls_state.specs.Objects.{thing_text};
 ghost use Rattle.ls_state.specs.Parts.{numbered};
 ghost use Rattle.ls_state.specs.Seen.{names_in, scene_seen};
 ghost use Rattle.ls_state.specs.State.{names_text, things_text};
@@ -27,7 +28,8 @@ pub fn push_held(
     owner: usize,
     holds: u32,
 ) -> Result<(), AllocError>
-    ensures { OnOk result (string_bytes out.new ≡ string_bytes out.old ++ held_text (plain_program program.now) owner holds) }
+    ensures { OnOk result (string_bytes out.new ≡ string_bytes out.old ++
+        held_text (plain_program program.now) owner holds) }
 {
     let name = thread_name(program, owner);
     write!(out, "held by {name}, ")?;
@@ -142,7 +144,8 @@ fn push_thing_line(
 
 /// Adds a line for each object.
 pub(crate) fn push_things(out: &mut String, scene: &Scene) -> Result<(), AllocError>
-    ensures { OnOk result (string_bytes out.new ≡ string_bytes out.old ++ things_text (names_in scene.now) (scene_seen scene.now)) }
+    ensures { OnOk result (string_bytes out.new ≡ string_bytes out.old ++
+        things_text (names_in scene.now) (scene_seen scene.now)) }
 {
     let things = scene.run.things();
     for (place, thing) in things.iter().enumerate() {
@@ -169,7 +172,8 @@ fn push_name_line(
 
 /// Adds a line for each setup name.
 pub(crate) fn push_names(out: &mut String, scene: &Scene) -> Result<(), AllocError>
-    ensures { OnOk result (string_bytes out.new ≡ string_bytes out.old ++ names_text (names_in scene.now) (scene_seen scene.now)) }
+    ensures { OnOk result (string_bytes out.new ≡ string_bytes out.old ++
+        names_text (names_in scene.now) (scene_seen scene.now)) }
 {
     let names = scene.names.program.names.as_slice();
     for (number, name) in names.iter().enumerate() {

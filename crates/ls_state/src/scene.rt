@@ -58,7 +58,8 @@ impl<'n> Scene<'n> {
         requires { IsOwn self.old }
         ensures names { names_in self.new ≡ names_in self.old }
         ensures own { OnOk result (IsOwn self.new) }
-        ensures scene { OnOk result (scene_seen self.new ≡ scene_after (names_in self.old) (scene_seen self.old) thread) }
+        ensures scene { OnOk result
+            (scene_seen self.new ≡ scene_after (names_in self.old) (scene_seen self.old) thread) }
     {
         let did = self.run.step(alloc, thread)?;
         keep_label(&mut self.labels, did)?;

@@ -14,15 +14,16 @@ use std::alloc::{AllocError, Global};
 /// Adds a line for each object, each setup name and each thread.
 pub(crate) fn push_state(alloc: Global, out: &mut String, scene: &Scene) -> Result<(), AllocError>
     requires { IsOwn scene.now }
-    ensures { OnOk result (string_bytes out.new ≡ string_bytes out.old ++ lines_of (names_in scene.now) (scene_seen scene.now)) }
+    ensures { OnOk result (string_bytes out.new ≡ string_bytes out.old ++
+        lines_of (names_in scene.now) (scene_seen scene.now)) }
 {
     push_things(out, scene)?;
     push_names(out, scene)?;
     push_threads(alloc, out, scene)
 }
 
-/// What holds after a schedule, whose steps are numbers of threads: a line for each object, each setup name and each thread. Refused
-/// where memory runs out.
+/// What holds after a schedule, whose steps are numbers of threads: a line for each object, each setup name and each
+/// thread. Refused where memory runs out.
 pub fn state<'n>(alloc: Global, names: Names<'n>, steps: &[u8]) -> Result<String, AllocError>
     ensures { IfOk result (λ text. string_bytes text ≡ state_text (names_of names.entry) steps.now) }
 {

@@ -28,8 +28,7 @@ abbrev pub text_in : Image → History → Text
 text_in image history = run_text (program_in image) history
 
 -- Two runs of what two texts are compiled to whose histories have the same text, of fewer than 2^64 bytes, have the
--- same
--- history.
+-- same history.
 abbrev pub TextsTellApart : Type 0
 TextsTellApart =
     (classes text : Text) (image : Image) → Compiles classes text image

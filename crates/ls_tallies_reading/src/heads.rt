@@ -60,8 +60,10 @@ fn is_head(printed: &str, count: u64, line: &str) -> bool
 /// The seed and the count whose line it is, if there is one: a count is at least 1. The borrowed text is used to
 /// print in.
 pub(crate) fn head_in(printed: &mut String, line: &str) -> Result<Option<(u64, u64)>, AllocError>
-    ensures is { IfOk result (λ o. IfSome o (λ p. (p.0 < 2 ^ 64) × (0 < p.1) × (p.1 < 2 ^ 64) × (line.now ≡ head_line p.0 p.1))) }
-    ensures reads { (s n : ℕ) → s < 2 ^ 64 → 0 < n → n < 2 ^ 64 → line.now ≡ head_line s n → IfOk result (λ o. o ≡ Some (s, n)) }
+    ensures is { IfOk result
+        (λ o. IfSome o (λ p. (p.0 < 2 ^ 64) × (0 < p.1) × (p.1 < 2 ^ 64) × (line.now ≡ head_line p.0 p.1))) }
+    ensures reads { (s n : ℕ) → s < 2 ^ 64 → 0 < n → n < 2 ^ 64 → line.now ≡ head_line s n →
+        IfOk result (λ o. o ≡ Some (s, n)) }
 {
     let Some((seed, count)) = numbers_in(line) else {
         return Ok(None);

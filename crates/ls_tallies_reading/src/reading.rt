@@ -12,8 +12,8 @@ use ls_report::cuts::cut;
 use ls_tallies::Row;
 use std::alloc::Global;
 
-/// The rows of the tallies whose texts stand one after another, with lines `%%` between them or without. Otherwise the fault says
-/// where a row would have to begin, or a line `%%`, and neither does.
+/// The rows of the tallies whose texts stand one after another, with lines `%%` between them or without. Otherwise the
+/// fault says where a row would have to begin, or a line `%%`, and neither does.
 pub fn read_rows<'a>(alloc: Global, text: &'a str) -> Result<Vec<Row<'a>>, TallyFault>
     ensures found { IfOk result (λ rows. Lists text.now (map plain_row rows.items)) }
     ensures only { (all : List ghost_Row) → Lists text.now all → IfOk result (λ rows. map plain_row rows.items ≡ all) }

@@ -141,8 +141,7 @@ begins file program r q q' n m ts is first h =
     ∙ gone_gone (no_steps m) end (steps_of_rest (begun file program) n (machine_run m end) ts)
 
 -- The machine follows a source run whose rest of a schedule is this: its steps and those of the rest are the whole's.
--- If there are too
--- many steps, there are in the whole.
+-- If there are too many steps, there are in the whole.
 pub record IsFollowed (r : Progress) (q whole : MachineRun) (n : ℕ) (ts : List ℕ) (is_long : Bool) : Type 0 where
   pub goes : is_long ≡ false → gone q (steps_of_rest r n q.machine ts) ≡ whole
   pub long : is_long ≡ true → most_steps < length whole.steps

@@ -27,8 +27,7 @@ cells_by classes did.Waits = 0
 cells_by classes did.Idle = 0
 
 -- The first step of a schedule whose making has no room: the setup names, and what the steps before it make, fit in the
--- cells;
--- with what it makes they don't.
+-- cells; with what it makes they don't.
 pub record IsFirstUnfit (file : File) (program : Program) (cells : ℕ) (schedule : List ℕ) (step : ℕ) : Type 0 where
   pub there : step < length schedule
   pub before : Fits file program cells (take step schedule)

@@ -21,8 +21,7 @@ pub record TranslatesBack (file : File) (program : Program) (code : Code) (cells
       source_history file program (to_source code cells (to_machine file program code cells schedule)) ≡ source_history
       file program schedule
   -- a schedule of the machine, translated to the source and, where that fits, back: it has the same history, and
-  -- translating once
-  -- more changes nothing
+  -- translating once more changes nothing
   pub machine_history_again : (schedule : List ℕ) → Fits file program cells (to_source code cells schedule) →
       machine_history code cells (to_machine file program code cells (to_source code cells schedule)) ≡ machine_history
       code cells schedule

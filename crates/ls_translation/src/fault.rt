@@ -16,7 +16,8 @@ pub enum TranslationFault {
     /// No cells, more than 4,194,304, or fewer than setup names.
     #[error("bad number of cells")]
     BadCells,
-    /// The first step of the schedule, from 0, that makes what has no room beside the setup names and what was made before.
+    /// The first step of the schedule, from 0, that makes what has no room beside the setup names and what was made
+    /// before.
     #[error("what step {step} makes has no room")]
     DoesNotFit { step: usize },
     /// The machine would take more steps than a schedule can have.

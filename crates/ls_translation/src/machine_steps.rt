@@ -1,7 +1,8 @@
 // From a schedule of the source to one of the machine.
 
 ghost use Rattle.ls_events.specs.Limits.{most_steps};
-ghost use Rattle.std.specs.Prelude.{◌≡◌, ℕ, ◌<◌, ◌≤◌, ◌↔◌, ◌++◌, ◌*◌, Err, IfErr, IfOk, IsErrOf, Ok, OnOk, false, length, true};
+ghost use Rattle.std.specs.Prelude.{◌≡◌, ℕ, ◌<◌, ◌≤◌, ◌↔◌, ◌++◌, ◌*◌, Err, IfErr, IfOk, IsErrOf, Ok, OnOk, false};
+ghost use Rattle.std.specs.Prelude.{length, true};
 ghost use Rattle.ls_code.specs.Machine.{machine_history};
 ghost use Rattle.ls_image.specs.Images.{code_of_image, program_of_image};
 ghost use Rattle.ls_headline.specs.Same.{Alike, Fits};
@@ -13,7 +14,8 @@ ghost use Rattle.ls_translation.specs.Faults.{CutsShort};
 ghost use Rattle.ls_translation.specs.MachineRuns.{gone, has_acted, steps_after, steps_before, steps_of_acting};
 ghost use Rattle.ls_translation.specs.Room.{IsFirstUnfit};
 ghost use Rattle.ls_translation.specs.Texts.{file_of, program_of};
-ghost use Rattle.ls_translation.specs.declared.fault.TranslationFault.TheVariants.{BadCells, DoesNotFit, Memory, ResultTooLong};
+ghost use Rattle.ls_translation.specs.declared.fault.TranslationFault.TheVariants.{BadCells, DoesNotFit, Memory};
+ghost use Rattle.ls_translation.specs.declared.fault.TranslationFault.TheVariants.{ResultTooLong};
 
 use crate::fault::TranslationFault;
 use crate::machine_run::MachineRun;
@@ -50,8 +52,10 @@ fn is_too_long(followed: Result<(), TranslationFault>) -> Result<bool, Translati
 
 /// The setup's steps to its end, if its source has ended. Answers whether they are too many.
 fn begin(source: &SourceRun<'_>, run: &mut MachineRun, most: u64) -> Result<bool, TranslationFault>
-    ensures goes { IfOk result (λ b. b ≡ false → run.new ≡ gone run.old (steps_before (progress_of source.now) most run.old.machine)) }
-    ensures long { IfOk result (λ b. b ≡ true → most_steps < length (run.old.steps ++ steps_before (progress_of source.now) most run.old.machine)) }
+    ensures goes { IfOk result (λ b. b ≡ false →
+        run.new ≡ gone run.old (steps_before (progress_of source.now) most run.old.machine)) }
+    ensures long { IfOk result (λ b. b ≡ true →
+        most_steps < length (run.old.steps ++ steps_before (progress_of source.now) most run.old.machine)) }
     ensures err { IfErr result (λ e. e ≡ Memory) }
 {
     is_too_long(run.finish_if(source.has_setup_ended()?, most))
@@ -64,8 +68,10 @@ fn act(
     most: u64,
     thread: u8,
 ) -> Result<(), TranslationFault>
-    ensures run { OnOk result (run.new ≡ gone run.old (steps_of_acting (progress_of source.now) most run.old.machine thread)) }
-    ensures short { IfErr result (CutsShort (run.old.steps ++ steps_of_acting (progress_of source.now) most run.old.machine thread)) }
+    ensures run { OnOk result
+        (run.new ≡ gone run.old (steps_of_acting (progress_of source.now) most run.old.machine thread)) }
+    ensures short { IfErr result
+        (CutsShort (run.old.steps ++ steps_of_acting (progress_of source.now) most run.old.machine thread)) }
 {
     run.act(most, thread)?;
     run.finish_if(source.has_setup_ended()?, most)
@@ -82,8 +88,10 @@ fn follow(
     was_long: bool,
 ) -> Result<bool, TranslationFault>
     ensures was_short { IfOk result (λ b. b ≡ false → was_long ≡ false) }
-    ensures goes { IfOk result (λ b. b ≡ false → run.new ≡ gone run.old (steps_after (progress_of source.now) most run.old.machine thread did)) }
-    ensures long { IfOk result (λ b. b ≡ true → was_long ≡ false → most_steps < length (run.old.steps ++ steps_after (progress_of source.now) most run.old.machine thread did)) }
+    ensures goes { IfOk result (λ b. b ≡ false →
+        run.new ≡ gone run.old (steps_after (progress_of source.now) most run.old.machine thread did)) }
+    ensures long { IfOk result (λ b. b ≡ true → was_long ≡ false →
+        most_steps < length (run.old.steps ++ steps_after (progress_of source.now) most run.old.machine thread did)) }
     ensures err { IfErr result (λ e. e ≡ Memory) }
 {
     if was_long {
@@ -112,12 +120,19 @@ fn machine_steps(
     schedule: &Schedule,
 ) -> Result<Schedule, TranslationFault>
     requires { length (program_of_image image.now).names.items ≤ cells }
-    ensures unfit { (step : ℕ) → IsErrOf result (DoesNotFit step) → IsFirstUnfit (file_of image.now) (program_of image.now) cells schedule.now step }
-    ensures long { IsErrOf result ResultTooLong → most_steps < length (steps_all (file_of image.now) (program_of image.now) (most_silent (code_of_image image.now)) (start (program_of image.now)) machine schedule.now) }
-    ensures long_fits { IsErrOf result ResultTooLong → Fits (file_of image.now) (program_of image.now) cells schedule.now }
+    ensures unfit { (step : ℕ) → IsErrOf result (DoesNotFit step) →
+        IsFirstUnfit (file_of image.now) (program_of image.now) cells schedule.now step }
+    ensures long { IsErrOf result ResultTooLong →
+        most_steps < length
+        (steps_all (file_of image.now) (program_of image.now) (most_silent (code_of_image image.now))
+        (start (program_of image.now)) machine schedule.now) }
+    ensures long_fits { IsErrOf result ResultTooLong →
+        Fits (file_of image.now) (program_of image.now) cells schedule.now }
     ensures bad { ¬ IsErrOf result BadCells }
     ensures fits { OnOk result (Fits (file_of image.now) (program_of image.now) cells schedule.now) }
-    ensures steps { IfOk result (λ steps. steps ≡ steps_all (file_of image.now) (program_of image.now) (most_silent (code_of_image image.now)) (start (program_of image.now)) machine schedule.now) }
+    ensures steps { IfOk result
+        (λ steps. steps ≡ steps_all (file_of image.now) (program_of image.now) (most_silent (code_of_image image.now))
+        (start (program_of image.now)) machine schedule.now) }
 {
     let file = image.checked().file();
     let program = image.program();
@@ -155,13 +170,22 @@ pub fn to_machine(
     schedule: &Schedule,
 ) -> Result<Schedule, TranslationFault>
     ensures bad { IsErrOf result BadCells ↔ AreBadCells (code_of_image image.now).names cells }
-    ensures unfit { (step : ℕ) → IsErrOf result (DoesNotFit step) → IsFirstUnfit (file_of image.now) (program_of image.now) cells schedule.now step }
-    ensures long { IsErrOf result ResultTooLong → most_steps < length (to_machine (file_of image.now) (program_of image.now) (code_of_image image.now) cells schedule.now) }
-    ensures long_fits { IsErrOf result ResultTooLong → Fits (file_of image.now) (program_of image.now) cells schedule.now }
+    ensures unfit { (step : ℕ) → IsErrOf result (DoesNotFit step) →
+        IsFirstUnfit (file_of image.now) (program_of image.now) cells schedule.now step }
+    ensures long { IsErrOf result ResultTooLong →
+        most_steps < length
+        (to_machine (file_of image.now) (program_of image.now) (code_of_image image.now) cells schedule.now) }
+    ensures long_fits { IsErrOf result ResultTooLong →
+        Fits (file_of image.now) (program_of image.now) cells schedule.now }
     ensures fits { OnOk result (Fits (file_of image.now) (program_of image.now) cells schedule.now) }
-    ensures steps { IfOk result (λ steps. steps ≡ to_machine (file_of image.now) (program_of image.now) (code_of_image image.now) cells schedule.now) }
-    ensures history { IfOk result (λ steps. machine_history (code_of_image image.now) cells steps ≡ source_history (file_of image.now) (program_of image.now) schedule.now) }
-    ensures alike { IfOk result (λ steps. ∥ Alike (file_of image.now) (program_of image.now) (code_of_image image.now) cells steps schedule.now ∥₁) }
+    ensures steps { IfOk result
+        (λ steps. steps ≡ to_machine (file_of image.now) (program_of image.now) (code_of_image image.now) cells
+        schedule.now) }
+    ensures history { IfOk result (λ steps. machine_history (code_of_image image.now) cells steps ≡
+        source_history (file_of image.now) (program_of image.now) schedule.now) }
+    ensures alike { IfOk result
+        (λ steps. ∥ Alike (file_of image.now) (program_of image.now) (code_of_image image.now) cells steps schedule.now
+        ∥₁) }
 {
     let machine = Machine::load(alloc, image.code(), cells)?;
     machine_steps(alloc, image, cells, machine, schedule)

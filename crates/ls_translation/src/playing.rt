@@ -16,7 +16,8 @@ pub fn play_source(
     image: &Image,
     schedule: &Schedule,
 ) -> Result<Vec<Event>, AllocError>
-    ensures { IfOk result (λ events. events.items ≡ source_history (file_of image.now) (program_of image.now) schedule.now) }
+    ensures { IfOk result (λ events. events.items ≡
+        source_history (file_of image.now) (program_of image.now) schedule.now) }
 {
     play(
         alloc,

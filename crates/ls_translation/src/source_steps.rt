@@ -61,8 +61,11 @@ pub fn to_source(
     ensures bad { IsErrOf result BadCells ↔ AreBadCells (code_of_image image.now).names cells }
     ensures only { IfErr result (λ e. (e ≡ BadCells) ⊎ (e ≡ Memory)) }
     ensures steps { IfOk result (λ steps. steps ≡ to_source (code_of_image image.now) cells schedule.now) }
-    ensures history { IfOk result (λ steps. source_history (file_of image.now) (program_of image.now) steps ≡ machine_history (code_of_image image.now) cells schedule.now) }
-    ensures alike { IfOk result (λ steps. ∥ Alike (file_of image.now) (program_of image.now) (code_of_image image.now) cells schedule.now steps ∥₁) }
+    ensures history { IfOk result (λ steps. source_history (file_of image.now) (program_of image.now) steps ≡
+        machine_history (code_of_image image.now) cells schedule.now) }
+    ensures alike { IfOk result
+        (λ steps. ∥ Alike (file_of image.now) (program_of image.now) (code_of_image image.now) cells schedule.now steps
+        ∥₁) }
 {
     let machine = Machine::load(alloc, image.code(), cells)?;
     Ok(acting_steps(alloc, machine, schedule)?)

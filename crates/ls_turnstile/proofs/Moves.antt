@@ -13,7 +13,7 @@ use Rattle.atomic_table.proofs.Lists.{at_set, set_else}
 use Rattle.ls_code.specs.Machine.{Machine, machine_run}
 use Rattle.ls_turnstile.specs.declared.view.View.{View}
 use Rattle.ls_turnstile.specs.Views.{total, dealer, seated, spent, dealt_left, dealt_right, both, is_turn, looked}
-use Rattle.ls_turnstile.specs.Views.{holding, given, home, Fits, Keeps, Mine, Looks, Takes, Gives}
+use Rattle.ls_turnstile.specs.Views.{holding, given, home, Fits, Keeps, Mine, Looks, Takes, GivesBack}
 use Rattle.ls_turnstile.proofs.Totals.{total_set, total_snoc, total_le, total_two, some_counts, at_end, total_one}
 
 -- whoever holds the machine is the only live seat of the thread whose turn it is
@@ -219,7 +219,7 @@ give_held : (start : Machine) (tape : List ℕ) (seats k id next : ℕ) (v : Vie
     v.out ≡ 1 →
     v.parts ≡ 1
     → next ≡ 2 * (v.seen + 1) → y ≡ machine_run v.start (take (v.seen + 1) v.tape)
-    → Allows (Keeps start tape seats) k id (v, (0, y) ∷ []) 0 (λ n. next) (λ n. Gives t (v, (0, y) ∷ []) next)
+    → Allows (Keeps start tape seats) k id (v, (0, y) ∷ []) 0 (λ n. next) (λ n. GivesBack t (v, (0, y) ∷ []) next)
 give_held start tape seats k id next v y t out part is made s kept len at small =
     let p = kept.place in
     let o = kept.out in
@@ -282,10 +282,10 @@ pub give_moves : (start : Machine) (tape : List ℕ) (seats k id next : ℕ) (m 
     m.0.out ≡ 1 →
     m.0.parts ≡ 1
     → m.1 ≡ (0, machine_run m.0.start (take (m.0.seen + 1) m.0.tape)) ∷ [] → next ≡ 2 * (m.0.seen + 1)
-    → Allows (Keeps start tape seats) k id m 0 (λ n. next) (λ n. Gives t m next)
+    → Allows (Keeps start tape seats) k id m 0 (λ n. next) (λ n. GivesBack t m next)
 give_moves start tape seats k id next m t out part held is =
     subst (λ (c : List (ℕ × Machine)). Allows (Keeps start tape seats) k id (m.0, c) 0 (λ n. next)
-    (λ n. Gives t (m.0, c) next)) (sym held)
+    (λ n. GivesBack t (m.0, c) next)) (sym held)
     (give_held start tape seats k id next m.0 (machine_run m.0.start (take (m.0.seen + 1) m.0.tape)) t out part is refl)
 
 pub held_first : (y : Machine) (c : List (ℕ × Machine)) → c ≡ (0, y) ∷ [] → c ≡ (0, y) ∷ rest c

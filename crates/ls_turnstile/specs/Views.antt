@@ -135,5 +135,5 @@ Looks s m n w =
 abbrev pub Takes : Step Machine → Mine → ℕ → Mine → Type 0
 Takes s m n w = (n ≡ s.first) × (w ≡ (holding m.0, (0, machine_run m.0.start (take m.0.seen m.0.tape)) ∷ []))
 
-abbrev pub Gives : Step Machine → Mine → ℕ → Mine → Type 0
-Gives s m n w = w ≡ (given m.0, [])
+abbrev pub GivesBack : Step Machine → Mine → ℕ → Mine → Type 0
+GivesBack s m n w = w ≡ (given m.0, [])

@@ -1,9 +1,10 @@
-// The rule of a turnstile's table, and the kinds of step that keep it. The table has one word and one slot. The word is twice the
-// number of entries done, and one more while the machine is out with the seat of the next entry; else it is in the slot.
+// The rule of a turnstile's table, and the kinds of step that keep it. The table has one word and one slot. The word is
+// twice the number of entries done, and one more while the machine is out with the seat of the next entry; else it is
+// in the slot.
 
 ghost use Rattle.ls_code.specs.Machine.{loaded};
 ghost use Rattle.ls_turnstile.specs.Views.{
-  Gives,
+  GivesBack,
   Keeps,
   Looks,
   Takes,
@@ -21,7 +22,8 @@ use ls_machine::Machine;
 use std::alloc::Global;
 use std::snapshot::Snapshot;
 
-/// What the rule may read: the code and the number of cells with which the machine began, the tape, and the number of seats.
+/// What the rule may read: the code and the number of cells with which the machine began, the tape, and the number of
+/// seats.
 #[derive(Drop)]
 pub struct About {
     pub code: Snapshot<Code>,
@@ -58,7 +60,7 @@ impl Play<Machine, View> for Take {
 pub struct Give;
 
 impl Play<Machine, View> for Give {
-    ghost then = { Gives };
+    ghost then = { GivesBack };
 }
 
 /// A thread's seat is cut off.

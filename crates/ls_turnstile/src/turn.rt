@@ -8,7 +8,8 @@ use std::alloc::AllocError;
 pub enum Turn {
     /// The entry at this place is the seat's thread, and its step was done.
     Stepped { place: usize, did: Did },
-    /// The entry at this place is another thread's and was still to be done, or it is nobody's, as its thread isn't there.
+    /// The entry at this place is another thread's and was still to be done, or it is nobody's, as its thread isn't
+    /// there.
     NotYet { place: usize },
     /// No entry is left.
     Over,

@@ -46,7 +46,8 @@ use std::alloc::{AllocError, Global};
 use std::marker::Model;
 use std::snapshot::Snapshot;
 
-/// A machine, its tape of threads, and how many of the tape's entries are done. Each seat steps the entries of its thread.
+/// A machine, its tape of threads, and how many of the tape's entries are done. Each seat steps the entries of its
+/// thread.
 #[derive(Drop)]
 pub struct Turnstile {
     table: MachineTable,
@@ -126,7 +127,8 @@ impl Turnstile {
     // How far the tape is. Where the next entry is the seat's, the machine is at home.
     fn look(&self, seat: &mut Seat<Machine, View>) -> u64
         requires id { seat.old.table_id ≡ self.now.id }
-        requires view { (seat.old.me.0.live ≡ true) × (seat.old.me.0.out ≡ 0) × (seat.old.me.0.parts ≡ 1) × (seat.old.me.1 ≡ []) }
+        requires view { (seat.old.me.0.live ≡ true) × (seat.old.me.0.out ≡ 0) × (seat.old.me.0.parts ≡ 1) ×
+            (seat.old.me.1 ≡ []) }
         ensures id { seat.new.table_id ≡ seat.old.table_id }
         ensures view { seat.new.me ≡ (looked seat.old.me.0 result, []) }
         ensures seen { seat.old.me.0.seen ≤ result / 2 }
@@ -139,9 +141,14 @@ impl Turnstile {
     // Takes the machine, in one try.
     fn take(&self, seat: &mut Seat<Machine, View>, found: u64)
         requires id { seat.old.table_id ≡ self.now.id }
-        requires view { (seat.old.me.0.ready ≡ true) × (seat.old.me.0.parts ≡ 1) × (seat.old.me.1 ≡ []) × (found ≡ 2 * seat.old.me.0.seen) × (found < 2 ^ 63) }
+        requires view { (seat.old.me.0.ready ≡ true) × (seat.old.me.0.parts ≡ 1) × (seat.old.me.1 ≡ []) ×
+            (found ≡ 2 * seat.old.me.0.seen) × (found < 2 ^ 63) }
         ensures id { seat.new.table_id ≡ seat.old.table_id }
-        ensures view { seat.new.me ≡ (holding seat.old.me.0, (0, machine_run seat.old.me.0.start (take seat.old.me.0.seen seat.old.me.0.tape)) ∷ []) }
+        ensures view { seat.new.me ≡ (
+          holding seat.old.me.0,
+          (0, machine_run seat.old.me.0.start (take seat.old.me.0.seen seat.old.me.0.tape)) ∷
+              [],
+        ) }
     {
         self.table
             .shared
@@ -151,10 +158,19 @@ impl Turnstile {
     // Steps the machine that the seat holds.
     fn play(&self, seat: &mut Seat<Machine, View>, thread: usize) -> Did
         requires id { seat.old.table_id ≡ self.now.id }
-        requires held { seat.old.me.1 ≡ (0, machine_run seat.old.me.0.start (take seat.old.me.0.seen seat.old.me.0.tape)) ∷ [] }
+        requires held { seat.old.me.1 ≡
+            (0, machine_run seat.old.me.0.start (take seat.old.me.0.seen seat.old.me.0.tape)) ∷ [] }
         ensures id { seat.new.table_id ≡ seat.old.table_id }
-        ensures view { seat.new.me ≡ (seat.old.me.0, (0, (machine_step (machine_run seat.old.me.0.start (take seat.old.me.0.seen seat.old.me.0.tape)) thread).machine) ∷ []) }
-        ensures did { result ≡ (machine_step (machine_run seat.old.me.0.start (take seat.old.me.0.seen seat.old.me.0.tape)) thread).did }
+        ensures view { seat.new.me ≡ (
+          seat.old.me.0,
+          (
+            0,
+            (machine_step (machine_run seat.old.me.0.start (take seat.old.me.0.seen seat.old.me.0.tape))
+                thread).machine,
+          ) ∷ [],
+        ) }
+        ensures did { result ≡
+            (machine_step (machine_run seat.old.me.0.start (take seat.old.me.0.seen seat.old.me.0.tape)) thread).did }
     {
         seat.slot_mut(&self.table.shared, 0).step(thread)
     }
@@ -163,15 +179,16 @@ impl Turnstile {
     fn give(&self, seat: &mut Seat<Machine, View>, next: u64)
         requires id { seat.old.table_id ≡ self.now.id }
         requires view { (seat.old.me.0.out ≡ 1) × (seat.old.me.0.parts ≡ 1) × (next ≡ 2 * (seat.old.me.0.seen + 1)) }
-        requires held { seat.old.me.1 ≡ (0, machine_run seat.old.me.0.start (take (seat.old.me.0.seen + 1) seat.old.me.0.tape)) ∷ [] }
+        requires held { seat.old.me.1 ≡
+            (0, machine_run seat.old.me.0.start (take (seat.old.me.0.seen + 1) seat.old.me.0.tape)) ∷ [] }
         ensures id { seat.new.table_id ≡ seat.old.table_id }
         ensures view { seat.new.me ≡ (given seat.old.me.0, []) }
     {
         self.table.shared.store::<Give>(seat, 0, next);
     }
 
-    /// Does the step of the next entry of the tape, where the entry is the seat's thread. It waits for nobody, takes no memory, and
-    /// always succeeds. Where it answers `NotYet`, call it again: nobody wakes the caller.
+    /// Does the step of the next entry of the tape, where the entry is the seat's thread. It waits for nobody, takes no
+    /// memory, and always succeeds. Where it answers `NotYet`, call it again: nobody wakes the caller.
     #[tactic(auto, using(crate::proofs::Runs::machine_run_take))]
     pub fn step(&self, seat: &mut TurnSeat) -> Turn
         requires { IsSeatOf self.now seat.old }
@@ -196,8 +213,8 @@ impl Turnstile {
         Turn::Stepped { place, did }
     }
 
-    /// The record of the entries that are done, with the machine after them. Refused where a seat is missing, and then all is handed
-    /// back as it was. It waits for nobody and takes no memory.
+    /// The record of the entries that are done, with the machine after them. Refused where a seat is missing, and then
+    /// all is handed back as it was. It waits for nobody and takes no memory.
     pub fn close(self, seats: Vec<TurnSeat>) -> Result<Record, (Turnstile, Vec<TurnSeat>)>
         requires { All (IsSeatOf self) seats.items }
         ensures closed { IfOk result (Closes self seats.items) }
@@ -286,7 +303,9 @@ fn table_of(
     ensures counts { IfOk result (λ t. (t.0.shared.table_id.words ≡ 1) × (t.0.shared.table_id.slots ≡ 1)) }
     ensures key { IfOk result (λ t. t.0.shared.key ≡ about.now) }
     ensures id { IfOk result (λ t. t.1.table_id ≡ t.0.shared.table_id) }
-    ensures seat { IfOk result (λ t. t.1.me ≡ (dealer (loaded about.now.code.value about.now.cells) about.now.tape.value.items about.now.seats 0, [])) }
+    ensures seat { IfOk result
+        (λ t. t.1.me ≡
+        (dealer (loaded about.now.code.value about.now.cells) about.now.tape.value.items about.now.seats 0, [])) }
 {
     let mut slots = Vec::with_capacity(alloc, 1)?;
     slots.push_reserved(machine);
@@ -305,10 +324,20 @@ fn seat_of(
 ) -> TurnSeat
     requires id { (hand.old.table_id ≡ table.now.shared.table_id) × (table.now.shared.table_id.words ≡ 1) }
     requires some { 0 < left }
-    requires hand { hand.old.me ≡ (dealer (loaded table.now.shared.key.code.value table.now.shared.key.cells) table.now.shared.key.tape.value.items left thread, []) }
+    requires hand { hand.old.me ≡ (
+      dealer (loaded table.now.shared.key.code.value table.now.shared.key.cells)
+          table.now.shared.key.tape.value.items left thread,
+      [],
+    ) }
     ensures id { hand.new.table_id ≡ hand.old.table_id }
-    ensures hand { hand.new.me ≡ (dealer (loaded table.now.shared.key.code.value table.now.shared.key.cells) table.now.shared.key.tape.value.items (left - 1) (thread + 1), []) }
-    ensures seat { result ≡ seat_state table.now.shared.table_id (loaded table.now.shared.key.code.value table.now.shared.key.cells) table.now.shared.key.tape.value.items thread 0 0 }
+    ensures hand { hand.new.me ≡ (
+      dealer (loaded table.now.shared.key.code.value table.now.shared.key.cells)
+          table.now.shared.key.tape.value.items (left - 1) (thread + 1),
+      [],
+    ) }
+    ensures seat { result ≡
+        seat_state table.now.shared.table_id (loaded table.now.shared.key.code.value table.now.shared.key.cells)
+        table.now.shared.key.tape.value.items thread 0 0 }
 {
     let seat = table.shared.split_seat::<Deal>(hand);
     TurnSeat {
@@ -321,12 +350,15 @@ fn seat_of(
 
 // The record, where the seat stands for all seats.
 fn finish(table: MachineTable, all: Seat<Machine, View>, mut tape: Vec<u8>) -> Record
-    requires id { (all.table_id ≡ table.shared.table_id) × (table.shared.table_id.words ≡ 1) × (table.shared.table_id.slots ≡ 1) }
+    requires id { (all.table_id ≡ table.shared.table_id) × (table.shared.table_id.words ≡ 1) ×
+        (table.shared.table_id.slots ≡ 1) }
     requires all { (table.shared.key.seats ≤ all.me.0.parts) × (all.me.0.out ≡ 0) }
     requires tape { tape.items ≡ table.shared.key.tape.value.items }
     requires most { length tape.items ≤ most_steps }
-    ensures record { IsRecordOf table.shared.key.code.value table.shared.key.cells (take all.me.0.steps tape.items) result }
-    ensures bounds { (all.me.0.steps ≤ length tape.items) × (all.me.0.seen ≤ all.me.0.steps) × (all.me.0.parts ≡ table.shared.key.seats) }
+    ensures record { IsRecordOf table.shared.key.code.value table.shared.key.cells (take all.me.0.steps tape.items)
+        result }
+    ensures bounds { (all.me.0.steps ≤ length tape.items) × (all.me.0.seen ≤ all.me.0.steps) ×
+        (all.me.0.parts ≡ table.shared.key.seats) }
 {
     let mut closed = table.close_with(all);
     let done = (closed.word(0) / 2) as usize;

@@ -32,8 +32,7 @@ HalfQuoted =
     × (stop_said (codes "!1") ≡ None)
 
 -- The setup has seven steps. A call of f has six: its call, two reads round its enter, the lock and its return. The
--- second thread waits
--- for the lock, which the first keeps.
+-- second thread waits for the lock, which the first keeps.
 abbrev pub Steps : Type 0
 Steps =
     (aimed one_lock (codes "setup! A! B!") ≡ Ok (replicate 7 0 ++ replicate 6 1 ++ replicate 4 2))

@@ -1,6 +1,7 @@
 // What is shown of small states.
 
-ghost use Rattle.ls_view_rows.specs.States.{AtFirst, BeforeACall, Each, EachAtTheEnd, EachGraph, Graph, Left, NeverStarts, Over, Reading, SetupNames, Things, Waiting};
+ghost use Rattle.ls_view_rows.specs.States.{AtFirst, BeforeACall, Each, EachAtTheEnd, EachGraph, Graph, Left};
+ghost use Rattle.ls_view_rows.specs.States.{NeverStarts, Over, Reading, SetupNames, Things, Waiting};
 
 /// Each kind of thing.
 pub fn things()

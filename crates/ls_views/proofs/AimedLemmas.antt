@@ -33,7 +33,7 @@ use Rattle.ls_aim.specs.declared.fault.AimFault.{AimFault}
 use Rattle.ls_aim.specs.declared.fault.AimFault.TheVariants as aim
 use Rattle.ls_aim.proofs.Fitting.{Fits, SaysThere, aimed_fits}
 use Rattle.ls_faults.specs.Faults.{lifted_aim, lifted_text, lifted_check, lifted_program}
-use Rattle.ls_faults.specs.Given.{Gives}
+use Rattle.ls_faults.specs.Given.{GivesText}
 use Rattle.ls_faults.specs.declared.fault.ToolFault.{ToolFault}
 use Rattle.ls_faults.proofs.Answering.{Failed, wider}
 use Rattle.ls_views.specs.Viewed.{names_in}
@@ -42,7 +42,7 @@ use Rattle.ls_views.proofs.ViewedLemmas.{names_are}
 
 pub aim_fails : (names : Names) (targets : Text) (f : AimFault) →
     aims.Fails f (aimed names targets) →
-    Gives (IsAim names targets) (Failed (lifted_aim f))
+    GivesText (IsAim names targets) (Failed (lifted_aim f))
 aim_fails names targets aim.Memory h = tt
 aim_fails names targets (aim.Schedule schedule.Memory) h = tt
 aim_fails names targets (aim.Schedule (schedule.BadItem at)) h = sym (ap (aim_text names) h)
@@ -98,15 +98,15 @@ read_back printed read o said p targets spelled = by_read (aimed (names_in o (pl
 pub program_aims : SchedulesReadBack →
     WhatIsReadIsASchedule →
     (o : Outcome) (said targets : Text) (p : code.Program) (r : Result (String Global) ToolFault)
-    → IsTextOf o (plain_program p) said → Gives (IsAim (names_in o (plain_program p)) targets) r →
-    Gives (AimsIn o said targets) r
+    → IsTextOf o (plain_program p) said → GivesText (IsAim (names_in o (plain_program p)) targets) r →
+    GivesText (AimsIn o said targets) r
 program_aims printed read o said targets p r spelled g =
     wider (IsAim (names_in o (plain_program p)) targets) (AimsIn o said targets) r
     (λ a h. Aims (plain_program p) a spelled h (read_back printed read o said p targets spelled)) g
 
 pub no_program_aims : (o : Outcome) (said targets : Text) (f : ProgramFault) →
     IsNoProgram o said f →
-    Gives (AimsIn o said targets) (Failed (lifted_program f))
+    GivesText (AimsIn o said targets) (Failed (lifted_program f))
 no_program_aims o said targets program.Memory r = tt
 no_program_aims o said targets (program.BadProgram at) r = NoProgram (program.BadProgram at) r
 no_program_aims o said targets (program.UnknownThing at) r = NoProgram (program.UnknownThing at) r
@@ -116,7 +116,7 @@ no_program_aims o said targets program.ProgramLimit r = NoProgram program.Progra
 pub text_aims : (c p s : Text) (f : TextFault) →
     Refuses f ((file : ParsedFile) → TextSpells file c → ⊥) →
     Comes c f →
-    Gives (AimsTo c p s) (Failed (lifted_text f))
+    GivesText (AimsTo c p s) (Failed (lifted_text f))
 text_aims c p s text.Memory r m = tt
 text_aims c p s text.TooLong r m = NoFile text.TooLong r m
 text_aims c p s (text.BadByte at) r m = NoFile (text.BadByte at) r m
@@ -128,12 +128,12 @@ text_aims c p s (text.TooDeep at) r m = NoFile (text.TooDeep at) r m
 pub check_aims : (c p s : Text) (file : File) (f : CheckFault) →
     IsFileOf c file →
     typing.Fails f (elaborated file) →
-    Gives (AimsTo c p s) (Failed (lifted_check f))
+    GivesText (AimsTo c p s) (Failed (lifted_check f))
 check_aims c p s file rule.Memory t n = tt
 check_aims c p s file (rule.Broken b) t n = Breaks file (rule.Broken b) t n
 
 pub checked_aims : (c p s : Text) (file : File) (o : Outcome) (r : Result (String Global) ToolFault) →
     IsFileOf c file →
     elaborated file ≡ Ok o
-    → Gives (AimsIn o p s) r → Gives (AimsTo c p s) r
+    → GivesText (AimsIn o p s) r → GivesText (AimsTo c p s) r
 checked_aims c p s file o r t e g = wider (AimsIn o p s) (AimsTo c p s) r (λ a h. Checks file o a t e h) g

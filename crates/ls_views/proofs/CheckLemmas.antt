@@ -12,7 +12,7 @@ use Rattle.ls_orders.specs.declared.fault.OrderFault.{OrderFault}
 use Rattle.ls_orders.specs.declared.fault.OrderFault.TheVariants as order_faults
 use Rattle.ls_views.specs.Check.{ChecksTo, Judged, NoHistory, judged_by, judgement_text, with_feed}
 use Rattle.ls_faults.specs.Faults.{lifted_history, lifted_order}
-use Rattle.ls_faults.specs.Given.{Gives}
+use Rattle.ls_faults.specs.Given.{GivesText}
 use Rattle.ls_faults.specs.declared.fault.ToolFault.{ToolFault}
 
 abbrev Failed : ToolFault → Result (String Global) ToolFault
@@ -21,7 +21,7 @@ Failed f = Err f
 pub history_fails : (h o t : Text) (f : HistoryFault) →
     t ≡ with_feed h →
     Explains t f →
-    Gives (ChecksTo h o) (Failed (lifted_history f))
+    GivesText (ChecksTo h o) (Failed (lifted_history f))
 history_fails h o t history_faults.Memory e b = tt
 history_fails h o t (history_faults.BadHistory at) e b = NoHistory at (subst (λ x. BreaksAt x at) e b)
 
@@ -36,7 +36,7 @@ pub order_fails : (h o t : Text) (es : List Event) (f : OrderFault) →
     t ≡ with_feed h →
     Says t es →
     Fails f (order_of o) →
-    Gives (ChecksTo h o) (Failed (lifted_order f))
+    GivesText (ChecksTo h o) (Failed (lifted_order f))
 order_fails h o t es order_faults.Memory e s k = tt
 order_fails h o t es (order_faults.BadOrder at) e s k = judged_to h o t es (Err (order_faults.BadOrder at)) e s k
 

@@ -8,7 +8,7 @@ use Rattle.ls_order_search.specs.Telling as telling
 use Rattle.ls_order_search.specs.declared.fault.SearchFault.{SearchFault}
 use Rattle.ls_order_search.specs.declared.fault.SearchFault.TheVariants as search
 use Rattle.ls_faults.specs.Faults.{lifted_search}
-use Rattle.ls_faults.specs.Given.{Gives}
+use Rattle.ls_faults.specs.Given.{GivesText}
 use Rattle.ls_faults.specs.declared.fault.ToolFault.{ToolFault}
 use Rattle.ls_views.specs.Check.{with_feed}
 use Rattle.ls_views.specs.Ordered.{OrdersTo, Told, lifted}
@@ -24,8 +24,8 @@ told h t answer e s = Told answer (subst (λ x. Tells x answer) e s)
 
 pub told_fails : (h t : Text) (f : SearchFault) →
     t ≡ with_feed h →
-    telling.Gives (Tells t) (Untold f) →
-    Gives (OrdersTo h) (Failed (lifted_search f))
+    telling.GivesText (Tells t) (Untold f) →
+    GivesText (OrdersTo h) (Failed (lifted_search f))
 told_fails h t search.Memory e s = tt
 told_fails h t (search.BadHistory at) e s = told h t (Err (search.BadHistory at)) e s
 told_fails h t search.TooManyTrapped e s = told h t (Err search.TooManyTrapped) e s

@@ -10,8 +10,8 @@ use Rattle.ls_report.specs.Events.{Text}
 use Rattle.ls_text_laws.specs.Histories.{SourceIsReadable}
 use Rattle.ls_faults.specs.ReadBack.{ReadsBack}
 use Rattle.ls_views.specs.Viewed.{names_in, NoProgram, Ran, RunsTo, ShowsBack, thread_names_of, viewed_by}
-use Rattle.ls_views.specs.declared.viewing.View.{View}
-use Rattle.ls_views.specs.declared.viewing.View.TheVariants as views
+use Rattle.ls_views.specs.declared.view.View.{View}
+use Rattle.ls_views.specs.declared.view.View.TheVariants as views
 use Rattle.ls_faults.specs.declared.fault.ToolFault.{ToolFault}
 
 module _ (readable : SourceIsReadable) (file : File) (o : Outcome) (checks : elaborated file ≡ Ok o)

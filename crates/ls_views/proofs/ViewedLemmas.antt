@@ -28,14 +28,14 @@ use Rattle.ls_schedule.specs.declared.fault.ScheduleFault.{ScheduleFault}
 use Rattle.ls_schedule.specs.declared.fault.ScheduleFault.TheVariants as schedule
 use Rattle.ls_report.specs.Events.{Text}
 use Rattle.ls_faults.specs.Faults.{lifted_text, lifted_check, lifted_program, lifted_schedule}
-use Rattle.ls_faults.specs.Given.{Gives}
+use Rattle.ls_faults.specs.Given.{GivesText}
 use Rattle.ls_text_laws.specs.Histories.{SourceIsReadable}
 use Rattle.ls_faults.proofs.Answering.{wider}
 use Rattle.ls_views.proofs.ShowsBack.{shows_back}
 use Rattle.ls_labels.specs.Names.{Names}
 use Rattle.ls_views.specs.Viewed.{names_in, shown, viewed_by, viewed, RunsTo, Ran, NoProgram, ViewsTo, Checks, Breaks}
 use Rattle.ls_views.specs.Viewed.{NoFile}
-use Rattle.ls_views.specs.declared.viewing.View.{View}
+use Rattle.ls_views.specs.declared.view.View.{View}
 use Rattle.ls_faults.specs.declared.fault.ToolFault.{ToolFault}
 use Rattle.ls_faults.specs.declared.fault.ToolFault.TheVariants as fault
 
@@ -48,7 +48,7 @@ err_of f e = cc
 pub text_fails : (v : View) (c p s : Text) (f : TextFault) →
     Refuses f ((file : ParsedFile) → TextSpells file c → ⊥) →
     Comes c f →
-    Gives (ViewsTo v c p s) (Failed (lifted_text f))
+    GivesText (ViewsTo v c p s) (Failed (lifted_text f))
 text_fails v c p s text.Memory r m = tt
 text_fails v c p s text.TooLong r m = NoFile text.TooLong r m
 text_fails v c p s (text.BadByte at) r m = NoFile (text.BadByte at) r m
@@ -60,7 +60,7 @@ text_fails v c p s (text.TooDeep at) r m = NoFile (text.TooDeep at) r m
 pub check_fails : (v : View) (c p s : Text) (file : File) (f : CheckFault) →
     IsFileOf c file →
     typing.Fails f (elaborated file) →
-    Gives (ViewsTo v c p s) (Failed (lifted_check f))
+    GivesText (ViewsTo v c p s) (Failed (lifted_check f))
 check_fails v c p s file rule.Memory t n = tt
 check_fails v c p s file (rule.Broken b) t n = Breaks file (rule.Broken b) t n
 
@@ -68,14 +68,14 @@ pub checked_runs : SourceIsReadable →
     (v : View) (c p s : Text) (file : File) (o : Outcome) (r : Result (String Global) ToolFault) →
     IsFileOf c file →
     elaborated file ≡ Ok o →
-    Gives (RunsTo v o p s) r →
-    Gives (ViewsTo v c p s) r
+    GivesText (RunsTo v o p s) r →
+    GivesText (ViewsTo v c p s) r
 checked_runs readable v c p s file o r t e g = wider (RunsTo v o p s) (ViewsTo v c p s) r
     (λ a h. Checks file o a t e h (shows_back readable file o e p s v h)) g
 
 pub program_fails : (v : View) (o : Outcome) (p s : Text) (f : ProgramFault) →
     IsNoProgram o p f →
-    Gives (RunsTo v o p s) (Failed (lifted_program f))
+    GivesText (RunsTo v o p s) (Failed (lifted_program f))
 program_fails v o p s program.Memory r = tt
 program_fails v o p s (program.BadProgram at) r = NoProgram (program.BadProgram at) r
 program_fails v o p s (program.UnknownThing at) r = NoProgram (program.UnknownThing at) r
@@ -84,8 +84,8 @@ program_fails v o p s program.ProgramLimit r = NoProgram program.ProgramLimit r
 
 pub program_runs : (v : View) (o : Outcome) (p s : Text) (q : Program) (r : Result (String Global) ToolFault) →
     IsTextOf o q p →
-    Gives (λ a. a ≡ viewed v (names_in o q) s) r →
-    Gives (RunsTo v o p s) r
+    GivesText (λ a. a ≡ viewed v (names_in o q) s) r →
+    GivesText (RunsTo v o p s) r
 program_runs v o p s q r e g = wider (λ a. a ≡ viewed v (names_in o q) s) (RunsTo v o p s) r
     (λ a h. subst (RunsTo v o p s) (sym h) (Ran q e)) g
 
@@ -106,7 +106,7 @@ said v names p s r is e =
 pub schedule_fails : (v : View) (names : Names) (p : code.Program) (s : Text) (f : ScheduleFault) →
     names.program ≡ plain_program p →
     Fails f (schedule_of (thread_names p) s) →
-    Gives (λ a. a ≡ viewed v names s) (Failed (lifted_schedule f))
+    GivesText (λ a. a ≡ viewed v names s) (Failed (lifted_schedule f))
 schedule_fails v names p s schedule.Memory is r = tt
 schedule_fails v names p s (schedule.BadItem at) is r = sym (said v names p s (Err (schedule.BadItem at)) is r)
 schedule_fails v names p s (schedule.UnknownThread at) is r = sym

@@ -39,8 +39,7 @@ IsReadBack names (Ok steps) = schedule_of (thread_names_of names) (schedule_text
 IsReadBack names (Err f) = Unit {0}
 
 -- The program part is a program of the file, and the answer the schedule to which the targets lead, whose text reads
--- back; or it is
--- none.
+-- back; or it is none.
 pub data AimsIn (o : Outcome) (program targets : Text) : Result Text ToolFault → Type 0 where
   Aims : (p : Program) (answer : Result Text ToolFault) → IsTextOf o p program → IsAim (names_in o p) targets answer →
       IsReadBack (names_in o p) (aimed (names_in o p) targets) → AimsIn o program targets answer

@@ -40,8 +40,7 @@ judged_by events (Ok order) = Ok (judgement_text (judgement_of events order))
 judged_by events (Err f) = Err (lifted_order f)
 
 -- The history part is a history, and the answer the judgement of the order or the fault of its part; or the history
--- part
--- breaks at a place.
+-- part breaks at a place.
 pub data ChecksTo (history order : Text) : Result Text ToolFault → Type 0 where
   Judged : (events : List Event) →
       Says (with_feed history) events →

@@ -29,8 +29,8 @@ use Rattle.ls_drawing.specs.Each.{drawings_text}
 use Rattle.ls_faults.specs.Faults.{lifted_text, lifted_check, lifted_program, lifted_schedule}
 use Rattle.ls_faults.specs.declared.fault.ToolFault.{ToolFault}
 use Rattle.ls_faults.specs.ReadBack.{ReadsBack}
-use Rattle.ls_views.specs.declared.viewing.View.{View}
-use Rattle.ls_views.specs.declared.viewing.View.TheVariants as views
+use Rattle.ls_views.specs.declared.view.View.{View}
+use Rattle.ls_views.specs.declared.view.View.TheVariants as views
 
 abbrev pub names_in : Outcome → Program → Names
 names_in o p = record { classes = o.names; signs = o.signs; file = o.file; program = p }

@@ -6,7 +6,8 @@ use Rattle.ls_lessons.proofs.tokens.front_name.Given as goal
 abbrev pub invariant-loop-end : goal.invariant-loop-end
 invariant-loop-end l =
     (l.end ≤ length l.text)
-    × (position_or_len (λ b. not (is_part b)) l.text ≡ l.end + position_or_len (λ b. not (is_part b)) (drop l.end l.text))
+    × (position_or_len (λ b. not (is_part b)) l.text ≡
+    l.end + position_or_len (λ b. not (is_part b)) (drop l.end l.text))
 
 abbrev pub decreases-loop-end : goal.decreases-loop-end
 decreases-loop-end l = length l.text - l.end
