@@ -11,6 +11,19 @@ opt-level = 3
 """
 
 
+def on_one_line(text):
+    """Puts each clause and each ghost member that is broken over lines on one line."""
+    lines, open_clause = [], False
+    for line in text.splitlines():
+        if open_clause:
+            lines[-1] += f" {line.strip()}"
+        else:
+            lines.append(line)
+        begins = re.match(r" *(?:(?:pub(?:\(crate\))? )?ghost|requires|ensures)\b", lines[-1])
+        open_clause = bool(begins) and lines[-1].count("{") > lines[-1].count("}")
+    return "\n".join([*lines, ""])
+
+
 def without_blocks(text, start):
     """Leaves out each top-level item that begins so and ends at a closing brace in the first column."""
     return re.sub(start + r".*?\n}\n", "", text, flags=re.S | re.M)

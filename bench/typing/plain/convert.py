@@ -8,7 +8,7 @@ import sys
 sys.dont_write_bytecode = True
 
 sys.path.insert(0, str(pathlib.Path(__file__).resolve().parents[2]))
-from plain_rust import MANIFEST, derived, write
+from plain_rust import MANIFEST, derived, on_one_line, write
 
 HERE = pathlib.Path(__file__).resolve().parent
 CRATES = HERE.parents[2] / "crates"
@@ -18,10 +18,11 @@ NAMES = ("ls_lexer", "ls_events", "ls_tree", "ls_parser_tokens", "ls_parser_expr
          "ls_together", "ls_types_expressions", "ls_types_statements", "ls_types", "ls_types_files")
 # crates whose code stands in their root
 ROOTS = ("ls_together",)
-KEPT = {"ls_events": ("value",), "ls_checked": ("tree",), "ls_types": ("check",)}
+KEPT = {"ls_events": ("value",), "ls_checked": ("tree",), "ls_types": ("checked",)}
 
 
 def plain(text):
+    text = on_one_line(text)
     text = re.sub(r"^ *#!?\[(tactic|cycle).*\n", "", text, flags=re.M)
     text = re.sub(r"^impl(<[^\n]*>)? (Clone for|From<AllocFailed).*?\n}\n", "", text, flags=re.S | re.M)
     text = re.sub(r"^ghost use [^;]*;\n", "", text, flags=re.M)

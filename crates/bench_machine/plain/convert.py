@@ -8,7 +8,7 @@ import sys
 sys.dont_write_bytecode = True
 
 sys.path.insert(0, str(pathlib.Path(__file__).resolve().parents[3] / "bench"))
-from plain_rust import MANIFEST, derived, without_blocks, write
+from plain_rust import MANIFEST, derived, on_one_line, without_blocks, write
 
 CRATES = pathlib.Path(__file__).resolve().parents[2]
 OUT = pathlib.Path(sys.argv[1])
@@ -17,6 +17,7 @@ LEFT_OUT = ("tests", "saving")
 
 
 def plain(text, crate):
+    text = on_one_line(text)
     text = text.replace("#![tactic(auto)]\n", "")
     # nothing that is timed saves a machine
     text = re.sub(r"^pub (mod saving|use machine::saving)\b.*\n", "", text, flags=re.M)

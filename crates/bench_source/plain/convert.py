@@ -9,7 +9,7 @@ import sys
 sys.dont_write_bytecode = True
 
 sys.path.insert(0, str(pathlib.Path(__file__).resolve().parents[3] / "bench"))
-from plain_rust import MANIFEST, derived, without_blocks, write
+from plain_rust import MANIFEST, derived, on_one_line, without_blocks, write
 
 HERE = pathlib.Path(__file__).resolve().parent
 CRATES = HERE.parents[1]
@@ -27,6 +27,7 @@ FILES = {
 
 
 def plain(text):
+    text = on_one_line(text)
     text = re.sub(r"^ *#!?\[(tactic|cycle).*\n", "", text, flags=re.M)
     text = without_blocks(text, r"^impl(<[^\n]*>)? Clone for ")
     text = re.sub(r"^( *///.*\n)+( *pub ghost )", r"\2", text, flags=re.M)
