@@ -21,10 +21,10 @@ SEEDS, STEPS, LIVE, EACH = 2_000, 400, 5, 7
 STATES = "2000000"
 CALLS = ("add", "remove", "contains")
 WAITS = re.compile(rb"(?m)^(\w+)\.\d+( waits for .*)$")
-VERDICT = re.compile(rb", (legal|illegal|not judged)$")
+VERDICT = re.compile(rb"(, (legal|illegal|not judged))?(, (not )?linearizable)?$")
 # how a row may end of itself, if no thread waits and if one does
 ENDS = (b"ended", b"out of cells", b"goes on", b"not seen"), (b"out of cells", b"goes on", b"not seen")
-END = re.compile(rb"states (\d+) histories (\d+)( illegal (\d+))? (complete|cut)( .*)?\n")
+END = re.compile(rb"states (\d+) histories (\d+)( illegal (\d+))?( not linearizable (\d+))? (complete|cut)( .*)?\n")
 
 
 def lines(text):
@@ -41,7 +41,7 @@ class Explored:
             head, schedule, *history = lines(block)
             self.rows.append((head, schedule, tuple(history)))
         end = END.fullmatch(last)
-        self.states, self.complete = int(end[1]), end[5] == b"complete"
+        self.states, self.complete = int(end[1]), end[7] == b"complete"
         self.illegal = int(end[4]) if end[4] else 0
         self.beginnings = {history[:n] for _, _, history in self.rows for n in range(len(history) + 1)}
 

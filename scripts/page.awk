@@ -26,6 +26,7 @@ function print_broken(line,  at, indent) {
 /two parts, class/ { files = "my.java my.program" }
 /two parts, a history/ { files = "my.history my.order" }
 /input is a history/ { files = "my.history" }
+/[Ii]nput is a class text/ { files = "my.java" }
 /program and targets/ { files = "my.java my.program my.targets" }
 /input is tallies/ { files = "my.tally more.tally" }
 /^Usage: listset [a-z]/ { command = $3 }

@@ -5,7 +5,7 @@
 class Run {
   constructor(data) {
     this.data = data;
-    this.from = data.from;
+    this.from = Math.max(1, data.from);   // `--from 0` tells from step 1 on too
     this.before = readState(data.before);
     this.after = readState(data.after);
     this.threads = this.before.threads.map(line => /^[\w$]+/.exec(line)[0]);

@@ -21,6 +21,9 @@ function listed(map, key, value) {
   if (!map.has(key)) map.set(key, []);
   map.get(key).push(value);
 }
+// The name of a thread where there is little room: a long one without its middle.
+const MOST_LETTERS = 14;
+const brief = name => name.length > MOST_LETTERS ? name.slice(0, 8) + "…" + name.slice(-5) : name;
 // How wide a text is in the page's fixed-width letters, in pixels.
 const textWidth = (text, size) => text.length * size * .605;
 
@@ -34,7 +37,7 @@ const callNamed = new Map(calls.map(call => [nameOf(call), call]));
 const colour = thread => "var(--t" + (thread === 0 ? 0 : (thread - 1) % 6 + 1) + ")";
 const colourOf = name => colour(run.number.get(name));
 const badge = (name, words = name) =>
-  element("span", { class: "badge", style: "background:" + colourOf(name) }, words);
+  element("span", { class: "badge", style: "background:" + colourOf(name), title: words }, words);
 
 // Controls, and characters that change the order in which a text is shown.
 const HIDDEN = /[\u0000-\u0008\u000b\u000c\u000e-\u001f\u007f\u061c\u200e\u200f\u202a-\u202e\u2066-\u2069]/g;

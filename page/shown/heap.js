@@ -98,11 +98,18 @@ function drawBands(picture) {
   });
   return { width: right + 20, height: top + 6 };
 }
+// How high the drawing may be: on a low screen threads stand at its right, on a narrow one the whole page scrolls.
+function roomOfHeap() {
+  const banner = byId("banner"), right = byId("right");
+  if (window.matchMedia("(max-width: 820px)").matches) return window.innerHeight * .45;
+  const below = getComputedStyle(right).display === "grid" ? 20 : 190;
+  return right.clientHeight - below - (banner.textContent ? banner.offsetHeight : 0);
+}
 function scaleOf({ width, height }) {
-  const banner = byId("banner"), room = Math.max(200, byId("heap").clientWidth - 26);
+  const room = Math.max(200, byId("heap").clientWidth - 26);
   if (window.matchMedia("print").matches) return Math.min(1.1, 900 / width);
-  const high = Math.max(220, byId("right").clientHeight - 190 - (banner.textContent ? banner.offsetHeight : 0));
-  const fits = room / width < .7 ? Math.min(1, high / height) : Math.min(1.5, room / width, high / height);
+  const high = Math.max(220, roomOfHeap());
+  const fits = room / width < .6 ? Math.min(1, high / height) : Math.min(1.5, room / width, high / height);
   return Math.max(.6, fits);
 }
 // Brings into view what the step touches.

@@ -27,10 +27,6 @@ function play() {
   }
   byId("play").setAttribute("aria-pressed", String(playing !== null));
 }
-function toggleTheme() {
-  const isLight = getComputedStyle(document.documentElement).getPropertyValue("--bg").trim() === "#ffffff";
-  document.documentElement.dataset.theme = isLight ? "dark" : "light";
-}
 function toggleIdle() {
   const { count } = view;
   stops.everyStep = !stops.everyStep;
@@ -45,7 +41,9 @@ function zoom(factor) {
 }
 function toggleHelp() {
   const help = byId("keys");
-  if (help.open) help.close(); else help.showModal();
+  if (help.open) { help.close(); return; }
+  help.showModal();
+  help.scrollTop = 0;
 }
 
 const actions = {

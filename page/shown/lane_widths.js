@@ -24,8 +24,8 @@ function widenFor(call, widths) {
 
 function layLanes() {
   const { zoom } = lanes, count = stops.count, shown = Math.max(300, byId("lanes").clientWidth - 4);
-  lanes.height = run.threads.length > 6 ? 39 : 46;
-  lanes.nameWidth = Math.max(...run.threads.map(name => textWidth(name, 14))) + 26;
+  lanes.height = run.threads.length > 6 || window.innerHeight < 720 ? 39 : 46;
+  lanes.nameWidth = Math.max(...run.threads.map(name => textWidth(brief(name), 14))) + 26;
   lanes.tail = calls.reduce((most, call) => Math.max(most, tailOf(call)), 78);
   const weights = stops.list.map(weightOf), sum = weights.reduce((a, b) => a + b, 0) || 1;
   const unit = Math.max(count > 2000 ? .6 : 3, (shown - lanes.nameWidth - lanes.tail) / sum) * zoom;

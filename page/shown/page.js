@@ -40,7 +40,12 @@ function showTitle() {
     : ["A run, step by step"];
   const words = lines.join(" ").trim().replace(/^(source|state|trace)( --\w+)*: */, "").replace(HIDDEN, "");
   byId("title").textContent = byId("title").title = words;
-  document.title = "listset: " + words.slice(0, 60);
+  document.title = "listset: " + shortened(words, 60);
+}
+// So much of a text, cut after a word.
+function shortened(words, most) {
+  const letters = [...words];
+  return letters.length <= most ? words : letters.slice(0, most).join("").replace(/[\s,;:]+\S*$/, "") + "…";
 }
 // What the page found wrong with itself.
 function showNotes() {
@@ -55,21 +60,26 @@ function showNotes() {
   }
   for (const note of notes) byId("foot").append(element("span", { class: "note" }, note));
 }
-// The step that the address ends in, else the end of the setup.
-function firstStop() {
+// The stop at the step that the address ends in; null where it ends in none.
+function addressedStop() {
   const step = location.hash.length > 1 ? Number(location.hash.slice(1)) : NaN;
-  if (Number.isInteger(step)) return stops.at(Math.min(run.rows.length, step - run.from + 1));
-  return run.setupEnd === Infinity ? 0 : stops.at(run.setupEnd);
+  return Number.isInteger(step) ? stops.at(Math.min(run.rows.length, step - run.from + 1)) : null;
 }
+const endOfSetup = () => run.setupEnd === Infinity ? 0 : stops.at(run.setupEnd);
 
+window.addEventListener("hashchange", () => {
+  const stop = addressedStop();
+  if (stop !== null) goTo(stop);
+});
 window.addEventListener("resize", () => {
   clearTimeout(resized);
   resized = setTimeout(redraw, 80);
 });
 window.addEventListener("beforeprint", redraw);
+beginTheme();
 showTitle();
 showNotes();
 drawOrder();
 byId("foot").hidden = byId("foot").childNodes.length === 0;
-view.stop = firstStop();
+view.stop = addressedStop() ?? endOfSetup();
 redraw();

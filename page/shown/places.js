@@ -145,7 +145,19 @@ const rootOf = band => run.after.names.length ? run.after.names[band][1] : null;
 function leastWidth(it) {
   const cells = fieldsOf(it).filter(([, value]) => !isLock(value)).map(([field]) =>
     Math.max(30, textWidth(field, 11) + 10));
-  return Math.max(textWidth(it.id, 11.5) + 4, cells.reduce((sum, width) => sum + width, 0));
+  return Math.max(textWidth(it.id, 11.5) + 4, cells.reduce((sum, width) => sum + width, 0), roomOfLocks(it));
+}
+// How much room the labels of locks take that stand one over another.
+const LABEL_SIZE = 11;
+const labelRoom = labels =>
+  labels.reduce((most, label) => Math.max(most, label && textWidth(label, LABEL_SIZE) + 8), 0);
+// How wide the locks over an object may become: one that is held and waited for. A lock alone needs no such room.
+function roomOfLocks(it) {
+  const labels = fieldsOf(it).filter(([, value]) => isLock(value)).map(([field, id]) => field + " #" + numberOf(id));
+  if (heap.monitored.has(it.id)) labels.push("monitor");
+  if (labels.length < 2) return 0;
+  const longest = run.threads.reduce((most, name) => Math.max(most, brief(name).length), 0);
+  return labelRoom(labels) + (2 * longest + " waits".length) * 7.3 + 40;
 }
 
 function layHeap() {

@@ -1,8 +1,13 @@
 // The three texts, with what was just done, and what each thread does next.
 
 const MOST_FRAMED = 3;                  // how many threads have their frames round one place
-const MARGIN = 58, COUNT_WIDTH = 30;    // in pixels: the room for names at a line, and for how many more there are
+const COUNT_WIDTH = 30;                 // in pixels: the room for how many more names there are at a line
 const signWidth = name => textWidth(name, 11) + 10;
+// As much of a name as there is room for.
+function fitted(name, room) {
+  const most = Math.floor((room - 10) / textWidth("m", 11));
+  return name.length <= most ? name : name.slice(0, Math.max(1, most - 1)) + "…";
+}
 
 // A text by lines. A range is { start, end, kind, colour }: it is shown by the class `kind`, and framed where it has a
 // colour.
@@ -68,26 +73,31 @@ class Code {
     for (const number of new Set([...before, ...byLine.keys()])) this.draw(number, byLine.get(number) || []);
     const signed = new Map();
     for (const sign of signs) listed(signed, this.lineAt(sign.start), sign);
-    for (const [number, list] of signed) this.sign(number, list);
+    const most = signed.size ? this.lines[0].margin.clientWidth - 6 : 0;
+    for (const [number, list] of signed) this.sign(number, list, most);
   }
-  sign(number, signs) {
+  sign(number, signs, most) {
     const { margin } = this.lines[number], shown = [], whole = signs.reduce((sum, it) => sum + signWidth(it.name), 0);
-    for (let room = whole > MARGIN ? MARGIN - COUNT_WIDTH : MARGIN, at = 0; at < signs.length; at++) {
-      room -= signWidth(signs[at].name);
+    let room = whole > most && signs.length > 1 ? most - COUNT_WIDTH : most;
+    for (const sign of signs) {
+      const words = shown.length ? sign.name : fitted(sign.name, room);
+      room -= signWidth(words);
       if (room < 0) break;
-      shown.push(signs[at]);
+      shown.push({ ...sign, words });
     }
-    for (const { name, isInner, title } of shown) {
+    for (const { name, words, isInner, title } of shown) {
       const own = colourOf(name), style = isInner ? "background:" + own : "border-color:" + own + ";color:" + own;
-      margin.append(element("b", { class: isInner ? "" : "outer", style, title }, name));
+      margin.append(element("b", { class: isInner ? "" : "outer", style, title }, words));
     }
     const left = signs.slice(shown.length);
     const title = left.map(sign => sign.title).join("\n");
     if (left.length) margin.append(element("b", { class: "more", title }, "+" + left.length));
     this.changed.add(number);
   }
+  // What scrolls is the three texts, or on a narrow screen the class text.
   reveal(place) {
-    const box = byId("source"), line = this.lines[this.lineAt(place)].row.getBoundingClientRect();
+    const own = byId("classes"), box = getComputedStyle(own).overflowY === "auto" ? own : byId("source");
+    const line = this.lines[this.lineAt(place)].row.getBoundingClientRect();
     const all = box.getBoundingClientRect();
     if (line.top < all.top + 20 || line.bottom > all.bottom - 30)
       box.scrollTop += line.top - all.top - all.height * .4;

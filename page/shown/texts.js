@@ -17,11 +17,11 @@ run.rows.reduce((number, row, at) => {
 }, pastLines(run).length);
 
 function showStep() {
-  const step = byId("step"), last = run.from + run.rows.length - 1;
+  const step = byId("step");
   if (view.stop === 0) {
     const words = run.from === 1 ? "nothing has happened yet" : "before step " + run.from;
     step.replaceChildren(element("span", { class: "number" }, String(run.from - 1)), words);
-    byId("count").textContent = "before step " + run.from;
+    showCount(run.from - 1);
     return;
   }
   const { start, end, idle } = stops.list[view.stop - 1], row = run.rows[end - 1], many = end - start;
@@ -33,7 +33,12 @@ function showStep() {
   if (others.length > 3) step.append("…");
   if (many > 1) step.append(element("span", { class: "number" }, many + " steps"));
   if (event) step.append(element("span", { class: "number" }, "line " + event + " of the history"));
-  byId("count").textContent = "step " + number + " of " + last;
+  showCount(number);
+}
+// Where one is among the stops: steps that do nothing aren't counted one by one.
+function showCount(number) {
+  byId("count").textContent = "stop " + view.stop + " of " + stops.count;
+  byId("count").title = "step " + number + " of " + (run.from + run.rows.length - 1) + " of the schedule";
 }
 
 function showState() {

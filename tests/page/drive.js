@@ -89,8 +89,9 @@ async function* keys(page, { pressed }) {
   if (!(await page.evaluate("byId('keys').open"))) yield "? doesn't show the keys";
   await page.key("?");
   if (await page.evaluate("byId('keys').open")) yield "? doesn't hide the keys";
+  const wasDark = await page.evaluate("isDark()");
   await page.key("d");
-  if ((await page.evaluate("document.documentElement.dataset.theme")) !== "dark") yield "d doesn't make it dark";
+  if ((await page.evaluate("isDark()")) === wasDark) yield "d doesn't change it from light to dark, or back";
   const whole = "document.documentElement";
   const scrolls = `${whole}.scrollWidth > innerWidth || ${whole}.scrollHeight > innerHeight`;
   if (await page.evaluate(scrolls)) yield "the whole page scrolls";
@@ -127,7 +128,52 @@ async function* opens(page, { rows, most }) {
   if (step > most) yield `a step takes ${step.toFixed(0)} ms`;
 }
 
-const KINDS = { states, says, keys, clicks, opens };
+// A step that is typed after the address of an open page is shown; anything else there changes nothing.
+async function* address(page, { hashes }) {
+  for (const [hash, wanted] of hashes) {
+    await page.evaluate(`new Promise(done => { location.hash = ${JSON.stringify(hash)}; setTimeout(done, 100); })`);
+    const step = await page.evaluate("view.step");
+    if (step !== wanted) yield `${hash} leads to step ${step}, and not to ${wanted}`;
+  }
+}
+// A chosen theme holds when the page is opened anew, and its button says what it leads to.
+async function* theme(page, job) {
+  const read = "JSON.stringify([isDark() ? 'dark' : 'light', byId('light').textContent])";
+  for (let times = 0; times < 2; times++) {
+    const [now, other] = JSON.parse(await page.evaluate(read));
+    await page.key("d");
+    await page.go("file://" + job.page);
+    const found = await page.evaluate(read);
+    if (found !== JSON.stringify([other, now])) yield `after d in ${now} it opens with ${found}`;
+  }
+}
+// What the card of a thread says of its locals at a step.
+async function* locals(page, { thread, told }) {
+  for (const [step, wanted] of told) {
+    const found = await page.evaluate(`(() => {
+      goTo(stops.at(${step} - run.from + 1));
+      const card = document.querySelector(".card[aria-label='thread ${thread}']");
+      return [...card.querySelectorAll(".locals span")].map(it => it.textContent).join(", ");
+    })()`);
+    if (found !== wanted) yield `at step ${step} the locals of ${thread} are told as \`${found}\``;
+  }
+}
+// At no size does the page scroll sideways. On a low screen it doesn't scroll at all, and no card is cut off.
+async function* sizes(page, { screens }) {
+  for (const [width, height] of screens) {
+    await page.send("Emulation.setDeviceMetricsOverride", { width, height, deviceScaleFactor: 1, mobile: false });
+    const [wide, high, low] = JSON.parse(await page.evaluate(`new Promise(done => setTimeout(() => {
+      const { scrollWidth, clientWidth, scrollHeight } = document.documentElement;
+      const cards = [...document.querySelectorAll(".card")].map(card => card.getBoundingClientRect().bottom);
+      const end = byId("foot").hidden ? innerHeight : byId("foot").getBoundingClientRect().top;
+      done(JSON.stringify([scrollWidth - clientWidth, scrollHeight - innerHeight, Math.max(...cards) - end]));
+    }, 200))`));
+    if (wide > 0) yield `${width}x${height} scrolls sideways by ${wide}`;
+    if (width > 820 && (high > 0 || low > 0)) yield `${width}x${height} is too low by ${high}, its cards by ${low}`;
+  }
+}
+
+const KINDS = { states, says, keys, clicks, opens, address, theme, locals, sizes };
 
 async function main() {
   const browser = new Browser(), lines = readline.createInterface({ input: process.stdin });

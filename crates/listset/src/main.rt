@@ -1,6 +1,7 @@
 //! Gives the real streams to the program.
 #![tactic(auto)]
 
+use ls_outlets::Watched;
 use ls_tool::Exit;
 use std::env;
 use std::io::{self, ErrorKind};
@@ -24,8 +25,8 @@ fn main(rt: HostRuntime) -> ExitCode {
         }
     };
     let mut input = rt.stdin();
-    let mut output = rt.stdout();
-    let mut errors = rt.stderr();
+    let mut output = Watched::new(rt.stdout());
+    let mut errors = Watched::new(rt.stderr());
     let Exit { status, is_told: _ } = ls_tool::run(
         &rt,
         rt.alloc(),

@@ -13,6 +13,7 @@ use Rattle.clap.specs.declared.builder.value_parser.ValueParser.TheVariants.{Nam
 use Rattle.ls_command_line.specs.declared.words.CommandLine.{CommandLine}
 use Rattle.ls_command_line.specs.declared.words.Request.{Request}
 use Rattle.ls_command_line.specs.declared.words.Request.TheVariants as requests
+use Rattle.ls_command_line.specs.declared.words.Seeking.{Seeking}
 use Rattle.ls_command_line.specs.declared.words.Side.{Side}
 use Rattle.ls_command_line.specs.declared.words.Side.TheVariants as sides
 use Rattle.ls_command_line.specs.declared.words.WordsFault.{WordsFault}
@@ -127,6 +128,28 @@ explore_line =
     (flag_rule (codes "first")))
     (flag_rule (codes "progress"))
 
+abbrev pub bounds_line : App
+bounds_line =
+    with_rule
+    (with_rule
+    (with_rule
+    (with_rule (with_explain (codes "find")) (number_rule false (codes "threads")))
+    (number_rule false (codes "calls")))
+    (number_rule false (codes "setup")))
+    (number_rule false (codes "values"))
+
+abbrev pub find_line : App
+find_line =
+    with_rule
+    (with_rule
+    (with_rule
+    (with_rule
+    (with_rule bounds_line (number_rule false (codes "class")))
+    (number_rule false (codes "states")))
+    (number_rule false (codes "from")))
+    (number_rule false (codes "to")))
+    (number_rule false (codes "print"))
+
 abbrev pub merge_line : App
 merge_line = with_rule (with_explain (codes "merge")) (number_rule false (codes "count"))
 
@@ -138,6 +161,7 @@ top_line = on_top (λ s. record s { has_version = true; subcommand_required = tr
 abbrev pub line : ValueParser → App
 line p =
     with_subcommand
+    (with_subcommand
     (with_subcommand
     (with_subcommand
     (with_subcommand
@@ -165,6 +189,7 @@ line p =
     batch_line.top)
     sample_line.top)
     explore_line.top)
+    find_line.top)
     merge_line.top
 
 -- the number that a text writes, and else the default
@@ -213,6 +238,20 @@ asked_state rows =
     (number_of (codes "to") 1000000 rows)
     else requests.State (flag_of (codes "dot") rows) (number_of (codes "to") 1000000 rows)
 
+-- which programs of a class are looked through
+abbrev pub asked_find : List Row → Seeking
+asked_find rows = record {
+  threads = number_of (codes "threads") 2 rows;
+  calls = number_of (codes "calls") 2 rows;
+  setup = number_of (codes "setup") 1 rows;
+  values = number_of (codes "values") 2 rows;
+  class = number_asked (codes "class") rows;
+  states = number_of (codes "states") 200000 rows;
+  from = number_of (codes "from") 1 rows;
+  to = number_of (codes "to") 1000000 rows;
+  print = number_asked (codes "print") rows;
+}
+
 -- what a command of this name with these options asks for
 abbrev pub asked : Text → List Row → Request
 asked name rows =
@@ -239,8 +278,9 @@ asked name rows =
     else (if bytes_eq name (codes "explore")
     then requests.Explore (cells_of rows) (number_of (codes "states") 1000000 rows) (flag_of (codes "illegal") rows)
     (flag_of (codes "first") rows) (flag_of (codes "progress") rows)
+    else (if bytes_eq name (codes "find") then requests.Find (asked_find rows)
     else (if bytes_eq name (codes "merge") then requests.Merge (number_asked (codes "count") rows)
-    else requests.Check)))))))))))))
+    else requests.Check))))))))))))))
 
 -- with what all commands are asked
 abbrev pub asked_by : Option (Text × List Row) → CommandLine

@@ -2,6 +2,7 @@
 #![tactic(auto)]
 
 mod line;
+mod searches;
 mod words;
 
-pub use words::{CommandLine, Request, Side, WordsFault, read_words};
+pub use words::{CommandLine, Request, Seeking, Side, WordsFault, read_words};

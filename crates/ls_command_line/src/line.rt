@@ -3,11 +3,12 @@
 ghost use Rattle.std.specs.Prelude.{◌≡◌, IfOk, codes, false};
 ghost use Rattle.clap.specs.Words.{App, Rule, app_of, rule_of, with_rule, with_subcommand};
 ghost use Rattle.clap.specs.declared.builder.command.Command.TheViews.{out-Command};
-ghost use Rattle.ls_command_line.specs.Words.{NamesSides, batch_line, explore_line, flag_rule, line, live_line};
+ghost use Rattle.ls_command_line.specs.Words.{NamesSides, batch_line, flag_rule, line, live_line};
 ghost use Rattle.ls_command_line.specs.Words.{merge_line, number_rule, page_line, replay_line, sample_line};
 ghost use Rattle.ls_command_line.specs.Words.{side_rule, state_line, switch_rule, top_line, trace_line};
 ghost use Rattle.ls_command_line.specs.Words.{translate_line, u64_parser, with_explain};
 
+use crate::searches::{explore_command, find_command};
 use clap::{Arg, ArgAction, Command};
 use std::alloc::{AllocError, Global};
 
@@ -15,7 +16,7 @@ use std::alloc::{AllocError, Global};
 static SIDES: [&str; 2] = ["source", "machine"];
 
 /// An option without a value, as `--live`.
-fn flag_option<'a>(alloc: Global, name: &'a str, help: &'a str) -> Arg<'a>
+pub(crate) fn flag_option<'a>(alloc: Global, name: &'a str, help: &'a str) -> Arg<'a>
     ensures rule { rule_of result ≡ flag_rule name.entry.now }
     ensures local { result.global ≡ false }
 {
@@ -26,7 +27,7 @@ fn flag_option<'a>(alloc: Global, name: &'a str, help: &'a str) -> Arg<'a>
 }
 
 /// A command with the option that all have.
-fn plain_command<'a>(
+pub(crate) fn plain_command<'a>(
     alloc: Global,
     name: &'a str,
     about: &'a str,
@@ -46,7 +47,7 @@ fn plain_command<'a>(
 }
 
 /// The command with one more option, where there is a command.
-fn with_option<'a>(
+pub(crate) fn with_option<'a>(
     command: Result<Command<'a>, AllocError>,
     option: Arg<'a>,
 ) -> Result<Command<'a>, AllocError>
@@ -79,7 +80,12 @@ fn read_as_number<'a>(arg: Arg<'a>) -> Arg<'a>
 }
 
 /// A number, as `--cells 9`.
-fn number_option<'a>(alloc: Global, name: &'a str, required: bool, help: &'a str) -> Arg<'a>
+pub(crate) fn number_option<'a>(
+    alloc: Global,
+    name: &'a str,
+    required: bool,
+    help: &'a str,
+) -> Arg<'a>
     ensures rule { rule_of result ≡ number_rule required name.entry.now }
     ensures local { result.global ≡ false }
 {
@@ -90,7 +96,7 @@ fn number_option<'a>(alloc: Global, name: &'a str, required: bool, help: &'a str
         .help(help)
 }
 
-fn cells_option<'a>(alloc: Global) -> Arg<'a>
+pub(crate) fn cells_option<'a>(alloc: Global) -> Arg<'a>
     ensures rule { rule_of result ≡ number_rule false (codes "cells") }
     ensures local { result.global ≡ false }
 {
@@ -249,40 +255,6 @@ fn sample_command<'a>(alloc: Global) -> Result<Command<'a>, AllocError>
     );
     let command = with_option(with_option(command, steps), switch_option(alloc));
     with_option(command, cells_option(alloc))
-}
-
-fn explore_command<'a>(alloc: Global) -> Result<Command<'a>, AllocError>
-    ensures shape { IfOk result (λ c. app_of c ≡ explore_line) }
-    ensures local { IfOk result (λ c. (out-Command c).has_globals ≡ false) }
-{
-    let command = plain_command(
-        alloc,
-        "explore",
-        "Finds the histories of all schedules of a program, with a schedule of source steps for each",
-        "Standard input has two parts, class text and thread program, with a line %% between them:\n  \
-         printf 'class C { }\\n%%%%\\nsetup { c = new C(); }\\n' | listset explore",
-    );
-    let states = number_option(
-        alloc,
-        "states",
-        false,
-        "how many states are kept at the most, 1 to 16777216 [default: 1000000]",
-    );
-    let command = with_option(with_option(command, cells_option(alloc)), states);
-    let illegal = flag_option(
-        alloc,
-        "illegal",
-        "prints only histories of which no order is legal",
-    );
-    let command = with_option(command, illegal);
-    let first = flag_option(alloc, "first", "prints only the first of the histories");
-    let command = with_option(command, first);
-    let progress = flag_option(
-        alloc,
-        "progress",
-        "tells on standard error of each 65536 states that are kept",
-    );
-    with_option(command, progress)
 }
 
 fn merge_command<'a>(alloc: Global) -> Result<Command<'a>, AllocError>
@@ -490,5 +462,6 @@ pub(crate) fn program<'a>(alloc: Global) -> Result<Command<'a>, AllocError>
     let program = with_command(program, batch_command(alloc));
     let program = with_command(program, sample_command(alloc));
     let program = with_command(program, explore_command(alloc));
+    let program = with_command(program, find_command(alloc));
     with_command(program, merge_command(alloc))
 }

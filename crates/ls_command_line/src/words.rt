@@ -2,7 +2,7 @@
 
 ghost use Rattle.std.specs.Prelude.{◌≡◌, codes, map, string_bytes};
 ghost use Rattle.clap.specs.Words.{found_of, rows_of, subcommand_rows_of};
-ghost use Rattle.ls_command_line.specs.Words.{IsWordsAnswer, asked, asked_by, asked_state, flag_of, is_given};
+ghost use Rattle.ls_command_line.specs.Words.{IsWordsAnswer, asked, asked_by, asked_find, asked_state, flag_of, is_given};
 ghost use Rattle.ls_command_line.specs.Words.{named_side, number_asked, number_of, side_of};
 
 use crate::line::program;
@@ -19,6 +19,32 @@ pub enum Side {
 
 impl Clone for Side {
     fn clone(&self) -> Result<Side, AllocError> {
+        Ok(*self)
+    }
+}
+
+/// Which programs of a class are looked through.
+#[derive(Copy)]
+pub struct Seeking {
+    /// The most threads of a program, calls of each, and calls of the setup.
+    pub threads: u64,
+    pub calls: u64,
+    pub setup: u64,
+    /// An int argument is one of so many integers, from 1.
+    pub values: u64,
+    /// The number of the class, from 1, if it isn't the one that no other names.
+    pub class: Option<u64>,
+    /// The most states of a program that are kept.
+    pub states: u64,
+    /// The numbers of the first program and of the last, from 1.
+    pub from: u64,
+    pub to: u64,
+    /// The number of the one program that is printed, if that is all.
+    pub print: Option<u64>,
+}
+
+impl Clone for Seeking {
+    fn clone(&self) -> Result<Seeking, AllocError> {
         Ok(*self)
     }
 }
@@ -94,6 +120,8 @@ pub enum Request {
         /// Whether it tells on standard error how many states it keeps.
         progress: bool,
     },
+    /// The first program of a class whose histories aren't all linearizable.
+    Find(Seeking),
     /// The number that the counts are to come to, if one is wanted.
     Merge {
         count: Option<u64>,
@@ -125,6 +153,12 @@ const CELLS: u64 = 65_536;
 
 /// The states that are kept where no number is asked for.
 const STATES: u64 = 1_000_000;
+
+/// The states of each program of `find` that are kept where no number is asked for.
+const STATES_OF_EACH: u64 = 200_000;
+
+/// The last program where none is asked for: the most that a family has.
+const LAST_PROGRAM: u64 = 1_000_000;
 
 /// The steps that a live run records where no limit is asked for.
 const LIMIT: u64 = 5_000;
@@ -247,6 +281,22 @@ fn asked_state(options: &ArgMatches<'_>) -> Request
     Request::State { dot, to }
 }
 
+fn asked_find(options: &ArgMatches<'_>) -> Seeking
+    ensures { result ≡ asked_find (rows_of (found_of options.now)) }
+{
+    Seeking {
+        threads: number(options, "threads", 2),
+        calls: number(options, "calls", 2),
+        setup: number(options, "setup", 1),
+        values: number(options, "values", 2),
+        class: number_asked(options, "class"),
+        states: number(options, "states", STATES_OF_EACH),
+        from: number(options, "from", 1),
+        to: number(options, "to", LAST_PROGRAM),
+        print: number_asked(options, "print"),
+    }
+}
+
 fn asked(name: &str, options: &ArgMatches<'_>) -> Request
     ensures { result ≡ asked name.now (rows_of (found_of options.now)) }
 {
@@ -298,6 +348,7 @@ fn asked(name: &str, options: &ArgMatches<'_>) -> Request
             first: flag(options, "first"),
             progress: flag(options, "progress"),
         },
+        "find" => Request::Find(asked_find(options)),
         "merge" => Request::Merge {
             count: number_asked(options, "count"),
         },

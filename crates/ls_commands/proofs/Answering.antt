@@ -1,5 +1,5 @@
 -- Answers on images that may be given.
-use Rattle.std.proofs.Common.{◌↔◌, Result, Ok, Err, subst}
+use Rattle.std.proofs.Common.{◌↔◌, ◌≡◌, Result, Ok, Err, subst}
 use Rattle.std.specs.Prelude.{IsErrOf, String}
 use Rattle.std.specs.Global.{Global}
 use Rattle.ls_image.specs.Images.{Compiles}
@@ -33,3 +33,10 @@ is_answer (Err e) = ⊥
 -- what a refusal would say isn't so where there is an answer
 pub not_refused : {A E : Type 0} (x : A) (e : E) (Bad : Type 0) → (IsErrOf {T = A} (Ok x) e ↔ Bad) → ¬ Bad
 not_refused x e Bad h bad = subst is_answer (h.1 bad) tt
+
+-- nor is it where there is another refusal
+pub refused_otherwise : {A E : Type 0} (f e : E) (Bad : Type 0) →
+    ¬ (f ≡ e) →
+    (IsErrOf {T = A} (Err f) e ↔ Bad) →
+    ¬ Bad
+refused_otherwise {A} f e Bad unlike h bad = let same : IsErrOf {T = A} (Err f) e = h.1 bad in unlike (cc)

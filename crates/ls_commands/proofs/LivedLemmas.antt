@@ -15,6 +15,7 @@ use Rattle.ls_schedule.specs.declared.replaying.Record.{Record}
 use Rattle.ls_live.specs.declared.fault.LiveFault.TheVariants as opening
 use Rattle.ls_live.specs.declared.fault.PlayFault.{PlayFault as LiveFault}
 use Rattle.ls_live.specs.declared.fault.PlayFault.TheVariants as live
+use Rattle.ls_following.specs.declared.fault.FollowFault.{FollowFault}
 use Rattle.ls_following.specs.declared.fault.FollowFault.TheVariants as follow
 use Rattle.ls_following.specs.declared.fault.TapeFault.{TapeFault as TurnsFault}
 use Rattle.ls_following.specs.declared.fault.TapeFault.TheVariants as turns
@@ -22,7 +23,7 @@ use Rattle.ls_report.specs.Events.{Text}
 use Rattle.ls_report.specs.Printing.{run_text}
 use Rattle.ls_faults.specs.Faults.{lifted_live, lifted_turns}
 use Rattle.ls_faults.specs.Given.{GivesText}
-use Rattle.ls_commands.proofs.Answering.{not_refused}
+use Rattle.ls_commands.proofs.Answering.{not_refused, refused_otherwise}
 use Rattle.ls_commands.specs.Compiled.{names_of_image, NoCells as TooFewOrMany, plain_program_of, Replayed, Runs}
 use Rattle.ls_commands.specs.Lived.{AreLived, AsReplayed, BadLimit, Disagree, Lived, Lives, NoCells, NoMore}
 use Rattle.ls_commands.specs.Lived.{NotFollowed, NoThread, ReplayedLive, lived_history, lived_schedule}
@@ -38,27 +39,38 @@ module _ (i : Image) (cells : ℕ) where
     abbrev Unlived : LiveFault → Result Record LiveFault
     Unlived f = Err f
 
+    abbrev TooLarge : Type 0
+    TooLarge = ¬ Bad × (most_steps < limit)
+
+    few : ¬ Bad → ¬ TooLarge → limit ≤ most_steps
+    few good not =
+        let no : ¬ (most_steps < limit) = λ h. not (good, h) in
+        omega (arith, no)
+
     pub live_fails : (f : LiveFault) →
         (IsErrOf (Unlived f) (live.Open opening.BadCells) ↔ Bad) →
-        (IsErrOf (Unlived f) (live.Open opening.BadLimit) ↔ (¬ Bad × (most_steps < limit))) →
+        (IsErrOf (Unlived f) (live.Open opening.BadLimit) ↔ TooLarge) →
         GivesText (Lived i cells limit NoMore) (Err (lifted_live f))
     live_fails (live.Open opening.Memory) bad large = tt
     live_fails (live.Open opening.BadCells) bad large = NoCells (bad.0 refl)
     live_fails (live.Open opening.BadLimit) bad large = BadLimit (large.0 refl).0 (large.0 refl).1
-    live_fails live.NoThread bad large = NoThread
-    live_fails live.Disagree bad large = Disagree
+    live_fails live.NoThread bad large =
+        let good : ¬ Bad = refused_otherwise {A = Record} live.NoThread (live.Open opening.BadCells) Bad (λ e. cc) bad in
+        NoThread good (few good (refused_otherwise {A = Record} live.NoThread (live.Open opening.BadLimit) TooLarge
+        (λ e. cc) large))
+    live_fails live.Disagree bad large =
+        let good : ¬ Bad = refused_otherwise {A = Record} live.Disagree (live.Open opening.BadCells) Bad (λ e. cc) bad in
+        Disagree good (few good (refused_otherwise {A = Record} live.Disagree (live.Open opening.BadLimit) TooLarge
+        (λ e. cc) large))
 
     within : (r : Record) →
         ¬ Bad →
-        (IsErrOf {E = LiveFault} (Ok r) (live.Open opening.BadLimit) ↔ (¬ Bad × (most_steps < limit))) →
+        (IsErrOf {E = LiveFault} (Ok r) (live.Open opening.BadLimit) ↔ TooLarge) →
         limit ≤ most_steps
-    within r good large =
-        let no : ¬ (most_steps < limit) = λ h. not_refused r (live.Open opening.BadLimit) (¬ Bad × (most_steps < limit))
-        large (good, h) in
-        omega (arith, no)
+    within r good large = few good (not_refused r (live.Open opening.BadLimit) TooLarge large)
 
     pub live_runs : (r : Record) (t : Text) → (IsErrOf {E = LiveFault} (Ok r) (live.Open opening.BadCells) ↔ Bad) →
-        (IsErrOf {E = LiveFault} (Ok r) (live.Open opening.BadLimit) ↔ (¬ Bad × (most_steps < limit))) →
+        (IsErrOf {E = LiveFault} (Ok r) (live.Open opening.BadLimit) ↔ TooLarge) →
         IsRecordOf (code_of_image i) cells (scheduled r) r →
         AreLived (code_of_image i) cells limit (scheduled r) →
         t ≡ schedule_text (names_of_image i) (scheduled r) ++ lines r → Lived i cells limit NoMore (Ok t)
@@ -74,15 +86,21 @@ module _ (i : Image) (cells : ℕ) where
     abbrev Unfollowed : TurnsFault → Result Record TurnsFault
     Unfollowed f = Err f
 
+    good_cells : (f : FollowFault) →
+        (IsErrOf (Unfollowed (turns.Follow f)) (turns.Load load.BadCells) ↔ Bad) →
+        ¬ Bad
+    good_cells f bad = refused_otherwise {A = Record} (turns.Follow f) (turns.Load load.BadCells) Bad (λ e. cc) bad
+
     pub turns_fail : (f : TurnsFault) → (IsErrOf (Unfollowed f) (turns.Load load.BadCells) ↔ Bad) →
         ((place : ℕ) → IsErrOf (Unfollowed f) (turns.Follow (follow.TurnsSpent place)) → place < length steps) →
         GivesText (ReplayedLive i cells read) (Err (lifted_turns f))
     turns_fail (turns.Load load.Memory) bad spent = tt
     turns_fail (turns.Load load.BadCells) bad spent = AsReplayed _ (rw reads (TooFewOrMany steps (bad.0 refl)))
     turns_fail (turns.Follow follow.Memory) bad spent = tt
-    turns_fail (turns.Follow follow.NoThread) bad spent = NotFollowed steps follow.NoThread reads tt
+    turns_fail (turns.Follow follow.NoThread) bad spent = NotFollowed steps follow.NoThread reads
+        (good_cells follow.NoThread bad) tt
     turns_fail (turns.Follow (follow.TurnsSpent place)) bad spent = NotFollowed steps (follow.TurnsSpent place) reads
-        (spent place refl)
+        (good_cells (follow.TurnsSpent place) bad) (spent place refl)
 
     pub turns_run : (r : Record) (t : Text) →
         (IsErrOf {E = TurnsFault} (Ok r) (turns.Load load.BadCells) ↔ Bad) →

@@ -65,7 +65,7 @@ module _ (readable : CompiledIsReadable) (classes program : Text) (i : Image) (c
       ReplayedLive i cells read a →
       ReadsBack a
   replayed_live_back (AsReplayed answer h) = replayed_back h
-  replayed_live_back (NotFollowed steps f e h) = tt
+  replayed_live_back (NotFollowed steps f e good h) = tt
 
   pub replayed_of : (s : Text) (r : Result (String Global) ToolFault) →
       GivesText (Replayed i cells (schedule_of (names_of_image i) s)) r →
@@ -110,8 +110,8 @@ module _ (readable : CompiledIsReadable) (classes program : Text) (i : Image) (c
     lived_back (Lives steps good most lived more) = Lives steps good most lived (reads_back_as steps good most lived)
     lived_back (TooFewOrMany bad) = TooFewOrMany bad
     lived_back (BadLimit good large) = BadLimit good large
-    lived_back NoThread = NoThread
-    lived_back Disagree = Disagree
+    lived_back (NoThread good few) = NoThread good few
+    lived_back (Disagree good few) = Disagree good few
 
     pub lived_of : (r : Result (String Global) ToolFault) →
         GivesText (Lived i cells limit NoMore) r →

@@ -44,7 +44,8 @@ abbrev pub lived_history : Image → ℕ → List ℕ → Text
 lived_history i cells steps = run_text (plain_program_of i) (machine_history (code_of_image i) cells steps)
 
 -- The schedule of a live run, and the history of the machine's run of it, of which more is said. Or the cells are too
--- few or too many, or else the limit is too large; or a thread couldn't be started.
+-- few or too many, or else the limit is too large. Only where neither is so may it be that a thread couldn't be
+-- started, or that a seat disagrees with the record.
 pub data Lived (i : Image) (cells limit : ℕ) (More : List ℕ → Type 0) : Result Text ToolFault → Type 0 where
   Lives : (steps : List ℕ) →
       ¬ AreBadCells (code_of_image i).names cells →
@@ -56,8 +57,12 @@ pub data Lived (i : Image) (cells limit : ℕ) (More : List ℕ → Type 0) : Re
   BadLimit : ¬ AreBadCells (code_of_image i).names cells →
       most_steps < limit →
       Lived i cells limit More (Err (faults.Live (live.Open opening.BadLimit)))
-  NoThread : Lived i cells limit More (Err (faults.Live live.NoThread))
-  Disagree : Lived i cells limit More (Err (faults.Live live.Disagree))
+  NoThread : ¬ AreBadCells (code_of_image i).names cells →
+      limit ≤ most_steps →
+      Lived i cells limit More (Err (faults.Live live.NoThread))
+  Disagree : ¬ AreBadCells (code_of_image i).names cells →
+      limit ≤ most_steps →
+      Lived i cells limit More (Err (faults.Live live.Disagree))
 
 -- no more is said
 abbrev pub NoMore : List ℕ → Type 0
@@ -83,12 +88,13 @@ BreaksOff steps follow.Memory = ⊥
 BreaksOff steps follow.NoThread = Unit {0}
 BreaksOff steps (follow.TurnsSpent place) = place < steps
 
--- what a replay says, or live threads don't come to the end of the schedule
+-- what a replay says, or live threads don't come to the end of the schedule, which is read, on good cells
 pub data ReplayedLive (i : Image) (cells : ℕ) (read : Result (List ℕ) ScheduleFault) : Result Text ToolFault →
     Type 0 where
   AsReplayed : (answer : Result Text ToolFault) → Replayed i cells read answer → ReplayedLive i cells read answer
   NotFollowed : (steps : List ℕ) (f : FollowFault) →
       read ≡ Ok steps →
+      ¬ AreBadCells (code_of_image i).names cells →
       BreaksOff (length steps) f →
       ReplayedLive i cells read (Err (faults.Turns (turns.Follow f)))
 

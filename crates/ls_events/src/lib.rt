@@ -5,5 +5,6 @@
 pub mod action;
 pub mod event;
 pub mod kind;
+pub mod same;
 pub mod schedule;
 pub mod value;

@@ -22,14 +22,16 @@ use Rattle.ls_headline.proofs.Lists.{get_left, get_right, get_within, get_there,
 use Rattle.ls_headline.specs.Acting.{first_did}
 use Rattle.ls_explore_laws.specs.Bursts.{ActsAlong, IsClosed, burst}
 use Rattle.ls_explore_laws.specs.Ends.{AreQuiet, HasSteps, IsEnd as IsEndOf, IsQuiet}
-use Rattle.ls_explore_laws.specs.Explored.{IsBeginning, IsRoomy, IsSetUp, IsShown}
-use Rattle.ls_explore_laws.proofs.Along.{along_is, leads_as_source, whole_source}
+use Rattle.ls_explore_laws.specs.Explored.{IsRoomy, IsSetUp, IsShown}
+use Rattle.ls_events.specs.Beginnings.{IsBeginning}
+use Rattle.ls_explore_laws.proofs.Along.{along_is, along_more, leads_as_source, whole_source}
 use Rattle.ls_explore_laws.proofs.Covering.{covers_all, covers_whole}
 use Rattle.ls_explore_laws.proofs.Ending.{ends_all, ends_whole, stands_still_along}
 use Rattle.ls_explore.specs.declared.rows.Ending.{Ending}
 use Rattle.ls_explore.specs.declared.searching.Seen.{Seen}
 use Rattle.ls_explore.specs.Walks.{has_acted, led_to, walked}
 use Rattle.ls_explore.specs.Searches.{IsSeen, IsSound, StandOnce}
+use Rattle.ls_explore.specs.Rows.{ActAll, TellsActs}
 use Rattle.ls_explore.specs.Rows.{AllEnd, EndsAs, HasEnd, HasRow, HaveBegun, HaveEnds, IsEnd, IsTold, IsToldBy, Keeps}
 use Rattle.ls_explore.specs.Rows.{TellsAll, TellsEnds, TellsOver, TellsStates, TellsTruth, TellsWhole, Told, ending_of}
 use Rattle.ls_explore.specs.Rows.{ending_of_seen, row_of}
@@ -285,6 +287,34 @@ module _ (code : Code) (cells : ℕ) (setup : List ℕ) (threads n : ℕ) (root 
       subst (λ j. AreQuiet j (length program.threads) told.0) en (subst (λ t. AreQuiet n t told.0) (sym count) quiet) in
       stands_still_along file program code cells k root told.0 r.path within acts
       (subst (IsSetUp file program code cells k) (sym er) up) along quiet'
+
+  -- each step along a path acts in the source
+  act_all : (file : File) (program : Program) (k : ℕ) →
+      HasSteps file program code cells →
+      IsSetUp file program code cells k root →
+      (path : List ℕ) (m : Machine) →
+      ActsAlong n root path m →
+      ActAll file program (replicate k 0 ++ path)
+  act_all file program k has_steps up path m along =
+      let r = along_is n root path m along in
+      let whole : List ℕ = up.steps ++ r.steps in
+      let is : to_source code cells whole ≡ replicate k 0 ++
+      path = whole_source code cells up.steps root (replicate k 0) path m up.reached up.acting r in
+      ap (λ ts. map (λ (e : Entry Value). e.thread) (source_trace file program ts)) (sym is) ∙ sym (has_steps whole) ∙ is
+
+  pub tells_acts : All (IsTold n threads root) rows → TellsActs code cells setup rows
+  tells_acts all = λ file program k has_steps up r there.
+      let told : IsTold n threads root r = subst (IsTold n threads root) there.2 (all there.0 r there.1) in
+      let up' : IsSetUp file program code cells k root = subst (IsSetUp file program code cells k) (sym er) up in (
+        act_all file program k has_steps up' r.path told.0 told.1,
+        λ goes.
+            let more = subst (EndsAs n threads told.0) goes told.3 in (
+              more.0,
+              subst (ActAll file program) (sym (append_assoc (replicate k 0) r.path (more.0 ∷ [])))
+                  (act_all file program k has_steps up' (r.path ++ more.0 ∷ []) more.2.0
+                  (along_more n root told.0 more.2.0 r.path more.0 told.1 more.2.1)),
+            ),
+      )
 
   -- the paths themselves tell of schedules of the source, and the rows of these
   pub tells_states : (paths : List (List ℕ)) (seen : List Seen) (states i : ℕ) →

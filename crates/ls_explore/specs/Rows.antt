@@ -1,5 +1,5 @@
 -- Histories with paths that lead to them.
-use Rattle.std.specs.Prelude.{◌≡◌, ◌≢◌, ℕ, ◌+◌, ◌<◌, ◌++◌, AllPairs, Bool, true, false, List, Option, length, map}
+use Rattle.std.specs.Prelude.{◌≡◌, ◌≢◌, ℕ, ◌+◌, ◌<◌, ◌++◌, [], ◌∷◌, AllPairs, Bool, true, false, List, Option, length, map}
 use Rattle.std.specs.Prelude.{replicate, Contains, None, Some, slice_get}
 use Rattle.std.specs.declared.cmp.Ordering.{Ordering}
 use Rattle.std.specs.Ordering.{nat_cmp, ordering_then}
@@ -14,8 +14,10 @@ use Rattle.ls_code.specs.declared.step.Did.TheVariants as did
 use Rattle.ls_headline.specs.Same.{Fits, IsCells}
 use Rattle.ls_headline.specs.Acting.{ActsInTime, first_did}
 use Rattle.ls_explore_laws.specs.Bursts.{ActsAlong, burst}
-use Rattle.ls_explore_laws.specs.Ends.{AreQuiet, HasSteps, IsOver}
-use Rattle.ls_explore_laws.specs.Explored.{HasHistories, IsBeginning, IsSetUp}
+use Rattle.ls_explore_laws.specs.Ends.{AreQuiet, HasSteps}
+use Rattle.ls_meaning.specs.Still.{IsOver}
+use Rattle.ls_explore_laws.specs.Explored.{HasHistories, IsSetUp}
+use Rattle.ls_events.specs.Beginnings.{IsBeginning}
 use Rattle.ls_explore.specs.declared.rows.Ending.{Ending}
 use Rattle.ls_explore.specs.declared.rows.Ending.TheVariants as ending
 use Rattle.ls_explore.specs.declared.searching.Seen.{Seen}
@@ -109,6 +111,10 @@ HaveBegun n root paths i rows =
     (j : ℕ) (path : List ℕ) → length paths < j + i + 1 → slice_get paths j ≡ Some path →
     IsToldBy rows (walked n root path).history
 
+-- each step of the schedule acts
+abbrev pub ActAll : File → Program → List ℕ → Type 0
+ActAll file program schedule = map (λ e. e.thread) (source_trace file program schedule) ≡ schedule
+
 -- So many paths, no two the same: after the setup's steps one step of each thread of a path acts, and the history of
 -- these steps is the beginning of a row's.
 pub record TellStates (file : File) (program : Program) (k : ℕ) (rows : List Told) (states : ℕ) : Type 0 where
@@ -134,6 +140,14 @@ TellsTruth code cells setup rows =
     (file : File) (program : Program) (k : ℕ) → HasHistories file program code cells →
     IsSetUp file program code cells k (machine_run (loaded code cells) setup) → (r : Told) → Contains rows r →
     r.history ≡ source_history file program (replicate k 0 ++ r.path)
+
+-- Each step of that schedule acts; and where the row goes on, one more step of some thread does.
+abbrev pub TellsActs : Code → ℕ → List ℕ → List Told → Type 0
+TellsActs code cells setup rows =
+    (file : File) (program : Program) (k : ℕ) → HasSteps file program code cells →
+    IsSetUp file program code cells k (machine_run (loaded code cells) setup) → (r : Told) → Contains rows r →
+    ActAll file program (replicate k 0 ++ r.path)
+    × (r.ending ≡ ending.GoesOn → (t : ℕ) × ActAll file program ((replicate k 0 ++ r.path) ++ t ∷ []))
 
 -- After the schedule of a row that is over no thread of the source acts.
 abbrev pub TellsOver : Code → ℕ → List ℕ → ℕ → List Told → Type 0

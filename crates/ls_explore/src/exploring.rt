@@ -5,7 +5,7 @@ ghost use Rattle.std.specs.Prelude.{◌≡◌, ◌+◌, All, IfOk, IsSorted, IsT
 ghost use Rattle.ls_headline.specs.Translations.{most_silent};
 ghost use Rattle.ls_machine.specs.Room.{AreBadCells};
 ghost use Rattle.ls_explore.specs.Rows.{AreApart, TellsAll, TellsEnds, TellsOver, TellsStates, TellsTruth};
-ghost use Rattle.ls_explore.specs.Rows.{TellsWhole, row_order};
+ghost use Rattle.ls_explore.specs.Rows.{TellsActs, TellsWhole, row_order};
 ghost use Rattle.ls_explore.specs.Watching.{GoesOn};
 
 use crate::rows::Row;
@@ -82,6 +82,7 @@ pub fn explore<W: Watch>(
     requires { length code.now.instructions ≤ most_instructions }
     ensures bad { IsErrOf result LoadFault.BadCells ↔ AreBadCells code.now.names cells }
     ensures told { IfOk result (λ e. TellsTruth code.now cells setup.now e.rows.items) }
+    ensures acts { IfOk result (λ e. TellsActs code.now cells setup.now e.rows.items) }
     ensures found { IfOk result (λ e. TellsStates code.now cells setup.now e.rows.items e.states) }
     ensures cut { IfOk result (λ e. e.complete ≡ false → extent.limit ≤ e.states) }
     ensures over { IfOk result (λ e. TellsOver code.now cells setup.now extent.threads e.rows.items) }

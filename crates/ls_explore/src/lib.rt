@@ -5,7 +5,6 @@ mod exploring;
 mod hints;
 mod links;
 mod rows;
-mod same;
 mod searching;
 mod table;
 mod walking;

@@ -2,11 +2,11 @@
 
 ghost use Rattle.std.specs.Prelude.{◌≡◌, Decides, IfOk, IsPermutation, IsSorted, IsTrue, false};
 ghost use Rattle.ls_explore.specs.Rows.{IsEnd, ending_of, row_order};
-ghost use Rattle.ls_explore_laws.specs.Explored.{IsBeginning};
+ghost use Rattle.ls_events.specs.Beginnings.{IsBeginning};
 
-use crate::same::are_same_events;
 use crate::searching::Seen;
 use ls_events::event::Event;
+use ls_events::same::are_same_events;
 use std::alloc::{AllocError, Global};
 use std::cmp::Ordering;
 use std::marker::Model;

@@ -15,6 +15,7 @@ use crate::rows::{Ending, Row, ending_of, in_order, is_end};
 use crate::searching::{Searched, Seen};
 use crate::walking::{Ground, Place, stand};
 use ls_events::event::{Event, Happening};
+use ls_events::kind::Kind;
 use ls_events::value::Value;
 use ls_machine::Machine;
 use ls_machine_moves::stirring::stir;
@@ -30,19 +31,37 @@ pub(crate) struct Table {
     begun: HashMap<u64, usize>,
 }
 
+/// A number for each kind of exception.
+fn number_of_kind(kind: Kind) -> u64 {
+    match kind {
+        Kind::Arithmetic => 1,
+        Kind::NullPointer => 2,
+        Kind::ArrayIndexOutOfBounds => 3,
+        Kind::NegativeArraySize => 4,
+        Kind::IllegalMonitorState => 5,
+        Kind::StackOverflow => 6,
+        Kind::Error => 7,
+    }
+}
+
 /// A number made of another and of what happened to a call.
 fn stir_happening(seed: u64, happening: Happening) -> u64 {
     match happening {
         Happening::Called => stir(seed, 1),
         Happening::Returned(None) => stir(seed, 2),
-        Happening::Returned(Some(Value::Int(n))) => stir(stir(seed, 3), n.unsigned_abs() as u64),
+        Happening::Returned(Some(Value::Int(n))) => {
+            stir(
+                stir(seed, if n < 0 { 9 } else { 3 }),
+                n.unsigned_abs() as u64,
+            )
+        }
         Happening::Returned(Some(Value::Boolean(b))) => stir(seed, if b { 4 } else { 5 }),
         Happening::Returned(Some(Value::Reference(r))) => stir(stir(seed, 6), r),
         Happening::Returned(Some(Value::Pair { reference, mark: _ })) => stir(
             stir(seed, 7),
             reference,
         ),
-        Happening::Trapped(_) => stir(seed, 8),
+        Happening::Trapped(kind) => stir(stir(seed, 8), number_of_kind(kind)),
     }
 }
 

@@ -1,6 +1,6 @@
 -- What `explore` may answer.
-use Rattle.std.proofs.Common.{◌≡◌, ◌↔◌, ◌<◌, ◌≤◌, ◌∙◌, ◌⊎◌, inl, inr, ℕ, zero, suc, Bool, true, false, List, [], ◌∷◌}
-use Rattle.std.proofs.Common.{Result, Ok, Err, refl, sym, ap, subst, arith}
+use Rattle.std.proofs.Common.{◌≡◌, ◌&&◌, ◌↔◌, ◌<◌, ◌≤◌, ◌⊎◌, inl, inr, ℕ, zero, suc, Bool, true, false, List, [], ◌∷◌}
+use Rattle.std.proofs.Common.{Result, Ok, Err, refl, sym, subst, arith}
 use Rattle.std.specs.Prelude.{All, IsErrOf, IsSorted, slice_index_or, length}
 use Rattle.ls_machine.specs.Room.{AreBadCells}
 use Rattle.ls_meaning.specs.Runs.{source_history}
@@ -8,7 +8,7 @@ use Rattle.ls_image.specs.Images.{code_of_image}
 use Rattle.ls_image.specs.declared.image.Image.{Image}
 use Rattle.ls_translation.specs.Texts.{file_of, program_of}
 use Rattle.ls_explore.specs.Rows.{AreApart, TellStates, Told, row_order}
-use Rattle.ls_explore_images.specs.Faults.{IsEndless, IsOfSetup}
+use Rattle.ls_explore_images.specs.Faults.{AreBadStates, AreGood, IsEndless, IsOfSetup}
 use Rattle.ls_explore_images.specs.Tellings.{TellAll, TellTruth, TellWhole, schedule_of}
 use Rattle.ls_explore_images.specs.declared.exploring.ImageExploration.{ImageExploration}
 use Rattle.ls_explore_images.specs.declared.fault.ExploreFault.{ExploreFault}
@@ -18,21 +18,20 @@ use Rattle.ls_text_laws.specs.Histories.{IsReadable}
 use Rattle.ls_translation.specs.declared.fault.TranslationFault.{TranslationFault}
 use Rattle.ls_translation.specs.declared.fault.TranslationFault.TheVariants as translation
 use Rattle.ls_verdicts.specs.Verdicts.{IsHistoryOf}
-use Rattle.ls_faults.specs.declared.fault.ToolFault.{ToolFault}
-use Rattle.ls_faults.specs.declared.fault.ToolFault.TheVariants as faults
 use Rattle.ls_faults.specs.Faults.{lifted_explore, lifted_translation}
 use Rattle.ls_faults.specs.Given.{GivesText}
 use Rattle.ls_commands.specs.Compiled.{names_of_image}
 use Rattle.ls_explore_reports.specs.declared.printing.Exploring.{Exploring}
 use Rattle.ls_explore_commands.specs.Explored.{Explored, Endless, IsExploration, NoCells, NoStates, NotTranslated}
 use Rattle.ls_explore_commands.specs.Explored.{RowTooLong, Tells, names_in}
-use Rattle.ls_explore_reports.specs.Judged.{AreHistories, IsJudged, Judged, rows_of}
+use Rattle.ls_explore_reports.specs.Judged.{AreHistories, IsJudged, IsToldLinear, Judged, rows_of}
+use Rattle.ls_explore_reports.specs.Laws.{LinearityIsMeant, NoneIllegal, NoneIsNotLinearizable}
 use Rattle.ls_explore_reports.specs.Long.{HasLong}
 use Rattle.ls_explore_reports.specs.Printing.{explored_text}
 use Rattle.ls_explore_commands.specs.Readable.{SourceRunsAreReadable}
 
 -- what the rows tell, with the verdicts on them
-pub judged_so : (i : Image) (cells limit k : ℕ) (rows : List Told) (judged : List Judged) (kept : ℕ)
+pub judged_so : LinearityIsMeant → NoneIllegal → NoneIsNotLinearizable → (i : Image) (cells limit k : ℕ) (rows : List Told) (judged : List Judged) (kept : ℕ)
     (complete roomy : Bool) →
     rows_of judged ≡ rows →
     TellTruth (file_of i) (program_of i) k rows →
@@ -41,17 +40,32 @@ pub judged_so : (i : Image) (cells limit k : ℕ) (rows : List Told) (judged : L
     (complete ≡ true → TellAll (file_of i) (program_of i) cells rows) →
     (complete ≡ true → roomy ≡ true → TellWhole (file_of i) (program_of i) rows) → AreApart rows →
     IsSorted row_order rows → All (IsJudged (program_of i)) judged →
+    All (IsToldLinear (complete && roomy) rows) judged →
     IsExploration i cells limit k judged kept complete roomy
-judged_so i cells limit k rows judged kept complete roomy e truth states cut all whole apart order verdicts = record {
-  truth = subst (TellTruth (file_of i) (program_of i) k) (sym e) truth;
-  states = subst (λ rs. TellStates (file_of i) (program_of i) k rs kept) (sym e) states;
-  cut = cut;
-  all = λ yes. subst (TellAll (file_of i) (program_of i) cells) (sym e) (all yes);
-  whole = λ yes room. subst (TellWhole (file_of i) (program_of i)) (sym e) (whole yes room);
-  apart = subst AreApart (sym e) apart;
-  order = subst (IsSorted row_order) (sym e) order;
-  verdicts = verdicts;
-}
+judged_so meant legal linearizable i cells limit k rows judged kept complete roomy e truth states cut all whole apart
+    order verdicts linear =
+    let so : TellTruth (file_of i) (program_of i) k (rows_of judged) =
+    subst (TellTruth (file_of i) (program_of i) k) (sym e) truth in
+    let each : complete ≡ true → roomy ≡ true → TellWhole (file_of i) (program_of i) (rows_of judged) =
+    λ yes room. subst (TellWhole (file_of i) (program_of i)) (sym e) (whole yes room) in
+    let told : All (IsToldLinear (complete && roomy) (rows_of judged)) judged =
+    subst (λ rs. All (IsToldLinear (complete && roomy) rs) judged) (sym e) linear in
+    record {
+      truth = so;
+      states = subst (λ rs. TellStates (file_of i) (program_of i) k rs kept) (sym e) states;
+      cut = cut;
+      all = λ yes. subst (TellAll (file_of i) (program_of i) cells) (sym e) (all yes);
+      whole = each;
+      apart = subst AreApart (sym e) apart;
+      order = subst (IsSorted row_order) (sym e) order;
+      verdicts = verdicts;
+      linear = told;
+      meant = meant (file_of i) (program_of i) k complete roomy judged so each told;
+      none_illegal = λ yes room decided none.
+          legal (file_of i) (program_of i) judged verdicts decided none (each yes room);
+      all_linearizable = λ yes room known none.
+          linearizable (file_of i) (program_of i) k (complete && roomy) judged told known none so (each yes room);
+    }
 
 any_default : (xs : List Told) (n : ℕ) (d e : Told) → n < length xs → slice_index_or xs n d ≡ slice_index_or xs n e
 any_default [] n d e h = absurd (omega arith)
@@ -76,24 +90,27 @@ module _ (i : Image) (e : Exploring) where
   Refused f = Err f
 
   pub explore_fails : (f : ExploreFault) →
-      (IsErrOf (Refused f) explore.BadStates ↔ ((e.states ≡ 0) ⊎ (16777216 < e.states))) →
-      (IsErrOf (Refused f) explore.BadCells → AreBadCells (code_of_image i).names e.cells) →
+      (IsErrOf (Refused f) explore.BadCells ↔ AreBadCells (code_of_image i).names e.cells) →
+      (IsErrOf (Refused f) explore.BadStates ↔
+      (¬ AreBadCells (code_of_image i).names e.cells × AreBadStates e.states)) →
       IsErrOf (Refused f) explore.Memory ⊎ (IsErrOf (Refused f) explore.SetupEndless ↔
       IsEndless (file_of i) (program_of i) (code_of_image i) e.cells e.states) →
-      IsOfSetup (file_of i) (program_of i) (code_of_image i) e.cells f →
+      IsOfSetup (file_of i) (program_of i) (code_of_image i) e.cells e.states f →
       GivesText (Explored i e) (Err (lifted_explore f))
-  explore_fails explore.Memory many bad endless setup = tt
-  explore_fails explore.BadCells many bad endless setup = NoCells (bad refl)
-  explore_fails explore.BadStates many bad endless setup = NoStates (many.0 refl)
-  explore_fails explore.SetupEndless many bad (inl wrong) setup = absurd cc
-  explore_fails explore.SetupEndless many bad (inr endless) setup = Endless (endless.0 refl).goes
-  explore_fails (explore.Setup f) many bad endless setup = NotTranslated setup.0 f setup.1 setup.2
+  explore_fails explore.Memory bad many endless setup = tt
+  explore_fails explore.BadCells bad many endless setup = NoCells (bad.0 refl)
+  explore_fails explore.BadStates bad many endless setup = NoStates (many.0 refl).0 (many.0 refl).1
+  explore_fails explore.SetupEndless bad many (inl wrong) setup = absurd cc
+  explore_fails explore.SetupEndless bad many (inr endless) setup =
+      let h = endless.0 refl in
+      Endless h.good h.goes
+  explore_fails (explore.Setup f) bad many endless setup = NotTranslated setup.1 f setup.0 setup.2 setup.3
 
   -- a text isn't made where memory runs out, or a row's schedule is too long
   pub long_fails : {T : Type 0} (f : TranslationFault) (k kept : ℕ) (judged slice : List Judged) (complete roomy : Bool)
       →
       (f ≡ translation.Memory) ⊎ (f ≡ translation.ResultTooLong) →
-      (AreBadCells (code_of_image i).names e.cells → ⊥) → IsExploration i e.cells e.states k judged kept complete roomy
+      AreGood (code_of_image i) e.cells e.states → IsExploration i e.cells e.states k judged kept complete roomy
       → slice ≡ judged →
       (IsErrOf {T = T} (Err f) translation.ResultTooLong → HasLong k (rows_of slice)) →
       GivesText (Explored i e) (Err (lifted_translation f))
@@ -107,7 +124,7 @@ module _ (i : Image) (e : Exploring) where
       (long refl))
 
   pub explore_tells : (k : ℕ) (judged : List Judged) (kept : ℕ) (complete roomy : Bool) (t : Text) →
-      (AreBadCells (code_of_image i).names e.cells → ⊥) →
+      AreGood (code_of_image i) e.cells e.states →
       IsExploration i e.cells e.states k judged kept complete roomy →
       t ≡ explored_text (names_in i) (names_of_image i) k judged kept complete roomy e → Explored i e (Ok t)
   explore_tells k judged kept complete roomy t good is said = subst (λ x. Explored i e (Ok x)) (sym said)

@@ -1,6 +1,7 @@
 -- What the command `explore` says.
-use Rattle.std.specs.Prelude.{◌≡◌, ◌<◌, ◌≤◌, ◌⊎◌, ℕ, Bool, true, false, List, All, IsSorted, Result, Ok, Err}
+use Rattle.std.specs.Prelude.{◌≡◌, ◌&&◌, ◌≤◌, ℕ, Bool, true, false, List, All, IsSorted, Result, Ok, Err}
 use Rattle.ls_machine.specs.Room.{AreBadCells}
+use Rattle.ls_meaning.specs.Runs.{source_history}
 use Rattle.ls_types.specs.CheckedFile.{outcome_of}
 use Rattle.ls_image.specs.Images.{checked_of, code_of_image}
 use Rattle.ls_image.specs.declared.image.Image.{Image}
@@ -8,7 +9,9 @@ use Rattle.ls_translation.specs.Texts.{file_of, program_of}
 use Rattle.ls_translation.specs.declared.fault.TranslationFault.{TranslationFault}
 use Rattle.ls_translation.specs.declared.fault.TranslationFault.TheVariants as translation
 use Rattle.ls_explore.specs.Rows.{AreApart, TellStates, row_order}
-use Rattle.ls_explore_images.specs.Faults.{StaysSource}
+use Rattle.ls_linearizable.specs.Linearizable.{IsLinearizable}
+use Rattle.ls_explore_verdicts.specs.Verdicts.{HasLegalOrder}
+use Rattle.ls_explore_images.specs.Faults.{AreBadStates, AreGood, StaysSource}
 use Rattle.ls_explore_images.specs.Settings.{EndsAt, GoesOnFor}
 use Rattle.ls_explore_images.specs.Tellings.{TellAll, TellTruth, TellWhole}
 use Rattle.ls_explore_images.specs.declared.fault.ExploreFault.TheVariants as explore
@@ -18,7 +21,8 @@ use Rattle.ls_faults.specs.declared.fault.ToolFault.{ToolFault}
 use Rattle.ls_faults.specs.declared.fault.ToolFault.TheVariants as faults
 use Rattle.ls_commands.specs.Compiled.{AnswersOn, names_of_image}
 use Rattle.ls_explore_reports.specs.declared.printing.Exploring.{Exploring}
-use Rattle.ls_explore_reports.specs.Judged.{IsJudged, Judged, rows_of}
+use Rattle.ls_explore_reports.specs.Judged.{AreMeant, IsJudged, IsToldLinear, Judged, are_decided, are_known}
+use Rattle.ls_explore_reports.specs.Judged.{count_illegal, count_not_linearizable, rows_of}
 use Rattle.ls_explore_reports.specs.Long.{HasLong}
 use Rattle.ls_explore_reports.specs.Printing.{explored_text}
 
@@ -31,9 +35,10 @@ names_in i = record {
   program = program_of i;
 }
 
--- Rows that tell the truth, the shortest schedule first, no two with one history, each with its verdict. Each of so
--- many states has a row. Where they are complete they tell of all schedules that fit the cells; and where no schedule
--- runs out of cells, of all. Where they are cut, so many states were kept as may be.
+-- Rows that tell the truth, the shortest schedule first, no two with one history, each with its verdict, and with what
+-- the rows say of its linearizability. Each of so many states has a row. Where they are complete they tell of all
+-- schedules that fit the cells; and where no schedule runs out of cells, of all. Where they are cut, so many states
+-- were kept as may be.
 pub record IsExploration (i : Image) (cells limit k : ℕ) (judged : List Judged) (kept : ℕ) (complete roomy : Bool) :
     Type 0 where
   pub truth : TellTruth (file_of i) (program_of i) k (rows_of judged)
@@ -44,24 +49,37 @@ pub record IsExploration (i : Image) (cells limit k : ℕ) (judged : List Judged
   pub apart : AreApart (rows_of judged)
   pub order : IsSorted row_order (rows_of judged)
   pub verdicts : All (IsJudged (program_of i)) judged
+  pub linear : All (IsToldLinear (complete && roomy) (rows_of judged)) judged
+  pub meant : AreMeant (file_of i) (program_of i) judged
+  -- what `illegal 0` and `not linearizable 0` say beside `complete`
+  pub none_illegal : complete ≡ true → roomy ≡ true → are_decided judged ≡ true → count_illegal judged ≡ 0 →
+      (schedule : List ℕ) → HasLegalOrder (program_of i) (source_history (file_of i) (program_of i) schedule)
+  pub all_linearizable : complete ≡ true → roomy ≡ true → are_known judged ≡ true → count_not_linearizable judged ≡ 0 →
+      (schedule : List ℕ) →
+      IsLinearizable (file_of i) (program_of i) (source_history (file_of i) (program_of i) schedule)
 
 -- the text of an exploration; or why there is none
 pub data Explored (i : Image) (e : Exploring) : Result Text ToolFault → Type 0 where
   Tells : (k : ℕ) (judged : List Judged) (kept : ℕ) (complete roomy : Bool) →
-      ¬ AreBadCells (code_of_image i).names e.cells →
+      AreGood (code_of_image i) e.cells e.states →
       IsExploration i e.cells e.states k judged kept complete roomy →
       Explored i e (Ok (explored_text (names_in i) (names_of_image i) k judged kept complete roomy e))
-  NoStates : ((e.states ≡ 0) ⊎ (16777216 < e.states)) → Explored i e (Err (faults.Explore explore.BadStates))
   NoCells : AreBadCells (code_of_image i).names e.cells → Explored i e (Err faults.BadCells)
-  Endless : GoesOnFor (file_of i) (program_of i) 100001 → Explored i e (Err (faults.Explore explore.SetupEndless))
+  NoStates : ¬ AreBadCells (code_of_image i).names e.cells →
+      AreBadStates e.states →
+      Explored i e (Err (faults.Explore explore.BadStates))
+  Endless : AreGood (code_of_image i) e.cells e.states →
+      GoesOnFor (file_of i) (program_of i) 100001 →
+      Explored i e (Err (faults.Explore explore.SetupEndless))
   -- what the setup makes has no room, or its instructions are more than a schedule may have
   NotTranslated : (k : ℕ) (f : TranslationFault) →
+      AreGood (code_of_image i) e.cells e.states →
       EndsAt (file_of i) (program_of i) k →
       StaysSource (file_of i) (program_of i) (code_of_image i) e.cells k f →
       Explored i e (Err (faults.Translation f))
   -- so are the steps of a row
   RowTooLong : (k : ℕ) (judged : List Judged) (kept : ℕ) (complete roomy : Bool) →
-      ¬ AreBadCells (code_of_image i).names e.cells →
+      AreGood (code_of_image i) e.cells e.states →
       IsExploration i e.cells e.states k judged kept complete roomy → HasLong k (rows_of judged) →
       Explored i e (Err (faults.Translation translation.ResultTooLong))
 

@@ -1,6 +1,6 @@
 // The command `explore`.
 
-ghost use Rattle.std.specs.Prelude.{◌≡◌};
+ghost use Rattle.std.specs.Prelude.{◌≡◌, ◌&&◌};
 ghost use Rattle.ls_explore_commands.specs.Explored.{Explored, ExploresTo, names_in};
 ghost use Rattle.ls_explore_commands.specs.Readable.{SourceRunsAreReadable};
 ghost use Rattle.ls_explore.specs.Watching.{GoesOn};
@@ -11,6 +11,7 @@ ghost use Rattle.ls_labels.specs.Names.{names_of};
 use ls_compiler::compile::compile;
 use ls_explore::Watch;
 use ls_explore_images::explore_image;
+use ls_explore_reports::laws::{linearity_is_meant, none_is_illegal, none_is_not_linearizable};
 use ls_explore_reports::{Exploring, judge_rows, print_exploration};
 use ls_faults::fault::ToolFault;
 use ls_image::image::Image;
@@ -32,6 +33,13 @@ fn names_in(image: &Image) -> Names<'_>
     }
 }
 
+/// Whether the rows tell of every schedule.
+fn is_whole(complete: bool, roomy: bool) -> bool
+    ensures { result ≡ (complete && roomy) }
+{
+    complete && roomy
+}
+
 /// The histories of all schedules of the image's program, with a verdict on each.
 fn explored<W: Watch>(
     alloc: Global,
@@ -44,15 +52,20 @@ fn explored<W: Watch>(
     ensures watched { GoesOn W.Since watch.old watch.new }
 {
     let found = explore_image(alloc, image, exploring.cells, exploring.states, watch)?;
-    let judged = judge_rows(alloc, found.rows.as_slice(), image.program())?;
+    let whole = is_whole(found.complete, found.roomy);
+    let judged = judge_rows(alloc, found.rows.as_slice(), image.program(), whole)?;
+    linearity_is_meant();
+    none_is_illegal();
+    none_is_not_linearizable();
     let text = print_exploration(alloc, names_in(image), &found, judged.as_slice(), exploring)?;
     Ok(text)
 }
 
 /// The histories of all schedules of the compiled program, on a machine with so many cells, where at most so many
-/// states are kept: each with how it ends, the verdict on it, and a schedule of source steps. With `illegal` those
-/// without a legal order are printed alone, with `first` the first of those that would be printed. The last line has
-/// the counts, and whether these are all. While it goes on it tells how many states there are.
+/// states are kept: each with how it ends, the verdict on it, and a schedule of source steps. With `illegal` only those
+/// of a set without a legal order are printed, and others that are not linearizable; with `first` the first of those
+/// that would be printed. The last line has the counts, and whether these are all. While it goes on it tells how many
+/// states there are.
 ///
 /// Refused as `compile` is; else as `explore_image` is; and as a schedule of over 1,000,000 steps is.
 pub fn explore<W: Watch>(

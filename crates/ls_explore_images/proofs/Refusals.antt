@@ -1,6 +1,7 @@
 -- Refusals that come late.
 use Rattle.ls_events.specs.Limits.{most_steps}
-use Rattle.std.proofs.Common.{◌≡◌, ◌↔◌, ◌<◌, ◌≤◌, ◌⊎◌, inl, inr, ℕ, List, Result, Ok, Err, refl, subst, arith, length}
+use Rattle.std.proofs.Common.{◌≡◌, ◌↔◌, ◌<◌, ◌⊎◌, ◌∙◌, inl, inr, ℕ, Bool, true, false, List, Result, Ok, Err, refl, sym, subst}
+use Rattle.std.proofs.Common.{length}
 use Rattle.std.proofs.Common.{replicate}
 use Rattle.std.specs.Prelude.{IfErr, IsErrOf}
 use Rattle.ls_checked.specs.CheckedTree.{File}
@@ -11,7 +12,8 @@ use Rattle.ls_machine.specs.Room.{AreBadCells}
 use Rattle.ls_translation.specs.Room.{IsFirstUnfit}
 use Rattle.ls_translation.specs.declared.fault.TranslationFault.{TranslationFault}
 use Rattle.ls_translation.specs.declared.fault.TranslationFault.TheVariants as translation
-use Rattle.ls_explore_images.specs.Faults.{IsEndless, IsLate, IsOfSetup, fault_of_translation}
+use Rattle.ls_explore_images.specs.Faults.{AreBadStates, AreGood, IsEndless, IsLate, IsOfSetup}
+use Rattle.ls_explore_images.specs.Faults.{fault_of_translation}
 use Rattle.ls_explore_images.specs.Settings.{EndsAt, GoesOnFor}
 use Rattle.ls_explore_images.specs.declared.fault.ExploreFault.{ExploreFault}
 use Rattle.ls_explore_images.specs.declared.fault.ExploreFault.TheVariants as explore
@@ -33,46 +35,50 @@ module _ (file : File) (program : Program) (code : Code) (cells k : ℕ) where
       (λ s. most_steps < length (to_machine file program code cells s)) e (long refl)
 
   -- what a late refusal is, and what it isn't
-  module _ {T : Type 0} (states : ℕ) where
+  module _ {T : Type 0} (states : ℕ) (good : AreGood code cells states) where
     pub late_states : (r : Result T ExploreFault) →
         IfErr r (IsLate file program code cells k) →
-        ((states ≡ 0) ⊎ (16777216 < states) → ⊥) →
-        IsErrOf r explore.BadStates ↔ ((states ≡ 0) ⊎ (16777216 < states))
-    late_states (Ok x) late good = (λ e. absurd cc, λ many. absurd (good many))
-    late_states (Err explore.BadStates) late good = absurd late
-    late_states (Err explore.Memory) late good = (λ e. absurd cc, λ many. absurd (good many))
-    late_states (Err explore.BadCells) late good = (λ e. absurd cc, λ many. absurd (good many))
-    late_states (Err explore.SetupEndless) late good = absurd late
-    late_states (Err (explore.Setup f)) late good = (λ e. absurd cc, λ many. absurd (good many))
+        IsErrOf r explore.BadStates ↔ (¬ AreBadCells code.names cells × AreBadStates states)
+    late_states (Ok x) late = (λ e. absurd cc, λ many. absurd (good.states many.1))
+    late_states (Err explore.BadStates) late = absurd late
+    late_states (Err explore.Memory) late = (λ e. absurd cc, λ many. absurd (good.states many.1))
+    late_states (Err explore.BadCells) late = (λ e. absurd cc, λ many. absurd (good.states many.1))
+    late_states (Err explore.SetupEndless) late = absurd late
+    late_states (Err (explore.Setup f)) late = (λ e. absurd cc, λ many. absurd (good.states many.1))
 
     pub late_cells : (r : Result T ExploreFault) →
         IfErr r (IsLate file program code cells k) →
-        IsErrOf r explore.BadCells →
-        AreBadCells code.names cells
-    late_cells (Err explore.BadCells) late e = late
-    late_cells (Ok x) late e = absurd cc
-    late_cells (Err explore.BadStates) late e = absurd late
-    late_cells (Err explore.Memory) late e = absurd cc
-    late_cells (Err explore.SetupEndless) late e = absurd late
-    late_cells (Err (explore.Setup f)) late e = absurd cc
+        IsErrOf r explore.BadCells ↔ AreBadCells code.names cells
+    late_cells (Err explore.BadCells) late = (λ e. late, λ bad. refl)
+    late_cells (Ok x) late = (λ e. absurd cc, λ bad. absurd (good.cells bad))
+    late_cells (Err explore.BadStates) late = absurd late
+    late_cells (Err explore.Memory) late = (λ e. absurd cc, λ bad. absurd (good.cells bad))
+    late_cells (Err explore.SetupEndless) late = absurd late
+    late_cells (Err (explore.Setup f)) late = (λ e. absurd cc, λ bad. absurd (good.cells bad))
 
-  pub late_setup : {T : Type 0} (r : Result T ExploreFault) →
-      EndsAt file program k →
-      IfErr r (IsLate file program code cells k) →
-      IfErr r (IsOfSetup file program code cells)
-  late_setup (Ok x) ends late = tt
-  late_setup (Err explore.Memory) ends late = tt
-  late_setup (Err explore.BadCells) ends late = tt
-  late_setup (Err explore.BadStates) ends late = tt
-  late_setup (Err explore.SetupEndless) ends late = tt
-  late_setup (Err (explore.Setup f)) ends late = (k, ends, late)
+    pub late_setup : (r : Result T ExploreFault) →
+        EndsAt file program k →
+        IfErr r (IsLate file program code cells k) →
+        IfErr r (IsOfSetup file program code cells states)
+    late_setup (Ok x) ends late = tt
+    late_setup (Err explore.Memory) ends late = tt
+    late_setup (Err explore.BadCells) ends late = tt
+    late_setup (Err explore.BadStates) ends late = tt
+    late_setup (Err explore.SetupEndless) ends late = tt
+    late_setup (Err (explore.Setup f)) ends late = (good, k, ends, late)
 
 -- ---- the fault of a setup that goes on
 
--- a number of states that isn't refused
-pub not_many : (states : ℕ) → (states ≡ 0 → ⊥) → states ≤ 16777216 → (states ≡ 0) ⊎ (16777216 < states) → ⊥
-not_many states some few (inl none) = some none
-not_many states some few (inr many) = omega arith
+-- numbers that are not refused
+pub good_numbers : (code : Code) (cells states : ℕ) (bad many : Bool) → (bad ≡ true ↔ AreBadCells code.names cells) →
+    bad ≡ false → (many ≡ true ↔ AreBadStates states) → many ≡ false → AreGood code cells states
+good_numbers code cells states bad many is_bad no_bad is_many no_many = record {
+  cells = λ h. not_both (sym (is_bad.1 h) ∙ no_bad);
+  states = λ h. not_both (sym (is_many.1 h) ∙ no_many);
+}
+  where
+    not_both : true ≡ false → ⊥
+    not_both e = cc
 
 -- exactly where it goes on, but where memory runs out
 abbrev pub EndlessOnly : {T : Type 0} → File → Program → Code → ℕ → ℕ → Result T ExploreFault → Type 0
@@ -83,17 +89,14 @@ module _ {T : Type 0} (file : File) (program : Program) (code : Code) (cells sta
   abbrev Only : Result T ExploreFault → Type 0
   Only r = EndlessOnly file program code cells states r
 
-  pub endless_states : ((states ≡ 0) ⊎ (16777216 < states)) → Only (Err explore.BadStates)
-  endless_states bad = inr (λ e. absurd cc, λ h. absurd (h.states bad))
+  pub endless_states : AreBadStates states → Only (Err explore.BadStates)
+  endless_states bad = inr (λ e. absurd cc, λ h. absurd (h.good.states bad))
 
   pub endless_cells : AreBadCells code.names cells → Only (Err explore.BadCells)
-  endless_cells bad = inr (λ e. absurd cc, λ h. absurd (h.cells bad))
+  endless_cells bad = inr (λ e. absurd cc, λ h. absurd (h.good.cells bad))
 
-  pub endless_goes : ((states ≡ 0) ⊎ (16777216 < states) → ⊥) →
-      (AreBadCells code.names cells → ⊥) →
-      GoesOnFor file program 100001 →
-      Only (Err explore.SetupEndless)
-  endless_goes some good goes = inr (λ e. record { states = some; cells = good; goes = goes }, λ h. refl)
+  pub endless_goes : AreGood code cells states → GoesOnFor file program 100001 → Only (Err explore.SetupEndless)
+  endless_goes good goes = inr (λ e. record { good = good; goes = goes }, λ h. refl)
 
   pub endless_memory : Only (Err explore.Memory)
   endless_memory = inl refl
@@ -111,3 +114,14 @@ module _ {T : Type 0} (file : File) (program : Program) (code : Code) (cells sta
   endless_late k (Err explore.BadStates) late ends = inr (λ e. absurd cc, λ h. absurd (ends h.goes))
   endless_late k (Err explore.SetupEndless) late ends = absurd late
   endless_late k (Err (explore.Setup f)) late ends = inr (λ e. absurd cc, λ h. absurd (ends h.goes))
+
+-- a setup that goes on is no fault of the numbers
+module _ {T : Type 0} (code : Code) (cells states : ℕ) (good : AreGood code cells states) where
+  abbrev Endless : Result T ExploreFault
+  Endless = Err explore.SetupEndless
+
+  pub endless_no_cells : IsErrOf Endless explore.BadCells ↔ AreBadCells code.names cells
+  endless_no_cells = (λ e. absurd cc, λ bad. absurd (good.cells bad))
+
+  pub endless_no_states : IsErrOf Endless explore.BadStates ↔ (¬ AreBadCells code.names cells × AreBadStates states)
+  endless_no_states = (λ e. absurd cc, λ many. absurd (good.states many.1))

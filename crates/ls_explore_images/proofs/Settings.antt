@@ -16,7 +16,7 @@ use Rattle.ls_headline.specs.Translations.{has_setup_ended}
 use Rattle.ls_source.specs.Progress.{Progress, begun, gone_on}
 use Rattle.ls_translation.specs.MachineRuns.{has_acted}
 use Rattle.ls_translation.proofs.SourceSteps.{after_step_is}
-use Rattle.ls_explore_laws.specs.Ends.{IsStill}
+use Rattle.ls_meaning.specs.Still.{IsStill}
 use Rattle.ls_explore_laws.proofs.SourceSteps.{run-append, trace-append}
 use Rattle.ls_explore_laws.proofs.SettingUp.{one_more}
 use Rattle.ls_explore_images.specs.Settings.{EndsAt, GoesOnAfter, GoesOnFor, SticksAt}

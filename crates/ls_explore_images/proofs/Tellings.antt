@@ -18,10 +18,12 @@ use Rattle.ls_linker_laws.specs.Runs.{Runs}
 use Rattle.ls_translation.specs.RoundTrips.{acting_steps}
 use Rattle.ls_translation.proofs.Promises.{back_history}
 use Rattle.ls_headline.specs.InWords.{births, in_words, numbered}
-use Rattle.ls_explore_laws.specs.Ends.{HasSteps, IsOver}
+use Rattle.ls_explore_laws.specs.Ends.{HasSteps}
+use Rattle.ls_meaning.specs.Still.{IsOver}
 use Rattle.ls_explore_laws.specs.Explored.{HasHistories, IsSetUp}
 use Rattle.ls_explore_laws.specs.Stuck.{IsAllOf}
 use Rattle.ls_explore.specs.declared.rows.Ending.TheVariants as ending
+use Rattle.ls_explore.specs.Rows.{TellsActs}
 use Rattle.ls_explore.specs.Rows.{AreApart, IsEnd, IsToldBy, TellStates, TellsAll, TellsEnds, TellsOver, TellsStates}
 use Rattle.ls_explore.specs.Rows.{TellsTruth, TellsWhole, Told, row_order}
 use Rattle.ls_explore_images.specs.Settings.{EndsAt}
@@ -77,10 +79,13 @@ module _ (file : File) (program : Program) (code : Code) (cells : ℕ) (runs : �
       (up : IsSetUp file program code cells k (machine_run (loaded code cells) setup))
       (count : length program.threads ≡ threads) where
     pub tell_truth : TellsTruth code cells setup rows →
+        TellsActs code cells setup rows →
         TellsOver code cells setup threads rows →
         TellTruth file program k rows
-    tell_truth told over = record {
+    tell_truth told does over = record {
       told = λ r there. told file program k has_histories up r there;
+      acts = λ r there. (does file program k (has_steps file program code cells runs good) up r there).0;
+      goes = λ r there is. (does file program k (has_steps file program code cells runs good) up r there).1 is;
       over = λ r there is. over file program k good acts up count r there is;
     }
 
@@ -119,8 +124,14 @@ module _ (file : File) (program : Program) (k : ℕ) (all : IsAllOf file program
   of_row r there = ap (λ (z : Told). replicate k 0 ++ z.path) (sym (one_there row r there)) ∙
       ap (λ p. replicate k 0 ++ p) no_path ∙ append-nil (replicate k 0)
 
-  pub stuck_truth : TellTruth file program k (row ∷ [])
-  stuck_truth = record {
+  pub stuck_truth : map (λ (e : Entry Value). e.thread) (source_trace file program (replicate k 0)) ≡ replicate k 0 →
+      TellTruth file program k (row ∷ [])
+  stuck_truth does = record {
+    acts = λ r there.
+        subst (λ ts. map (λ (e : Entry Value). e.thread) (source_trace file program ts) ≡ ts) (sym (of_row r there)) does;
+    goes = λ r there is.
+        let wrong : ending.Over ≡ ending.GoesOn = sym over ∙ ap (λ (z : Told). z.ending) (one_there row r there) ∙ is in
+        absurd cc;
     told = λ r there. ap (λ (z : Told). z.history) (sym (one_there row r there)) ∙ has ∙
         ap (source_history file program) (sym (of_row r there));
     over = λ r there is. subst (λ ts. IsOver file program (source_run file program ts)) (sym (of_row r there)) all.over;

@@ -46,17 +46,25 @@ IsLate file program code cells k BadCells = AreBadCells code.names cells
 IsLate file program code cells k BadStates = ⊥
 IsLate file program code cells k SetupEndless = ⊥
 
--- A fault of the setup's run on the machine comes only where the setup's source ends and its run goes so; of other
--- faults more is said elsewhere.
-abbrev pub IsOfSetup : File → Program → Code → ℕ → ExploreFault → Type 0
-IsOfSetup file program code cells Memory = Unit {0}
-IsOfSetup file program code cells (Setup f) = (k : ℕ) × EndsAt file program k × StaysSource file program code cells k f
-IsOfSetup file program code cells BadCells = Unit {0}
-IsOfSetup file program code cells BadStates = Unit {0}
-IsOfSetup file program code cells SetupEndless = Unit {0}
+abbrev pub AreBadStates : ℕ → Type 0
+AreBadStates limit = (limit ≡ 0) ⊎ (16777216 < limit)
+
+-- the machine can have so many cells, and so many states may be kept
+pub record AreGood (code : Code) (count limit : ℕ) : Type 0 where
+  pub cells : ¬ AreBadCells code.names count
+  pub states : ¬ AreBadStates limit
+
+-- Bad cells are named first, then a bad number of states. A fault of the setup's run on the machine comes only where
+-- the setup's source ends and its run goes so; of other faults more is said elsewhere.
+abbrev pub IsOfSetup : File → Program → Code → ℕ → ℕ → ExploreFault → Type 0
+IsOfSetup file program code cells limit Memory = Unit {0}
+IsOfSetup file program code cells limit (Setup f) = AreGood code cells limit × (k : ℕ) × EndsAt file program k
+    × StaysSource file program code cells k f
+IsOfSetup file program code cells limit BadCells = Unit {0}
+IsOfSetup file program code cells limit BadStates = Unit {0}
+IsOfSetup file program code cells limit SetupEndless = Unit {0}
 
 -- the numbers are good, and the setup goes on after 100,000 source steps
 pub record IsEndless (file : File) (program : Program) (code : Code) (count limit : ℕ) : Type 0 where
-  pub states : ((limit ≡ 0) ⊎ (16777216 < limit)) → ⊥
-  pub cells : AreBadCells code.names count → ⊥
+  pub good : AreGood code count limit
   pub goes : GoesOnFor file program 100001

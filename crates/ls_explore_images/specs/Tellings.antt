@@ -1,20 +1,26 @@
 -- What the rows of an image tell.
-use Rattle.std.specs.Prelude.{◌≡◌, ℕ, List, ◌++◌, replicate, Contains}
+use Rattle.std.specs.Prelude.{◌≡◌, ℕ, List, [], ◌∷◌, ◌++◌, replicate, Contains}
 use Rattle.ls_checked.specs.CheckedTree.{File}
 use Rattle.ls_checked.specs.CheckedProgram.{Program}
 use Rattle.ls_meaning.specs.Runs.{source_run, source_history}
 use Rattle.ls_headline.specs.Same.{Fits}
-use Rattle.ls_explore_laws.specs.Ends.{IsOver}
-use Rattle.ls_explore.specs.declared.rows.Ending.TheVariants.{Over}
-use Rattle.ls_explore.specs.Rows.{HasEnd, IsToldBy, Told}
+use Rattle.ls_meaning.specs.Still.{IsOver}
+use Rattle.ls_explore.specs.declared.rows.Ending.TheVariants.{GoesOn, Over}
+use Rattle.ls_explore.specs.Rows.{ActAll, HasEnd, IsToldBy, Told}
 
 -- the schedule of a row: so many steps of the setup, and then one of each thread of its path
 abbrev pub schedule_of : ℕ → Told → List ℕ
 schedule_of k r = replicate k 0 ++ r.path
 
--- Each row's history is that of its schedule; and after the schedule of a row that is over no thread acts.
+-- Each row's history is that of its schedule, each of whose steps acts; after the schedule of a row that is over no
+-- thread acts, and after that of one that goes on some thread does.
 pub record TellTruth (file : File) (program : Program) (k : ℕ) (rows : List Told) : Type 0 where
   pub told : (r : Told) → Contains rows r → r.history ≡ source_history file program (schedule_of k r)
+  pub acts : (r : Told) → Contains rows r → ActAll file program (schedule_of k r)
+  pub goes : (r : Told) →
+      Contains rows r →
+      r.ending ≡ GoesOn →
+      (t : ℕ) × ActAll file program (schedule_of k r ++ t ∷ [])
   pub over : (r : Told) →
       Contains rows r →
       r.ending ≡ Over →

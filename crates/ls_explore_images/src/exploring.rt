@@ -9,7 +9,7 @@ ghost use Rattle.ls_machine.specs.Room.{AreBadCells};
 ghost use Rattle.ls_translation.specs.Texts.{file_of, program_of};
 ghost use Rattle.ls_explore.specs.Rows.{AreApart, TellStates, row_order};
 ghost use Rattle.ls_explore.specs.Watching.{GoesOn};
-ghost use Rattle.ls_explore_images.specs.Faults.{IsEndless, IsLate, IsOfSetup};
+ghost use Rattle.ls_explore_images.specs.Faults.{AreBadStates, AreGood, IsEndless, IsLate, IsOfSetup};
 ghost use Rattle.ls_explore_images.specs.Settings.{EndsAt, SticksAt};
 ghost use Rattle.ls_explore_images.specs.Tellings.{TellAll, TellTruth, TellWhole};
 
@@ -54,6 +54,13 @@ fn are_bad_cells(image: &Image, cells: usize) -> bool
     ensures { IsTrue result ↔ AreBadCells (code_of_image image.now).names cells }
 {
     cells == 0 || cells > MOST_CELLS || cells < image.code().names()
+}
+
+/// Whether so many states may not be kept.
+fn are_bad_states(states: usize) -> bool
+    ensures { IsTrue result ↔ AreBadStates states }
+{
+    states == 0 || states > MOST_STATES
 }
 
 /// What there is of a setup that stands still after so many steps: its history alone.
@@ -150,7 +157,7 @@ fn explore_rest<W: Watch>(
 /// No history stands twice. The row of the shortest schedule comes first, and of those of one length the row of the
 /// least.
 ///
-/// Refused with 61 if no states may be kept, or more than 16,777,216; else with 35 as `replay` is. Else, where memory
+/// Refused with 35 as `replay` is; else with 61 if no states may be kept, or more than 16,777,216. Else, where memory
 /// doesn't run out, refused with 62 exactly if the setup acts in each of 100,001 source steps, and has not ended in
 /// 100,000; else as the setup's translation to the machine is, with 43 or 44.
 pub fn explore_image<W: Watch>(
@@ -160,14 +167,15 @@ pub fn explore_image<W: Watch>(
     states: usize,
     watch: &mut W,
 ) -> Result<ImageExploration, ExploreFault>
-    ensures states { IsErrOf result ExploreFault.BadStates ↔ ((states ≡ 0) ⊎ (16777216 < states)) }
-    ensures cells { IsErrOf result ExploreFault.BadCells → AreBadCells (code_of_image image.now).names cells }
-    ensures good { IfOk result (λ e. AreBadCells (code_of_image image.now).names cells → ⊥) }
+    ensures cells { IsErrOf result ExploreFault.BadCells ↔ AreBadCells (code_of_image image.now).names cells }
+    ensures states { IsErrOf result ExploreFault.BadStates ↔
+        (¬ AreBadCells (code_of_image image.now).names cells × AreBadStates states) }
+    ensures good { IfOk result (λ e. AreGood (code_of_image image.now) cells states) }
     ensures endless { IsErrOf result ExploreFault.Memory ⊎
         (IsErrOf result ExploreFault.SetupEndless ↔ IsEndless (file_of image.now) (program_of image.now)
         (code_of_image image.now) cells states) }
     ensures setup { IfErr result
-        (IsOfSetup (file_of image.now) (program_of image.now) (code_of_image image.now) cells) }
+        (IsOfSetup (file_of image.now) (program_of image.now) (code_of_image image.now) cells states) }
     ensures told { IfOk result (λ e. TellTruth (file_of image.now) (program_of image.now) e.setup e.rows.items) }
     ensures found { IfOk result
         (λ e. TellStates (file_of image.now) (program_of image.now) e.setup e.rows.items e.states) }
@@ -180,11 +188,11 @@ pub fn explore_image<W: Watch>(
     ensures order { IfOk result (λ e. IsSorted row_order e.rows.items) }
     ensures watched { GoesOn W.Since watch.old watch.new }
 {
-    if states == 0 || states > MOST_STATES {
-        return Err(ExploreFault::BadStates);
-    }
     if are_bad_cells(image, cells) {
         return Err(ExploreFault::BadCells);
+    }
+    if are_bad_states(states) {
+        return Err(ExploreFault::BadStates);
     }
     let file = image.checked().file();
     let program = image.program();

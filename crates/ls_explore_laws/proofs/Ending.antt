@@ -1,30 +1,30 @@
 -- Where no thread of the source acts, none of the machine does, and the other way round.
-use Rattle.std.proofs.Common.{◌≡◌, ◌⊎◌, inl, inr, ℕ, zero, suc, ◌+◌, ◌-◌, ◌<◌, ◌≤◌, Bool, true, false, List, [], ◌∷◌}
+use Rattle.std.proofs.Common.{◌≡◌, ℕ, suc, ◌+◌, ◌-◌, ◌<◌, ◌≤◌, Bool, List, [], ◌∷◌}
 use Rattle.std.proofs.Common.{◌++◌, length, map, replicate, Option, Some, None, refl, sym, ap, ◌∙◌, subst, arith}
-use Rattle.std.proofs.Common.{length-append, slice_get, not}
+use Rattle.std.proofs.Common.{length-append}
 use Rattle.std.specs.Prelude.{Contains}
-use Rattle.std.proofs.lemmas.Bool.{cases_lt}
-use Rattle.std.proofs.lemmas.List.{map-append, length-map, length-replicate, replicate-append-replicate}
+use Rattle.std.proofs.lemmas.List.{map-append, length-map, replicate-append-replicate}
 use Rattle.ls_events.specs.declared.value.Value.{Value}
 use Rattle.ls_events.specs.declared.action.Action.{Action}
 use Rattle.ls_events.specs.declared.action.Answer.{Answer}
 use Rattle.ls_checked.specs.CheckedTree.{File}
 use Rattle.ls_checked.specs.CheckedProgram.{Program}
-use Rattle.ls_meaning.specs.Steps.{Entry, Stepped, Same, Moved, Acted, after, traced, run, trace}
-use Rattle.ls_meaning.specs.Runs.{State, start, source_run, source_trace, source_history, source_step, step}
+use Rattle.ls_meaning.specs.Steps.{Entry, Stepped, Same, Moved, Acted, after, traced, trace}
+use Rattle.ls_meaning.specs.Runs.{State, start, source_run, source_trace, source_step, step}
 use Rattle.ls_meaning.specs.declared.step.Did.{Did}
 use Rattle.ls_meaning.specs.declared.step.Did.TheVariants as did
 use Rattle.ls_code.specs.Code.{Code}
 use Rattle.ls_code.specs.Machine.{Machine, Entry as MachineEntry, loaded, machine_run, machine_trace}
 use Rattle.ls_code.specs.declared.step.Did.{Did as MachineDid}
 use Rattle.ls_code.specs.declared.step.Did.TheVariants as machine_did
-use Rattle.ls_headline.specs.Same.{Fits, IsCells}
+use Rattle.ls_headline.specs.Same.{IsCells}
 use Rattle.ls_headline.specs.Translations.{most_silent, to_source}
 use Rattle.ls_headline.proofs.Runs.{trace-append}
-use Rattle.ls_headline.specs.Acting.{ActsInTime, ActsAs, StepsAs, acts_or_stops, first_did, has_room}
+use Rattle.ls_headline.specs.Acting.{ActsInTime, ActsAs, first_did, has_room}
 use Rattle.ls_explore_laws.specs.Bursts.{burst, IsClosed}
 use Rattle.ls_explore_laws.specs.Explored.{HasHistories, IsSetUp}
-use Rattle.ls_explore_laws.specs.Ends.{AreQuiet, Ends, EndsWhole, HasSteps, IsEnd, IsOver, IsQuiet, IsStill}
+use Rattle.ls_explore_laws.specs.Ends.{AreQuiet, Ends, EndsWhole, HasSteps, IsEnd, IsQuiet}
+use Rattle.ls_meaning.specs.Still.{IsOver, IsStill}
 use Rattle.ls_explore_laws.specs.Ends.{StandsStill, StandsStillAlong}
 use Rattle.ls_explore_laws.proofs.SourceSteps.{Like, idle_still, waits_still}
 use Rattle.ls_explore_laws.proofs.SourceSteps as source_steps

@@ -1,7 +1,7 @@
 -- The setup, before which no other thread acts.
-use Rattle.std.proofs.Common.{◌≡◌, ◌⊎◌, inl, inr, ℕ, zero, suc, ◌+◌, ◌-◌, ◌<◌, ◌≤◌, Bool, true, false, List, [], ◌∷◌}
+use Rattle.std.proofs.Common.{◌≡◌, ◌⊎◌, inl, inr, ℕ, zero, suc, ◌+◌, ◌-◌, ◌<◌, ◌≤◌, true, false, List, [], ◌∷◌}
 use Rattle.std.proofs.Common.{◌++◌, length, replicate, refl, sym, ap, ◌∙◌, subst, arith, append_assoc, append-nil}
-use Rattle.std.proofs.Common.{slice_get, nat_eq, if◌then◌else◌}
+use Rattle.std.proofs.Common.{nat_eq, if◌then◌else◌}
 use Rattle.std.specs.Prelude.{Contains}
 use Rattle.std.proofs.lemmas.Bool.{cases_lt}
 use Rattle.std.proofs.lemmas.Bool.Decides.{nat_tests}
@@ -22,7 +22,8 @@ use Rattle.ls_headline.specs.Translations.{most_silent, has_setup_ended}
 use Rattle.ls_headline.proofs.Shorter.{shorter}
 use Rattle.ls_headline.specs.Acting.{ActsInTime}
 use Rattle.ls_explore_laws.specs.Bursts.{IsClosed}
-use Rattle.ls_explore_laws.specs.Explored.{HasHistories, IsBeginning, IsRoomy, IsSetUp, IsShown}
+use Rattle.ls_explore_laws.specs.Explored.{HasHistories, IsRoomy, IsSetUp, IsShown}
+use Rattle.ls_events.specs.Beginnings.{IsBeginning}
 use Rattle.ls_explore_laws.proofs.SourceSteps.{Like, like_itself, like_more, like_still, idle_still}
 use Rattle.ls_explore_laws.proofs.SourceSteps as source_steps
 use Rattle.ls_explore_laws.proofs.Open.{IsReady}

@@ -1,3 +1,5 @@
 pub mod Waiting
 pub mod Undoubted
 pub mod Others
+pub mod Known
+pub mod Meant

@@ -1,17 +1,20 @@
 -- What the last line tells.
-use Rattle.std.specs.Prelude.{◌≡◌, ℕ, true, List, All}
+use Rattle.std.specs.Prelude.{◌≡◌, ◌&&◌, ℕ, Bool, true, List, All}
 use Rattle.ls_checked.specs.CheckedTree.{File}
 use Rattle.ls_checked.specs.CheckedProgram.{Program}
 use Rattle.ls_events.specs.declared.value.Value.{Value}
 use Rattle.ls_events.specs.declared.action.Action.{Action}
 use Rattle.ls_meaning.specs.Runs.{State, asked, source_history}
 use Rattle.ls_meaning.specs.declared.step.Asked.TheVariants.{Asks}
-use Rattle.ls_explore_laws.specs.Ends.{IsOver}
+use Rattle.ls_meaning.specs.Still.{IsOver}
 use Rattle.ls_headline.specs.Same.{Fits}
-use Rattle.ls_explore_images.specs.Tellings.{TellAll, TellWhole}
+use Rattle.ls_explore_images.specs.Tellings.{TellAll, TellTruth, TellWhole}
 use Rattle.ls_explore_verdicts.specs.Verdicts.{HasLegalOrder}
 use Rattle.ls_explore_reports.specs.Waiting.{WaitsFor}
-use Rattle.ls_explore_reports.specs.Judged.{IsJudged, Judged, are_decided, count_illegal, rows_of}
+use Rattle.ls_linearizable.specs.Linearizable.{IsLinearizable}
+use Rattle.ls_explore_reports.specs.Judged.{AreMeant, IsJudged, IsToldLinear, Judged, are_decided, are_known}
+use Rattle.ls_explore_reports.specs.Judged.{count_illegal}
+use Rattle.ls_explore_reports.specs.Judged.{count_not_linearizable, rows_of}
 
 -- Where it says `illegal 0 complete in these cells`, the history of each schedule of the program that fits the cells
 -- has a legal order.
@@ -29,6 +32,34 @@ NoneIllegal =
     are_decided judged ≡ true → count_illegal judged ≡ 0
     → TellWhole file program (rows_of judged) → (schedule : List ℕ) →
     HasLegalOrder program (source_history file program schedule)
+
+-- Where it says `not linearizable 0 complete in these cells`, the history of each schedule of the program that fits the
+-- cells is linearizable.
+abbrev pub NoneIsNotLinearizableThatFits : Type 0
+NoneIsNotLinearizableThatFits =
+    (file : File) (program : Program) (k cells : ℕ) (complete : Bool) (judged : List Judged) →
+    All (IsToldLinear complete (rows_of judged)) judged →
+    are_known judged ≡ true → count_not_linearizable judged ≡ 0 → TellTruth file program k (rows_of judged)
+    → TellAll file program cells (rows_of judged) → (schedule : List ℕ) → Fits file program cells schedule →
+    IsLinearizable file program (source_history file program schedule)
+
+-- Where it says `not linearizable 0 complete`, that of each schedule of the program is.
+abbrev pub NoneIsNotLinearizable : Type 0
+NoneIsNotLinearizable =
+    (file : File) (program : Program) (k : ℕ) (complete : Bool) (judged : List Judged) →
+    All (IsToldLinear complete (rows_of judged)) judged →
+    are_known judged ≡ true → count_not_linearizable judged ≡ 0 → TellTruth file program k (rows_of judged)
+    → TellWhole file program (rows_of judged) → (schedule : List ℕ) →
+    IsLinearizable file program (source_history file program schedule)
+
+-- A row that is said to be linearizable is so. Where the rows are complete, and no schedule runs out of cells, a row that
+-- is said not to be linearizable isn't.
+abbrev pub LinearityIsMeant : Type 0
+LinearityIsMeant =
+    (file : File) (program : Program) (k : ℕ) (complete roomy : Bool) (judged : List Judged) →
+    TellTruth file program k (rows_of judged) →
+    (complete ≡ true → roomy ≡ true → TellWhole file program (rows_of judged)) →
+    All (IsToldLinear (complete && roomy) (rows_of judged)) judged → AreMeant file program judged
 
 -- Where no thread acts, each thread that asks for an action waits for what another thread owns.
 abbrev pub AllWaitForOthers : Type 0

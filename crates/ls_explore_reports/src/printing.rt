@@ -8,15 +8,19 @@ ghost use Rattle.ls_schedule.specs.Reading.{thread_name, thread_names};
 ghost use Rattle.ls_state.specs.Scene.{scene_of};
 ghost use Rattle.ls_state.specs.Seen.{IsOwn, names_in, scene_seen};
 ghost use Rattle.ls_explore_reports.specs.Printing.{counts_text, end_text, ending_text, explored_text, illegal_text};
-ghost use Rattle.ls_explore_reports.specs.Printing.{is_shown, last_text, over_text, row_text, rows_text, shown};
-ghost use Rattle.ls_explore_reports.specs.Printing.{verdict_part};
+ghost use Rattle.ls_explore_reports.specs.Printing.{is_shown, is_wrong, last_text, linear_part, linear_text};
+ghost use Rattle.ls_explore_reports.specs.Printing.{beside_part, linearity_part, over_text, row_text, rows_text, set_part};
+ghost use Rattle.ls_explore_reports.specs.Printing.{shown, verdict_part};
 ghost use Rattle.ls_explore_reports.specs.Waiting.{asked_text, listed, waiting, waits_text};
 ghost use Rattle.ls_explore_images.specs.Tellings.{schedule_of};
 ghost use Rattle.ls_explore_reports.specs.Judged.{rows_of};
 ghost use Rattle.ls_explore_reports.specs.Long.{HasLong};
 ghost use Rattle.ls_translation.specs.declared.fault.TranslationFault.TheVariants.{Memory, ResultTooLong};
 
-use crate::judging::{JudgedRow, are_decided, count_illegal, is_illegal};
+use crate::judging::{
+    JudgedRow, Linearity, are_decided, are_known, count_illegal, count_not_linearizable,
+    is_not_linearizable,
+};
 use ls_checked::program::ThreadProgram;
 use ls_events::schedule::{MOST_STEPS, Schedule};
 use ls_explore::{Ending, Row};
@@ -39,7 +43,7 @@ pub struct Exploring {
     pub cells: usize,
     /// How many states are kept at the most.
     pub states: usize,
-    /// Whether the rows without a legal order are printed alone.
+    /// Whether only the rows are printed that have no legal order, or are not linearizable.
     pub illegal: bool,
     /// Whether the first of the rows is printed alone.
     pub first: bool,
@@ -180,9 +184,20 @@ fn push_ending(out: &mut String, ending: Ending, waiting: &str) -> Result<(), Al
     }
 }
 
-/// The verdict, where there is one on set calls.
-fn verdict_part(verdict: Verdict) -> &'static str
-    ensures { result.now ≡ verdict_part verdict }
+/// Whether a history is linearizable, where that is known.
+fn linearity_part(linearity: Linearity) -> &'static str
+    ensures { result.now ≡ linearity_part linearity }
+{
+    match linearity {
+        Linearity::Linearizable => ", linearizable",
+        Linearity::NotLinearizable => ", not linearizable",
+        Linearity::NotKnown => "",
+    }
+}
+
+/// The verdict on set calls.
+fn set_part(verdict: Verdict) -> &'static str
+    ensures { result.now ≡ set_part verdict }
 {
     match verdict {
         Verdict::Legal => ", legal",
@@ -190,6 +205,34 @@ fn verdict_part(verdict: Verdict) -> &'static str
         Verdict::TooManyTrapped => ", not judged",
         Verdict::NotOneSet => "",
     }
+}
+
+/// What is said beside the verdict on set calls: that they are not linearizable.
+fn beside_part(linearity: Linearity) -> &'static str
+    ensures { result.now ≡ beside_part linearity }
+{
+    match linearity {
+        Linearity::Linearizable | Linearity::NotKnown => "",
+        Linearity::NotLinearizable => ", not linearizable",
+    }
+}
+
+/// Whether a history is linearizable: of set calls only that it isn't.
+fn linear_part(verdict: Verdict, linearity: Linearity) -> &'static str
+    ensures { result.now ≡ linear_part verdict linearity }
+{
+    match verdict {
+        Verdict::NotOneSet => linearity_part(linearity),
+        Verdict::Legal | Verdict::Illegal | Verdict::TooManyTrapped => beside_part(linearity),
+    }
+}
+
+/// The verdict on set calls, and whether the history is linearizable.
+fn push_verdict(out: &mut String, verdict: Verdict, linearity: Linearity) -> Result<(), AllocError>
+    ensures { OnOk result (string_bytes out.new ≡ string_bytes out.old ++ verdict_part verdict linearity) }
+{
+    out.push_str(set_part(verdict))?;
+    out.push_str(linear_part(verdict, linearity))
 }
 
 /// A row: how it ends and the verdict, its schedule, its history's lines, an empty line.
@@ -211,7 +254,7 @@ fn push_row(
     let steps = print_schedule(alloc, &schedule, names.program)?;
     let history = print_history(alloc, row.history(), names.program)?;
     push_ending(out, row.ending(), waiting.as_str())?;
-    out.push_str(verdict_part(judged.verdict()))?;
+    push_verdict(&mut *out, judged.verdict(), judged.linearity())?;
     out.push_str("\n")?;
     out.push_str(steps.as_str())?;
     out.push_str(history.as_str())?;
@@ -219,11 +262,27 @@ fn push_row(
     Ok(())
 }
 
-/// Whether a row is printed.
-fn is_shown(illegal: bool, verdict: Verdict) -> bool
-    ensures { result ≡ is_shown illegal verdict }
+/// Whether a history of a set has no legal order, or a history isn't linearizable.
+fn is_wrong(verdict: Verdict, linearity: Linearity) -> bool
+    ensures { result ≡ is_wrong verdict linearity }
 {
-    if illegal { is_illegal(verdict) } else { true }
+    match verdict {
+        Verdict::Illegal => true,
+        Verdict::Legal | Verdict::TooManyTrapped | Verdict::NotOneSet => is_not_linearizable(
+            linearity,
+        ),
+    }
+}
+
+/// Whether a row is printed.
+fn is_shown(illegal: bool, judged: &JudgedRow<'_>) -> bool
+    ensures { result ≡ is_shown illegal judged.now }
+{
+    if illegal {
+        is_wrong(judged.verdict(), judged.linearity())
+    } else {
+        true
+    }
 }
 
 /// The rows that are printed, one after another.
@@ -241,7 +300,7 @@ fn push_rows(
     ensures long { IsErrOf result ResultTooLong → HasLong setup (rows_of judged.now) }
 {
     for one in judged {
-        if !is_shown(exploring.illegal, one.verdict()) {
+        if !is_shown(exploring.illegal, one) {
             continue;
         }
         push_row(alloc, out, names, setup, one)?;
@@ -260,12 +319,26 @@ fn push_counts(out: &mut String, states: usize, histories: usize) -> Result<(), 
     Ok(())
 }
 
-/// How many histories have no legal order, where each verdict says if there is one.
-fn push_illegal(out: &mut String, decided: bool, illegal: usize) -> Result<(), AllocError>
-    ensures { OnOk result (string_bytes out.new ≡ string_bytes out.old ++ illegal_text decided illegal) }
+/// How many histories are not linearizable, where that is known of each.
+fn push_linear(out: &mut String, known: bool, count: usize) -> Result<(), AllocError>
+    ensures { OnOk result (string_bytes out.new ≡ string_bytes out.old ++ linear_text known count) }
 {
+    if known {
+        write!(out, " not linearizable {count}")?;
+    }
+    Ok(())
+}
+
+/// How many histories have no legal order. That none has is said only if each verdict says if there is one.
+fn push_illegal(out: &mut String, decided: bool, count: usize) -> Result<(), AllocError>
+    ensures { OnOk result (string_bytes out.new ≡ string_bytes out.old ++ illegal_text decided count) }
+{
+    if count > 0 {
+        write!(out, " illegal {count}")?;
+        return Ok(());
+    }
     if decided {
-        write!(out, " illegal {illegal}")?;
+        out.push_str(" illegal 0")?;
     }
     Ok(())
 }
@@ -283,8 +356,8 @@ fn end_words(complete: bool, roomy: bool) -> &'static str
     " complete in these cells\n"
 }
 
-/// The last line: how many states were kept, how many histories there are, how many of them have no legal order, and
-/// whether they are complete.
+/// The last line: how many states were kept, how many histories there are, how many of them have no legal order or are
+/// not linearizable, and whether they are complete.
 fn push_last(
     out: &mut String,
     states: usize,
@@ -296,6 +369,7 @@ fn push_last(
 {
     push_counts(out, states, judged.len())?;
     push_illegal(out, are_decided(judged), count_illegal(judged))?;
+    push_linear(out, are_known(judged), count_not_linearizable(judged))?;
     out.push_str(end_words(complete, roomy))
 }
 

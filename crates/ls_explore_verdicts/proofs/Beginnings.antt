@@ -7,7 +7,7 @@ use Rattle.ls_checked.specs.CheckedProgram.{Program}
 use Rattle.ls_report.specs.Events.{Event}
 use Rattle.ls_report.specs.Printing.{named}
 use Rattle.ls_order_search.proofs.Beginnings.{beginning}
-use Rattle.ls_explore_laws.specs.Explored.{IsBeginning}
+use Rattle.ls_events.specs.Beginnings.{IsBeginning}
 use Rattle.ls_explore.specs.Rows.{IsToldBy, Told}
 use Rattle.ls_explore_verdicts.specs.Verdicts.{HasLegalOrder, RowsAreLegal}
 

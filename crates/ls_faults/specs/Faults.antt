@@ -39,6 +39,8 @@ use Rattle.ls_live.specs.declared.fault.PlayFault.TheVariants as live
 use Rattle.ls_following.specs.declared.fault.FollowFault.TheVariants as follow
 use Rattle.ls_following.specs.declared.fault.TapeFault.{TapeFault as TurnsFault}
 use Rattle.ls_following.specs.declared.fault.TapeFault.TheVariants as turns
+use Rattle.ls_class_programs.specs.declared.fault.ClassFault.{ClassFault}
+use Rattle.ls_class_programs.specs.declared.fault.ClassFault.TheVariants as class
 use Rattle.ls_batch.specs.declared.fault.BatchFault.{BatchFault}
 use Rattle.ls_batch.specs.declared.fault.BatchFault.TheVariants as batch
 use Rattle.ls_explore_images.specs.declared.fault.ExploreFault.{ExploreFault}
@@ -126,6 +128,11 @@ lifted_explore explore.Memory = faults.Memory
 lifted_explore explore.BadCells = faults.BadCells
 lifted_explore (explore.Setup f) = faults.Translation f
 lifted_explore f = faults.Explore f
+
+abbrev pub lifted_class : ClassFault → ToolFault
+lifted_class class.Memory = faults.Memory
+lifted_class (class.Text f) = lifted_text f
+lifted_class f = faults.Class f
 
 -- `fault N Name`
 abbrev pub plain : List ℕ → List ℕ
@@ -230,6 +237,16 @@ explore_line explore.BadStates = plain (codes "61 BadStates")
 explore_line explore.SetupEndless = plain (codes "62 SetupEndless")
 explore_line (explore.Setup f) = translation_line f
 
+abbrev pub class_line : ClassFault → List ℕ
+class_line class.Memory = plain (codes "1 Memory")
+class_line (class.Text f) = text_line f
+class_line class.NotOneClass = plain (codes "64 NotOneClass")
+class_line class.NoMaking = plain (codes "65 NoMaking")
+class_line class.NoCalls = plain (codes "66 NoCalls")
+class_line class.BadBounds = plain (codes "67 BadBounds")
+class_line class.TooManyCalls = plain (codes "68 TooManyCalls")
+class_line class.TooManyPrograms = plain (codes "69 TooManyPrograms")
+
 abbrev pub history_line : HistoryFault → List ℕ
 history_line history.Memory = plain (codes "1 Memory")
 history_line (history.BadHistory at) = placed (codes "77 BadHistory") at
@@ -257,6 +274,8 @@ fault_line (faults.Live f) = live_line f
 fault_line (faults.Turns f) = turns_line f
 fault_line (faults.Batch f) = batch_line f
 fault_line (faults.Explore f) = explore_line f
+fault_line (faults.Class f) = class_line f
+fault_line faults.BadNumbers = plain (codes "70 BadNumbers")
 fault_line (faults.Aim f) = aim_line f
 fault_line (faults.History f) = history_line f
 fault_line (faults.Order f) = order_line f

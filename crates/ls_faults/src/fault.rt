@@ -2,6 +2,7 @@
 
 ghost use Rattle.std.specs.Prelude.{◌≡◌};
 ghost use Rattle.ls_faults.specs.Faults.{lifted_aim, lifted_batch, lifted_build, lifted_cells, lifted_check};
+ghost use Rattle.ls_faults.specs.Faults.{lifted_class};
 ghost use Rattle.ls_faults.specs.Faults.{lifted_compile, lifted_explore, lifted_history, lifted_live, lifted_order};
 ghost use Rattle.ls_faults.specs.Faults.{lifted_program, lifted_schedule, lifted_search, lifted_tally, lifted_text};
 ghost use Rattle.ls_faults.specs.Faults.{lifted_translation, lifted_turns};
@@ -9,6 +10,7 @@ ghost use Rattle.ls_faults.specs.declared.fault.ToolFault.TheVariants.{Memory};
 
 use ls_aim::fault::AimFault;
 use ls_batch::BatchFault;
+use ls_class_programs::ClassFault;
 use ls_compiler::fault::CompileFault;
 use ls_emit::fault::EmitFault;
 use ls_explore_images::ExploreFault;
@@ -56,6 +58,10 @@ pub enum ToolFault {
     Batch(BatchFault),
     #[error(transparent)]
     Explore(ExploreFault),
+    #[error(transparent)]
+    Class(ClassFault),
+    #[error("no program has one of these numbers")]
+    BadNumbers,
     #[error(transparent)]
     Aim(AimFault),
     #[error(transparent)]
@@ -287,6 +293,18 @@ impl From<ExploreFault> for ToolFault {
             ExploreFault::BadCells => ToolFault::BadCells,
             ExploreFault::Setup(fault) => ToolFault::Translation(fault),
             other => ToolFault::Explore(other),
+        }
+    }
+}
+
+impl From<ClassFault> for ToolFault {
+    ghost from_gives = { λ f e. e ≡ lifted_class f };
+
+    fn from(fault: ClassFault) -> ToolFault {
+        match fault {
+            ClassFault::Memory => ToolFault::Memory,
+            ClassFault::Text(fault) => ToolFault::from(fault),
+            other => ToolFault::Class(other),
         }
     }
 }

@@ -1,13 +1,15 @@
 // The line of a fault, made without memory.
 
 ghost use Rattle.std.specs.Prelude.{◌≡◌, ◌≤◌, length};
-ghost use Rattle.ls_faults.specs.Faults.{aim_line, batch_line, build_line, cells_line, check_line, explore_line};
+ghost use Rattle.ls_faults.specs.Faults.{aim_line, batch_line, build_line, cells_line, check_line, class_line};
+ghost use Rattle.ls_faults.specs.Faults.{explore_line};
 ghost use Rattle.ls_faults.specs.Faults.{fault_line, live_line, placed, plain, program_line, rule_name};
 ghost use Rattle.ls_faults.specs.Faults.{schedule_line, spanned, tally_line, text_line, translation_line, turns_line};
 
 use crate::fault::ToolFault;
 use ls_aim::fault::AimFault;
 use ls_batch::BatchFault;
+use ls_class_programs::ClassFault;
 use ls_emit::fault::EmitFault;
 use ls_explore_images::ExploreFault;
 use ls_following::{FollowFault, TapeFault as TurnsPlayFault};
@@ -305,6 +307,21 @@ fn tally_line(fault: TallyFault) -> Line
     }
 }
 
+fn class_line(fault: ClassFault) -> Line
+    ensures { result ≡ class_line fault }
+{
+    match fault {
+        ClassFault::Memory => plain("1 Memory"),
+        ClassFault::Text(fault) => text_line(fault),
+        ClassFault::NotOneClass => plain("64 NotOneClass"),
+        ClassFault::NoMaking => plain("65 NoMaking"),
+        ClassFault::NoCalls => plain("66 NoCalls"),
+        ClassFault::BadBounds => plain("67 BadBounds"),
+        ClassFault::TooManyCalls => plain("68 TooManyCalls"),
+        ClassFault::TooManyPrograms => plain("69 TooManyPrograms"),
+    }
+}
+
 /// The line of the fault on the standard error.
 pub fn fault_line(fault: ToolFault) -> Line
     ensures { result ≡ fault_line fault }
@@ -324,6 +341,8 @@ pub fn fault_line(fault: ToolFault) -> Line
         ToolFault::Turns(fault) => turns_line(fault),
         ToolFault::Batch(fault) => batch_line(fault),
         ToolFault::Explore(fault) => explore_line(fault),
+        ToolFault::Class(fault) => class_line(fault),
+        ToolFault::BadNumbers => plain("70 BadNumbers"),
         ToolFault::Aim(fault) => aim_line(fault),
         ToolFault::History(HistoryFault::BadHistory { at }) => placed("77 BadHistory", at),
         ToolFault::Order(OrderFault::BadOrder { at }) => placed("78 BadOrder", at),

@@ -88,7 +88,7 @@ module _ (names : ℕ → ℕ) (is : IsRenaming names) where
   pub nothing_other : renamed names nothing ≡ nothing
   nothing_other = ap Reference is.null
 
-  both_ways : (a b : Bool) → (a ≡ true → b ≡ true) → (b ≡ true → a ≡ true) → a ≡ b
+  pub both_ways : (a b : Bool) → (a ≡ true → b ≡ true) → (b ≡ true → a ≡ true) → a ≡ b
   both_ways true true f g = refl
   both_ways false false f g = refl
   both_ways true false f g = sym (f refl)
@@ -112,7 +112,7 @@ module _ (names : ℕ → ℕ) (is : IsRenaming names) where
       slice_index_or (all_renamed vs) n nothing ≡ renamed names (slice_index_or vs n nothing)
   slot_other vs n = ap (slice_index_or (all_renamed vs) n) (sym nothing_other) ∙ get_or-map (renamed names) vs n nothing
 
-  same_other : (x y : Value) → same (renamed names x) (renamed names y) ≡ same x y
+  pub same_other : (x y : Value) → same (renamed names x) (renamed names y) ≡ same x y
   same_other (Int x) (Int y) = refl
   same_other (Int x) (Boolean b) = refl
   same_other (Int x) (Reference n) = refl
@@ -156,7 +156,7 @@ module _ (names : ℕ → ℕ) (is : IsRenaming names) where
   tell_other a a' [] e = ap (λ b. Asks b NoValue) e
   tell_other a a' (answer ∷ rest) e = ap (λ v. Results v (other rest)) (sym nothing_other)
 
-  bind_other : {A B : Type 0} (f : A → A) (h : B → B) (x : Evaluated A) (go go' : A → Answers → Evaluated B) →
+  pub bind_other : {A B : Type 0} (f : A → A) (h : B → B) (x : Evaluated A) (go go' : A → Answers → Evaluated B) →
       ((v : A) (rest : Answers) → Renames h (go v rest) (go' (f v) (other rest))) →
       Renames h (with_value x go) (with_value (others f x) go')
   bind_other f h (Asks action sort) go go' e = refl
@@ -178,7 +178,7 @@ module _ (names : ℕ → ℕ) (is : IsRenaming names) where
   if_other f true b' x x' y y' e h k = ap (λ c. cond c x' y') e ∙ h
   if_other f false b' x x' y y' e h k = ap (λ c. cond c x' y') e ∙ k
 
-  null_test : (n n' : ℕ) → n' ≡ names n → nat_eq n' 0 ≡ nat_eq n 0
+  pub null_test : (n n' : ℕ) → n' ≡ names n → nat_eq n' 0 ≡ nat_eq n 0
   null_test n n' e = ap (λ k. nat_eq k 0) e ∙ subst (λ z. nat_eq (names n) z ≡ nat_eq n 0) is.null (nat_other n 0)
 
   -- an expression unless a reference is null, with other names
@@ -197,7 +197,7 @@ module _ (names : ℕ → ℕ) (is : IsRenaming names) where
   on_object_other o a a' s rest e = null_other (renamed names) (reference_of o) (reference_of (renamed names o)) rest
       (ask a s rest) (ask a' s (other rest)) (reference_other o) (ask_other a a' s rest e)
 
-  zero_other : (op : Operator) (y : Value) → divides_by_zero op (renamed names y) ≡ divides_by_zero op y
+  pub zero_other : (op : Operator) (y : Value) → divides_by_zero op (renamed names y) ≡ divides_by_zero op y
   zero_other operators.Divide y = ap (λ z. int_eq z (pos 0)) (int_other y)
   zero_other operators.Remainder y = ap (λ z. int_eq z (pos 0)) (int_other y)
   zero_other operators.Add y = refl
@@ -210,11 +210,11 @@ module _ (names : ℕ → ℕ) (is : IsRenaming names) where
   zero_other operators.Equal y = refl
   zero_other operators.NotEqual y = refl
 
-  ints_other : {A : Type 0} (f : ℤ → ℤ → A) (x y : Value) →
+  pub ints_other : {A : Type 0} (f : ℤ → ℤ → A) (x y : Value) →
       f (int_of (renamed names x)) (int_of (renamed names y)) ≡ f (int_of x) (int_of y)
   ints_other f x y = ap (λ a. f a (int_of (renamed names y))) (int_other x) ∙ ap (f (int_of x)) (int_other y)
 
-  operated_other : (op : Operator) (x y : Value) →
+  pub operated_other : (op : Operator) (x y : Value) →
       operated op (renamed names x) (renamed names y) ≡ renamed names (operated op x y)
   operated_other operators.Add x y = ints_other (λ a b. wrapped (a +ℤ b)) x y
   operated_other operators.Subtract x y = ints_other (λ a b. wrapped (a -ℤ b)) x y
@@ -243,7 +243,7 @@ module _ (names : ℕ → ℕ) (is : IsRenaming names) where
   CallsRename calls = (m : ℕ) (vs : List Value) (rest : Answers) →
       Renames (renamed names) (calls m vs rest) (calls m (all_renamed vs) (other rest))
 
-  get_both_other : (c m m' a a' : ℕ) (rest : Answers) →
+  pub get_both_other : (c m m' a a' : ℕ) (rest : Answers) →
       m' ≡ names m →
       a' ≡ names a →
       Renames (renamed names) (get_both c m a rest) (get_both c m' a' (other rest))
@@ -260,17 +260,17 @@ module _ (names : ℕ → ℕ) (is : IsRenaming names) where
       (Reference (reference_of (renamed names pair))) rest (ap Reference (reference_other pair)))))
 
   -- an action that is asked for on an object
-  asked_other : (on : ℕ → Action Value) (o : Value) (s : Sort) (rest : Answers) →
+  pub asked_other : (on : ℕ → Action Value) (o : Value) (s : Sort) (rest : Answers) →
       ((n : ℕ) → on (names n) ≡ renamed_action names (on n)) →
       Renames (renamed names) (ask (on (reference_of o)) s rest)
       (ask (on (reference_of (renamed names o))) s (other rest))
   asked_other on o s rest e = ask_other (on (reference_of o)) (on (reference_of (renamed names o))) s rest
       (ap on (reference_other o) ∙ e (reference_of o))
 
-  argument_other : (vs : List Value) (n : ℕ) → argument (all_renamed vs) n ≡ renamed names (argument vs n)
+  pub argument_other : (vs : List Value) (n : ℕ) → argument (all_renamed vs) n ≡ renamed names (argument vs n)
   argument_other vs n = slot_other vs n
 
-  pairs_other : (vs : List Value) (i j : ℕ) →
+  pub pairs_other : (vs : List Value) (i j : ℕ) →
       pair_of (argument (all_renamed vs) i) (argument (all_renamed vs) j) ≡ renamed names
       (pair_of (argument vs i) (argument vs j))
   pairs_other vs i j =
@@ -278,7 +278,7 @@ module _ (names : ℕ → ℕ) (is : IsRenaming names) where
       ∙ ap (pair_of (renamed names (argument vs i))) (argument_other vs j)
       ∙ pair_other (argument vs i) (argument vs j)
 
-  call_other : (calls : Calls) →
+  pub call_other : (calls : Calls) →
       CallsRename calls →
       (m : Called) (o : Value) (vs : List Value) (rest : Answers) →
       Renames (renamed names) (call calls m o vs rest) (call calls m (renamed names o) (all_renamed vs) (other rest))

@@ -46,7 +46,7 @@ module _ (names : ℕ → ℕ) (is : IsRenaming names) where
   EvaluatesRename condition = (ls : List Value) (rest : Answers) →
       Renames names is (renamed names) (condition ls rest) (condition (all_renamed names is ls) (other names is rest))
 
-  value_bind : (x : Evaluated Value) (ls : List Value) (go go' : Value → Answers → Executed) →
+  pub value_bind : (x : Evaluated Value) (ls : List Value) (go go' : Value → Answers → Executed) →
       ((v : Value) (rest : Answers) → go' (renamed names v) (other names is rest) ≡ done_other (go v rest)) →
       on_value (others names is (renamed names) x) (all_renamed names is ls) go' ≡ done_other (on_value x ls go)
   value_bind (Asks action sort) ls go go' h = refl
@@ -59,12 +59,12 @@ module _ (names : ℕ → ℕ) (is : IsRenaming names) where
       on_value x' (all_renamed names is ls) go' ≡ done_other (on_value x ls go)
   value_other x x' ls go go' e h = ap (λ y. on_value y (all_renamed names is ls) go') e ∙ value_bind x ls go go' h
 
-  normal_other : (x x' : Evaluated Value) (ls : List Value) →
+  pub normal_other : (x x' : Evaluated Value) (ls : List Value) →
       Renames names is (renamed names) x x' →
       and_normal x' (all_renamed names is ls) ≡ done_other (and_normal x ls)
   normal_other x x' ls e = value_other x x' ls _ _ e (λ v rest. refl)
 
-  then_bind : (x : Executed) (go go' : Goes) →
+  pub then_bind : (x : Executed) (go go' : Goes) →
       GoesRename go go' →
       then_do (done_other x) go' ≡ done_other (then_do x go)
   then_bind (AsksFor action sort) go go' h = refl
@@ -74,33 +74,33 @@ module _ (names : ℕ → ℕ) (is : IsRenaming names) where
   then_bind (Completes (Returned v) ls rest) go go' h = refl
   then_bind (Completes (Threw kind) ls rest) go go' h = refl
 
-  then_do_other : (x x' : Executed) (go go' : Goes) →
+  pub then_do_other : (x x' : Executed) (go go' : Goes) →
       x' ≡ done_other x →
       GoesRename go go' →
       then_do x' go' ≡ done_other (then_do x go)
   then_do_other x x' go go' e h = ap (λ y. then_do y go') e ∙ then_bind x go go' h
 
-  finish_bind : (x : Executed) (go go' : Goes) →
+  pub finish_bind : (x : Executed) (go go' : Goes) →
       GoesRename go go' →
       finally_do (done_other x) go' ≡ done_other (finally_do x go)
   finish_bind (AsksFor action sort) go go' h = refl
   finish_bind (Completes reason ls rest) go go' h = then_do_other (go ls rest)
       (go' (all_renamed names is ls) (other names is rest)) _ _ (h ls rest) (λ ls rest. refl)
 
-  finally_other : (x x' : Executed) (go go' : Goes) →
+  pub finally_other : (x x' : Executed) (go go' : Goes) →
       x' ≡ done_other x →
       GoesRename go go' →
       finally_do x' go' ≡ done_other (finally_do x go)
   finally_other x x' go go' e h = ap (λ y. finally_do y go') e ∙ finish_bind x go go' h
 
-  back_other : (again again' : Goes) →
+  pub back_other : (again again' : Goes) →
       GoesRename again again' →
       (ls : List Value) (rest : Answers) →
       turn_back again' (all_renamed names is ls) (other names is rest) ≡ done_other (turn_back again ls rest)
   back_other again again' h ls rest = value_other (tell Turn rest) (tell Turn (other names is rest)) ls _ _
       (tell_other names is Turn Turn rest refl) (λ v rest. h ls rest)
 
-  body_bind : (x : Executed) (again again' : Goes) →
+  pub body_bind : (x : Executed) (again again' : Goes) →
       GoesRename again again' →
       after_body (done_other x) again' ≡ done_other (after_body x again)
   body_bind (AsksFor action sort) again again' h = refl
@@ -112,7 +112,7 @@ module _ (names : ℕ → ℕ) (is : IsRenaming names) where
   body_bind (Completes (Returned v) ls rest) again again' h = refl
   body_bind (Completes (Threw kind) ls rest) again again' h = refl
 
-  if_done : (b b' : Bool) (x x' y y' : Executed) →
+  pub if_done : (b b' : Bool) (x x' y y' : Executed) →
       b' ≡ b →
       x' ≡ done_other x →
       y' ≡ done_other y →
@@ -120,7 +120,7 @@ module _ (names : ℕ → ℕ) (is : IsRenaming names) where
   if_done true b' x x' y y' e h k = ap (λ c. cond c x' y') e ∙ h
   if_done false b' x x' y y' e h k = ap (λ c. cond c x' y') e ∙ k
 
-  turn_other : (condition : List Value → Answers → Evaluated Value) (body again again' : Goes) →
+  pub turn_other : (condition : List Value → Answers → Evaluated Value) (body again again' : Goes) →
       EvaluatesRename condition →
       GoesRename body body →
       GoesRename again again' →
@@ -130,7 +130,7 @@ module _ (names : ℕ → ℕ) (is : IsRenaming names) where
       if_done (truth_of v) (truth_of (renamed names v)) _ _ _ _ (truth_other names is v)
       (ap (λ x. after_body x again') (b ls rest) ∙ body_bind (body ls rest) again again' h) refl)
 
-  turns_other : (n : ℕ) (condition : List Value → Answers → Evaluated Value) (body : Goes) →
+  pub turns_other : (n : ℕ) (condition : List Value → Answers → Evaluated Value) (body : Goes) →
       EvaluatesRename condition →
       GoesRename body body →
       GoesRename (turns n condition body) (turns n condition body)

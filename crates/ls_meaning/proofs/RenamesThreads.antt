@@ -25,7 +25,7 @@ use Rattle.ls_meaning.proofs.Renames.{constant_other, ask_other, tell_other, the
 use Rattle.ls_meaning.proofs.RenamesStatements.{done_other, execute_other}
 
 module _ (names : ℕ → ℕ) (is : IsRenaming names) where
-  start_other : (t : ValueType) → renamed names (start_of t) ≡ start_of t
+  pub start_other : (t : ValueType) → renamed names (start_of t) ≡ start_of t
   start_other types.Int = refl
   start_other types.Boolean = refl
   start_other types.BooleanArray = nothing_other names is
@@ -33,23 +33,23 @@ module _ (names : ℕ → ℕ) (is : IsRenaming names) where
   start_other types.Lock = nothing_other names is
   start_other (types.Markable c) = nothing_other names is
 
-  starts_other : (ts : List ValueType) → all_renamed names is (map start_of ts) ≡ map start_of ts
+  pub starts_other : (ts : List ValueType) → all_renamed names is (map start_of ts) ≡ map start_of ts
   starts_other [] = refl
   starts_other (t ∷ ts) = ap (λ v. v ∷ all_renamed names is (map start_of ts)) (start_other t) ∙
       ap (λ vs. start_of t ∷ vs) (starts_other ts)
 
-  frame_other : (ts : List ValueType) (vs : List Value) →
+  pub frame_other : (ts : List ValueType) (vs : List Value) →
       frame ts (all_renamed names is vs) ≡ all_renamed names is (frame ts vs)
   frame_other ts vs =
       ap (λ n. all_renamed names is vs ++ map start_of (drop n ts)) (length-map vs (renamed names))
       ∙ ap (λ l. all_renamed names is vs ++ l) (sym (starts_other (drop (length vs) ts)))
       ∙ sym (map-append (renamed names) vs (map start_of (drop (length vs) ts)))
 
-  without_other : (t : Option ValueType) → answer_without t ≡ renamed names (answer_without t)
+  pub without_other : (t : Option ValueType) → answer_without t ≡ renamed names (answer_without t)
   without_other None = sym (nothing_other names is)
   without_other (Some t) = sym (start_other t)
 
-  leave_other : (t : Option ValueType) (x : Executed) →
+  pub leave_other : (t : Option ValueType) (x : Executed) →
       Renames names is (renamed names) (leave t x) (leave t (done_other names is x))
   leave_other t (AsksFor action sort) = refl
   leave_other t (Completes Normal ls rest) = ap (λ v. Results v (other names is rest)) (without_other t)
@@ -60,7 +60,7 @@ module _ (names : ℕ → ℕ) (is : IsRenaming names) where
   leave_other t (Completes (Threw kind) ls rest) = refl
 
   module _ (file : File) (constants : FileHasConstants file) where
-    body_other : (calls : Calls) →
+    pub body_other : (calls : Calls) →
         CallsRename names is calls →
         (m : Option Method) →
         (n : ℕ) →
@@ -83,13 +83,13 @@ module _ (names : ℕ → ℕ) (is : IsRenaming names) where
         (λ v rest.
         body_other (invoke file depth) (invoke_other depth) (slice_get file.methods m) m refl vs rest)
 
-    values_other : (vs : List Value) → AllConstant vs → all_renamed names is vs ≡ vs
+    pub values_other : (vs : List Value) → AllConstant vs → all_renamed names is vs ≡ vs
     values_other [] h = refl
     values_other (v ∷ vs) h = ap (λ w. w ∷ all_renamed names is vs) (constant_other names is v h.0) ∙
         ap (λ l. v ∷ l) (values_other vs h.1)
 
     -- a call with constants
-    entered_other : (m : ℕ) (o : Value) (vs : List Value) (rest : Answers) →
+    pub entered_other : (m : ℕ) (o : Value) (vs : List Value) (rest : Answers) →
         AllConstant vs →
         Renames names is (renamed names) (invoke file depth_limit m (o ∷ vs) rest)
         (invoke file depth_limit m (renamed names o ∷ vs) (other names is rest))
@@ -97,7 +97,7 @@ module _ (names : ℕ → ℕ) (is : IsRenaming names) where
         ap (λ l. invoke file depth_limit m (renamed names o ∷ l) (other names is rest)) (sym (values_other vs h))
         ∙ invoke_other depth_limit m (o ∷ vs) rest
 
-    result_other : (m : Option Method) (v : Value) →
+    pub result_other : (m : Option Method) (v : Value) →
         result_in m (renamed names v) ≡ renamed_result names (result_in m v)
     result_other None v = refl
     result_other (Some m) v = by_type m.result
@@ -106,7 +106,7 @@ module _ (names : ℕ → ℕ) (is : IsRenaming names) where
         by_type None = refl
         by_type (Some t) = refl
 
-    call_other : (program : Program) (n : ℕ) (c : ProgramCall) →
+    pub call_other : (program : Program) (n : ℕ) (c : ProgramCall) →
         CallHasConstants c →
         (qs : Answers) →
         Renames names is (renamed_result names) (one_call file program n c qs)
@@ -130,7 +130,7 @@ module _ (names : ℕ → ℕ) (is : IsRenaming names) where
         then_other names is (renamed names) (renamed_result names) _ _ _ _ (entered_other m o values rest h) (λ v rest.
         ap (λ r. Results r (other names is rest)) (result_other (slice_get file.methods m) v)))))
 
-    after_bind : (n : ℕ) (x : Evaluated (Option Value)) (go : Answers → Next) →
+    pub after_bind : (n : ℕ) (x : Evaluated (Option Value)) (go : Answers → Next) →
         ((qs : Answers) → go (other names is qs) ≡ renamed_next names (go qs)) →
         after_call n (others names is (renamed_result names) x) go ≡ renamed_next names (after_call n x go)
     after_bind n (Asks action sort) go h = refl
@@ -139,7 +139,7 @@ module _ (names : ℕ → ℕ) (is : IsRenaming names) where
     after_bind n (Throws kind []) go h = refl
     after_bind n (Throws kind (answer ∷ rest)) go h = refl
 
-    calls_other : (program : Program) (n : ℕ) (cs : List ProgramCall) →
+    pub calls_other : (program : Program) (n : ℕ) (cs : List ProgramCall) →
         CallsHaveConstants cs →
         (qs : Answers) →
         all_calls file program n cs (other names is qs) ≡ renamed_next names (all_calls file program n cs qs)
@@ -149,7 +149,7 @@ module _ (names : ℕ → ℕ) (is : IsRenaming names) where
         ∙ after_bind n (one_call file program n c qs) (all_calls file program (n + 1) cs)
         (calls_other program (n + 1) cs h.1)
 
-    thread_other : (program : Program) (t : Option ThreadProgram) (n : ℕ) →
+    pub thread_other : (program : Program) (t : Option ThreadProgram) (n : ℕ) →
         ProgramHasConstants program →
         t ≡ slice_get program.threads n →
         (qs : Answers) →

@@ -8,5 +8,6 @@ pub mod Effect
 pub mod Threads
 pub mod Steps
 pub mod Runs
+pub mod Still
 pub mod Renamings
 pub mod Constants

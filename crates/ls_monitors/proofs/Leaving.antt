@@ -23,7 +23,7 @@ use Rattle.ls_types_elaboration.specs.TypedStatements.{label_text, variable, Var
 use Rattle.ls_types_elaboration.specs.TypedStatements.{assigned, assignment, Counter, OfSlot, OfField, counter, added}
 use Rattle.ls_types_elaboration.specs.TypedStatements.{addition, step, simple, one_simple, simples, returned, sequence}
 use Rattle.ls_types_elaboration.specs.TypedStatements.{opened, opening, condition, for_loop, closed, followed, monitor}
-use Rattle.ls_types_elaboration.specs.TypedStatements.{statement, items}
+use Rattle.ls_types_elaboration.specs.TypedStatements.{statement, items, unwrapped}
 use Rattle.ls_types_laws.proofs.Results.{Gives, bind, after, each_keeps}
 use Rattle.ls_types_laws.proofs.Lists.{Each, each_push, each_weaker, length_push}
 use Rattle.ls_types_laws.proofs.Jumping.{fresh_gives}
@@ -80,7 +80,8 @@ added_still locals (OfField e f) v h = (λ n o. tt, λ count. tt)
 assignment_still : (known : Known) (locals : List Local) (target value : Expression) →
     Gives (Still locals) (assignment known locals target value)
 assignment_still known locals target value =
-    bind (Named known locals) (Still locals) (typed known locals target) _ (typed_named known locals target) (λ x h.
+    bind (Named known locals) (Still locals) (typed known locals (unwrapped target)) _
+    (typed_named known locals (unwrapped target)) (λ x h.
     bind (λ (to : Variable). PlaceIsNamed locals to.place) (Still locals)
     (variable (span_of target) x.expression x.static) _
     (variable_named locals (span_of target) x.expression x.static h) (λ to k.
@@ -89,7 +90,8 @@ assignment_still known locals target value =
 addition_still : (known : Known) (locals : List Local) (target : Expression) (value : Elaborated checked.Expression) →
     Gives (Still locals) (addition known locals target value)
 addition_still known locals target value =
-    bind (Named known locals) (Still locals) (typed known locals target) _ (typed_named known locals target) (λ x h.
+    bind (Named known locals) (Still locals) (typed known locals (unwrapped target)) _
+    (typed_named known locals (unwrapped target)) (λ x h.
     bind (CounterIsNamed locals) (Still locals) (counter (span_of target) x.expression x.static) _
     (counter_named locals (span_of target) x.expression x.static h) (λ to k.
     after (Still locals) value _ (λ v. added_still locals to v k)))

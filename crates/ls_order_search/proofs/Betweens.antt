@@ -9,10 +9,11 @@ use Rattle.ls_orders.specs.Rules.{ended_before}
 use Rattle.ls_orders.specs.Legal.{Set, empty}
 use Rattle.ls_order_search.specs.Plans.{Among, Distinct, IsPlan, has_end}
 use Rattle.ls_order_search.specs.Search.{HasPlan, CalledAfter, CalledFrom, Between, Calls, Closed, Due, Lasting}
-use Rattle.ls_order_search.specs.Search.{LastUntil, NoPlanOn, NotDue, Rising, Stuck, Within, ends_at, is_item, on_items}
+use Rattle.ls_order_search.specs.Search.{LastUntil, NoPlanOn, NotDue, Open, Passed, Rising, Stuck, Within, is_item}
+use Rattle.ls_order_search.specs.Search.{on_items}
 use Rattle.ls_order_search.proofs.Lists.{among_back, among_cases, among_front}
 use Rattle.ls_order_search.proofs.Sets.{Same}
-use Rattle.ls_order_search.proofs.Steps.{goes_by, plan_same, sooner}
+use Rattle.ls_order_search.proofs.Steps.{plan_same, sooner}
 use Rattle.ls_order_search.proofs.Legality.{distinct_rising}
 
 -- ---- at the start
@@ -83,18 +84,58 @@ opened_at events calls at next s pool placed d more b due e =
     let x = get_or calls next d in
     opened events calls at next s pool placed x b due.0 (get_or_default calls next d x due.0) (due.1 d) more e
 
+ends_more : (at end to : ℕ) (pool more : Calls) (x : SetCall) →
+    more ≡ pool ++ x ∷ [] →
+    to ≤ end →
+    (ended_before x.end at ≡ false → ended_before x.end to ≡ false) →
+    LastUntil at more →
+    LastUntil end pool →
+    LastUntil to more
+ends_more at end to pool more x e le own all before c a =
+    cases (among_cases c pool (x ∷ []) (subst (λ l. Among c l) e a))
+  where
+    cases : Among c pool ⊎ Among c (x ∷ []) → ended_before c.end to ≡ false
+    cases (inl a) = sooner to end c.end (before c a) le
+    cases (inr (inl i)) = subst (λ (d : SetCall). ended_before d.end to ≡ false) i
+        (own (all x (subst (λ l. Among x l) (sym e) (among_back x pool (x ∷ []) (inl refl)))))
+    cases (inr (inr a)) = absurd a
+
+-- the next call is open now, and it may be the first to end
+pub opened_to : (events : ℕ) (calls : Calls) (at next : ℕ) (s : Set) (pool placed : Calls) (d : SetCall) (more : Calls)
+    (end to : ℕ) →
+    Open events calls at next s pool placed end →
+    Due at calls next →
+    more ≡ pool ++ get_or calls next d ∷ [] →
+    at ≤ to →
+    to ≤ end →
+    (ended_before (get_or calls next d).end at ≡ false → ended_before (get_or calls next d).end to ≡ false) →
+    Open events calls at (next + 1) s more placed to
+opened_to events calls at next s pool placed d more end to o due e from le own =
+    let b = opened_at events calls at next s pool placed d more o.between due e in
+    let room = o.within in
+    record {
+      between = b;
+      from = from;
+      within = omega arith;
+      lasts = λ l. ends_more at end to pool more (get_or calls next d) e le own (b.lasts l) (o.lasts l);
+    }
+
 -- before the first event nothing is placed or open
 pub starts : (events : ℕ) (calls : Calls) (s : Set) (pool placed : Calls) →
     pool ≡ [] →
     placed ≡ [] →
     ((z : ℤ) → s z ≡ false) →
     Rising calls →
-    Between events calls 0 0 s pool placed
-starts events calls s pool placed p q h r =
-    subst (λ l. Between events calls 0 0 s l placed) (sym p)
-    (subst (λ l. Between events calls 0 0 s [] l) (sym q) (at_start events calls s (λ z. sym (h z)) r))
+    Open events calls 0 0 s pool placed events
+starts events calls s pool placed p q h r = record {
+  between = subst (λ l. Between events calls 0 0 s l placed) (sym p)
+      (subst (λ l. Between events calls 0 0 s [] l) (sym q) (at_start events calls s (λ z. sym (h z)) r));
+  from = omega arith;
+  within = omega arith;
+  lasts = λ l c a. absurd (subst (λ m. Among c m) p a);
+}
 
--- ---- an event is over
+-- ---- events are over
 
 rising_after : (at next : ℕ) (calls : Calls) →
     NotDue at calls next →
@@ -119,19 +160,21 @@ module _ (events : ℕ) (calls : Calls) (at next : ℕ) (s : Set) (pool placed :
   pub no_more : Stuck at s pool → NoPlanOn calls
   no_more h = (h.0, λ q. h.1 rest b.distinct later (λ c a. b.up_to c a) (b.plan (is_item h.0) q))
 
-  -- one event further, with the calls that were placed
-  pub over : (t : Set) (less new : Calls) →
+  -- a later place, before which no call comes or ends, with the calls that were placed
+  pub over : (t : Set) (less new : Calls) (to : ℕ) →
       Closed at s t pool less placed new →
-      ((c : SetCall) → Among c less → ends_at at c.end ≡ false) →
-      Between events calls (at + 1) next t less new
-  over t less new k none = record {
+      at ≤ to →
+      CalledFrom to rest →
+      (Lasting calls → LastUntil to less) →
+      Between events calls to next t less new
+  over t less new to k le comes lasts = record {
     plan = λ f q. k.2.plan f rest b.distinct later (λ c a. b.up_to c a) (b.plan f q);
     distinct = k.2.distinct rest b.distinct;
-    up_to = λ c a. let le : c.called ≤ at = b.up_to c (k.2.among c a) in omega arith;
-    from = λ c a. let lt : at < c.called = later c a in omega arith;
+    up_to = λ c a. let by : c.called ≤ at = b.up_to c (k.2.among c a) in omega arith;
+    from = comes;
     rising = b.rising;
     known = λ c a. known c (among_cases c less rest a);
-    lasts = λ l c a. goes_by at c.end (b.lasts l c (k.2.among c a)) (none c a);
+    lasts = lasts;
     back = λ l p q. subst (λ m. IsPlan empty calls m) (sym (ap (λ m. m ++ p) k.1 ∙ append_assoc placed k.0 p))
         (b.back l (k.0 ++ p) (k.2.back rest b.distinct later (λ c a. b.up_to c a) (b.lasts l)
         (λ c a. l c (b.known c (among_back c pool rest a))) p q));
@@ -141,23 +184,28 @@ module _ (events : ℕ) (calls : Calls) (at next : ℕ) (s : Set) (pool placed :
       known c (inl a) = b.known c (among_front c pool rest (k.2.among c a))
       known c (inr a) = b.known c (among_back c pool rest a)
 
--- ---- events are passed over at which no call comes or ends
+  -- the next place is a later one
+  pub goes_up : (to at' : ℕ) → at < to → (at + 1 ≤ to → CalledFrom (at + 1) rest → at + 1 ≤ at') → at + 1 ≤ at'
+  goes_up to at' le last = last (omega arith) (λ c a. let lt : at < c.called = later c a in omega arith)
 
--- events at which no call begins or ends are passed over
-pub skipped : (events : ℕ) (calls : Calls) (at next : ℕ) (s : Set) (pool placed : Calls) →
-    Between events calls at next s pool placed
-    → (to : ℕ) → at ≤ to → (LastUntil at pool → LastUntil to pool) → CalledFrom to (drop next calls) →
-    Between events calls to next s pool placed
-skipped events calls at next s pool placed b to le last comes = record {
-  plan = b.plan;
-  distinct = b.distinct;
-  up_to = λ c a. let by : c.called ≤ at = b.up_to c a in omega arith;
-  from = comes;
-  rising = b.rising;
-  known = b.known;
-  lasts = λ l. last (b.lasts l);
-  back = b.back;
-}
+  -- there no call has come or ended since
+  pub passed : (t : Set) (less new : Calls) (end to at' : ℕ) →
+      (Lasting calls → LastUntil end pool) →
+      Passed at end events s t pool less placed new to →
+      at' ≤ to →
+      CalledFrom at' rest →
+      (at + 1 ≤ to → CalledFrom (at + 1) rest → at + 1 ≤ at') →
+      Open events calls at' next t less new to
+  passed t less new end to at' lasts h le comes last =
+      let up : at + 1 ≤ at' = goes_up to at' h.later last in
+      let until : Lasting calls → LastUntil to less = λ l. h.lasts (b.lasts l) (lasts l) in
+      record {
+        between = over t less new at' h.closed (omega arith) comes
+            (λ l c a. sooner at' to c.end (until l c a) le);
+        from = le;
+        within = h.within;
+        lasts = until;
+      }
 
 -- ---- at the end
 

@@ -123,6 +123,14 @@ pub record Goes (at : ℕ) (s t : Set) (pool less placed : Calls) : Type 0 where
 abbrev pub Closed : ℕ → Set → Set → Calls → Calls → Calls → Calls → Type 0
 Closed at s t pool less old new = (placed : Calls) × (new ≡ old ++ placed) × Goes at s t pool less placed
 
+-- The place is passed, to a later one before which no call of the pool ends, if none ended before the place or before
+-- `end`.
+pub record Passed (at end events : ℕ) (s t : Set) (pool less old new : Calls) (to : ℕ) : Type 0 where
+  pub later : at < to
+  pub within : to ≤ events
+  pub closed : Closed at s t pool less old new
+  pub lasts : LastUntil at pool → LastUntil end pool → LastUntil to less
+
 -- whatever comes later, there is an item for which the calls have no plan
 abbrev pub Stuck : ℕ → Set → Calls → Type 0
 Stuck at s pool = (item : ℤ) × ((rest : Calls) → Distinct (pool ++ rest) → CalledAfter at rest → CalledBy at pool →
@@ -171,6 +179,13 @@ pub record Between (events : ℕ) (calls : Calls) (at next : ℕ) (set : Set) (p
   pub known : (c : SetCall) → Among c (pool ++ drop next calls) → Among c calls
   pub lasts : Lasting calls → LastUntil at pool
   pub back : Lasting calls → (p : Calls) → IsPlan set (pool ++ drop next calls) p → IsPlan empty calls (placed ++ p)
+
+-- the same, and no call of the pool ends before `end`
+pub record Open (events : ℕ) (calls : Calls) (at next : ℕ) (set : Set) (pool placed : Calls) (end : ℕ) : Type 0 where
+  pub between : Between events calls at next set pool placed
+  pub from : at ≤ end
+  pub within : end ≤ events
+  pub lasts : Lasting calls → LastUntil end pool
 
 -- Some of the calls after the front are decided on, and are now in the front.
 pub record Trying (front back more left : Calls) : Type 0 where

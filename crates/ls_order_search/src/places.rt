@@ -8,22 +8,22 @@ ghost use Rattle.ls_order_search.specs.Search.{CalledFrom, LastUntil, Rising};
 
 use ls_orders::calls::{End, SetCall};
 
-/// The place of the next call, but at most `events`. If there is no call, `events`.
-pub(crate) fn next_call(calls: &[SetCall], next: usize, events: usize) -> usize
+/// The place of the next call, but at most `most`. If there is no call, `most`.
+pub(crate) fn next_call(calls: &[SetCall], next: usize, most: usize) -> usize
     requires { Rising (drop next calls.now) }
-    ensures within { result ≤ events }
+    ensures within { result ≤ most }
     ensures comes { CalledFrom result (drop next calls.now) }
-    ensures last { (n : ℕ) → n ≤ events → CalledFrom n (drop next calls.now) → n ≤ result }
+    ensures last { (n : ℕ) → n ≤ most → CalledFrom n (drop next calls.now) → n ≤ result }
 {
     if next < calls.len() {
-        calls[next].called.min(events)
+        calls[next].called.min(most)
     } else {
-        events
+        most
     }
 }
 
 /// The place where the call ends, but at least `from` and at most `most`.
-fn end_within(end: End, from: usize, most: usize) -> usize
+pub(crate) fn end_within(end: End, from: usize, most: usize) -> usize
     requires { from ≤ most }
     ensures from { from ≤ result }
     ensures within { result ≤ most }

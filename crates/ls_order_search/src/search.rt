@@ -1,12 +1,13 @@
-// The search, from the first event to the last. Events at which no call begins or ends are passed over.
+// The search, from the first event to the last. Events at which no call begins or ends are passed over. The open calls
+// are looked at only where one of them ends.
 
-ghost use Rattle.std.specs.Prelude.{IfOk, IfNone, IfSome, MatchBool};
+ghost use Rattle.std.specs.Prelude.{◌<◌, ◌≤◌, IfOk, IfNone, IfSome, MatchBool, MatchOption};
 ghost use Rattle.ls_orders.specs.Legal.{empty};
 ghost use Rattle.ls_order_search.specs.Plans.{IsPlan};
-ghost use Rattle.ls_order_search.specs.Search.{Due, Lasting, NoPlanOn, NotDue, Rising, Within};
+ghost use Rattle.ls_order_search.specs.Search.{Due, Lasting, NoPlanOn, NotDue, Passed, Rising, Stuck, Within, held};
 
 use crate::closing::close;
-use crate::places::{next_call, next_end};
+use crate::places::{end_within, next_call, next_end};
 use ls_orders::calls::SetCall;
 use std::alloc::{AllocError, Global};
 use std::collections::BTreeSet;
@@ -16,6 +17,32 @@ fn is_due(calls: &[SetCall], next: usize, at: usize) -> bool
     ensures { MatchBool result (Due at calls.now next) (NotDue at calls.now next) }
 {
     next < calls.len() && calls[next].called <= at
+}
+
+/// Places calls until those that end here are placed. Answers a later place, before which no open call ends, and at most
+/// `events`. It is `end` if no open call ends before `end`, and `end` is later. None if there is no way to place them.
+/// The only refusal is that memory ran out.
+fn pass(
+    set: &mut BTreeSet<i32>,
+    pool: &mut Vec<SetCall>,
+    placed: &mut Vec<SetCall>,
+    at: usize,
+    end: usize,
+    events: usize,
+) -> Result<Option<usize>, AllocError>
+    requires here { at < events }
+    requires within { end ≤ events }
+    ensures { IfOk result (λ passed. MatchOption passed (Stuck at (held set.old) pool.old.items)
+        (Passed at end events (held set.old) (held set.new) pool.old.items pool.new.items placed.old.items
+        placed.new.items)) }
+{
+    if at < end {
+        return Ok(Some(end));
+    }
+    if !close(set, pool, placed, at)? {
+        return Ok(None);
+    }
+    Ok(Some(next_end(pool.as_slice(), at + 1, events)))
 }
 
 /// An order of the calls, with each call that has an end. None if there is no order. The only refusal is that
@@ -36,16 +63,20 @@ pub(crate) fn search(
     let mut placed = Vec::new(alloc);
     let mut next = 0;
     let mut at = 0;
+    // no open call ends before this place
+    let mut end = events;
     'places: while at < events {
         'due: while is_due(calls, next, at) {
-            pool.push(calls[next])?;
+            let call = calls[next];
+            pool.push(call)?;
+            end = end_within(call.end, at, end);
             next += 1;
         }
-        if !close(&mut set, &mut pool, &mut placed, at)? {
+        let Some(passed) = pass(&mut set, &mut pool, &mut placed, at, end, events)? else {
             return Ok(None);
-        }
-        let call = next_call(calls, next, events);
-        at = next_end(pool.as_slice(), at + 1, call);
+        };
+        end = passed;
+        at = next_call(calls, next, end);
     }
     Ok(Some(placed))
 }

@@ -1,8 +1,8 @@
 //! The steps of a source run: which thread does what next, and what that does to the store.
 #![tactic(auto)]
 
-mod next;
-mod playing;
+pub mod next;
+pub mod playing;
 pub mod run;
-mod stage;
-mod thread;
+pub mod stage;
+pub mod thread;

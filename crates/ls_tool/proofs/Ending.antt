@@ -1,13 +1,15 @@
 -- From what a layer answers to what a run does.
-use Rattle.std.specs.Prelude.{IfSome, OnErr, OnOk, String, is_ok, string_bytes}
-use Rattle.std.proofs.Common.{◌≡◌, ◌∙◌, ◌⊎◌, inl, inr, ap, sym, List, [], Bool, false, refl, subst, Option, Some, None}
+use Rattle.std.specs.Prelude.{IfSome, MatchBool, String, string_bytes}
+use Rattle.std.proofs.Common.{◌≡◌, ◌∙◌, ◌⊎◌, inl, inr, ap, sym, List, [], Bool, true, false, refl, subst, Option, Some, None}
 use Rattle.std.proofs.Common.{Result, Ok, Err}
 use Rattle.std.specs.Global.{Global}
 use Rattle.std.specs.Io.KnownBytes.{Appends, Keeps}
 use Rattle.clap.specs.declared.error.Error.{Error}
+use Rattle.ls_outlets.specs.Written.{Begins, IsWritten}
 use Rattle.ls_report.specs.Events.{Text}
 use Rattle.ls_command_line.specs.Words.{AsksFor, IsWordsAnswer}
 use Rattle.ls_command_line.specs.declared.words.CommandLine.{CommandLine}
+use Rattle.ls_command_line.specs.declared.words.Request.{Request}
 use Rattle.ls_command_line.specs.declared.words.WordsFault.{WordsFault}
 use Rattle.ls_command_line.specs.declared.words.WordsFault.TheVariants as word_fault
 use Rattle.ls_faults.specs.Faults.{fault_line}
@@ -17,10 +19,10 @@ use Rattle.ls_faults.specs.declared.fault.ToolFault.TheVariants as fault
 use Rattle.ls_tool.specs.declared.refusal.Refusal.{Refusal}
 use Rattle.ls_tool.specs.declared.refusal.Refusal.TheVariants as refusal
 use Rattle.ls_faults.specs.Given.{GivesText}
-use Rattle.ls_tool.specs.Output.{Answered, AnswersText, AsAsked, BadLine, Begins, Closes, Decided, Decides, Ends, Usage}
-use Rattle.ls_tool.specs.Output.{IsEnding, IsTaken, OfInput, OutOfMemory, Prints, ReaderFailed, ReadsAfterWords}
-use Rattle.ls_tool.specs.Output.{RefusesAs, Responds, Tells, TellsFirst, Told, Unreadable, WriterFailed}
-use Rattle.ls_tool.specs.Output.{refused_words, told}
+use Rattle.ls_tool.specs.Output.{Answered, AnswersText, AsAsked, BadLine, Closes, Decided, Decides, Ends, HasLines}
+use Rattle.ls_tool.specs.Output.{IsEnding, IsTaken, Left, OfInput, OutOfMemory, Prints, Progressed, Progresses}
+use Rattle.ls_tool.specs.Output.{ReaderFailed, ReadsAfterWords, RefusesAs, Responds, Silent, Tells, TellsFirst}
+use Rattle.ls_tool.specs.Output.{Unreadable, Usage, WriterFailed, left, progress_text, refused_words, tells_progress, told}
 
 -- what follows of an input's answer
 pub if_known : (o : Option Text) (P Q : Text → Type 0) → ((x : Text) → P x → Q x) → OfInput o P → OfInput o Q
@@ -39,10 +41,6 @@ pub of_bytes : (o : Option Text) (bytes : Text) (Q : Text → Type 0) →
     OfInput o Q
 of_bytes None bytes Q e h = (bytes, h)
 of_bytes (Some x) bytes Q e h = subst Q e h
-
-keeps : (o : Option Text) → Keeps o o
-keeps None = tt
-keeps (Some x) = refl
 
 pub decide_ok : (words : List Text) (input : Text) (l : CommandLine) (text : String Global) → AsksFor words (Some l)
     → GivesText (AnswersText l.request input) (Ok text) → Decides words input (Ok text)
@@ -66,6 +64,8 @@ given May (fault.Live f) other h = h
 given May (fault.Turns f) other h = h
 given May (fault.Batch f) other h = h
 given May (fault.Explore f) other h = h
+given May (fault.Class f) other h = h
+given May fault.BadNumbers other h = h
 given May (fault.Aim f) other h = h
 given May (fault.History f) other h = h
 given May (fault.Order f) other h = h
@@ -117,6 +117,10 @@ decide_err words input l f (refusal.Fault (fault.Turns g)) e h r = plain words i
 decide_err words input l f (refusal.Fault (fault.Batch g)) e h r = plain words input l f (fault.Batch g) e r
     (subst (λ x. GivesText (AnswersText l.request input) (Err x)) (sym r.0) h)
 decide_err words input l f (refusal.Fault (fault.Explore g)) e h r = plain words input l f (fault.Explore g) e r
+    (subst (λ x. GivesText (AnswersText l.request input) (Err x)) (sym r.0) h)
+decide_err words input l f (refusal.Fault (fault.Class g)) e h r = plain words input l f (fault.Class g) e r
+    (subst (λ x. GivesText (AnswersText l.request input) (Err x)) (sym r.0) h)
+decide_err words input l f (refusal.Fault fault.BadNumbers) e h r = plain words input l f fault.BadNumbers e r
     (subst (λ x. GivesText (AnswersText l.request input) (Err x)) (sym r.0) h)
 decide_err words input l f (refusal.Fault (fault.Aim g)) e h r = plain words input l f (fault.Aim g) e r
     (subst (λ x. GivesText (AnswersText l.request input) (Err x)) (sym r.0) h)
@@ -184,96 +188,139 @@ is_decided words input unlike (Decided r d) = d
 is_decided words input unlike (Unreadable l e) = absurd (unlike refl)
 
 -- a run that tells a fault
-tells : (words : List Text) (input : Text) (f : ToolFault) (exit : Exit) (out err err' : Option Text)
-    → exit.status ≡ 1 → Told (fault_line f) exit.is_told err err' → Decides words input (Err (refusal.Fault f)) →
-    Closes words input exit out out err err'
-tells words input fault.Memory exit out err err' s t d = OutOfMemory (s, keeps out, t)
-tells words input fault.ReadFailed exit out err err' s t d = AsAsked (Tells (fault_line fault.ReadFailed)) d
-    (s, keeps out, t)
-tells words input (fault.Text f) exit out err err' s t d = AsAsked (Tells (fault_line (fault.Text f))) d
-    (s, keeps out, t)
-tells words input (fault.Check f) exit out err err' s t d = AsAsked (Tells (fault_line (fault.Check f))) d
-    (s, keeps out, t)
-tells words input (fault.Program f) exit out err err' s t d = AsAsked (Tells (fault_line (fault.Program f))) d
-    (s, keeps out, t)
-tells words input (fault.Build f) exit out err err' s t d = AsAsked (Tells (fault_line (fault.Build f))) d
-    (s, keeps out, t)
-tells words input fault.BadCells exit out err err' s t d = AsAsked (Tells (fault_line fault.BadCells)) d
-    (s, keeps out, t)
-tells words input (fault.Schedule f) exit out err err' s t d = AsAsked (Tells (fault_line (fault.Schedule f))) d
-    (s, keeps out, t)
-tells words input (fault.Translation f) exit out err err' s t d = AsAsked (Tells (fault_line (fault.Translation f))) d
-    (s, keeps out, t)
-tells words input (fault.Live f) exit out err err' s t d = AsAsked (Tells (fault_line (fault.Live f))) d
-    (s, keeps out, t)
-tells words input (fault.Turns f) exit out err err' s t d = AsAsked (Tells (fault_line (fault.Turns f))) d
-    (s, keeps out, t)
-tells words input (fault.Batch f) exit out err err' s t d = AsAsked (Tells (fault_line (fault.Batch f))) d
-    (s, keeps out, t)
-tells words input (fault.Explore f) exit out err err' s t d = AsAsked (Tells (fault_line (fault.Explore f))) d
-    (s, keeps out, t)
-tells words input (fault.Aim f) exit out err err' s t d = AsAsked (Tells (fault_line (fault.Aim f))) d (s, keeps out, t)
-tells words input (fault.History f) exit out err err' s t d = AsAsked (Tells (fault_line (fault.History f))) d
-    (s, keeps out, t)
-tells words input (fault.Order f) exit out err err' s t d = AsAsked (Tells (fault_line (fault.Order f))) d
-    (s, keeps out, t)
-tells words input (fault.Tally f) exit out err err' s t d = AsAsked (Tells (fault_line (fault.Tally f))) d
-    (s, keeps out, t)
-tells words input fault.WrongParts exit out err err' s t d = AsAsked (Tells (fault_line fault.WrongParts)) d
-    (s, keeps out, t)
-tells words input fault.TooManyTrapped exit out err err' s t d = AsAsked (Tells (fault_line fault.TooManyTrapped)) d
-    (s, keeps out, t)
-tells words input fault.NotText exit out err err' s t d = AsAsked (Tells (fault_line fault.NotText)) d (s, keeps out, t)
-tells words input fault.WriteFailed exit out err err' s t d = AsAsked (Tells (fault_line fault.WriteFailed)) d
-    (s, keeps out, t)
+tells : (words : List Text) (input : Text) (f : ToolFault) (exit : Exit) (out err : Left) →
+    exit.status ≡ 1 →
+    Keeps out.old out.new →
+    IsWritten (fault_line f) exit.is_told err.old err.new err.has_failed →
+    Decides words input (Err (refusal.Fault f)) →
+    Closes words input exit out err
+tells words input fault.Memory exit out err s k t d = OutOfMemory (s, k, t)
+tells words input fault.ReadFailed exit out err s k t d = AsAsked (Tells (fault_line fault.ReadFailed)) d (s, k, t)
+tells words input (fault.Text f) exit out err s k t d = AsAsked (Tells (fault_line (fault.Text f))) d (s, k, t)
+tells words input (fault.Check f) exit out err s k t d = AsAsked (Tells (fault_line (fault.Check f))) d (s, k, t)
+tells words input (fault.Program f) exit out err s k t d = AsAsked (Tells (fault_line (fault.Program f))) d (s, k, t)
+tells words input (fault.Build f) exit out err s k t d = AsAsked (Tells (fault_line (fault.Build f))) d (s, k, t)
+tells words input fault.BadCells exit out err s k t d = AsAsked (Tells (fault_line fault.BadCells)) d (s, k, t)
+tells words input (fault.Schedule f) exit out err s k t d = AsAsked (Tells (fault_line (fault.Schedule f))) d (s, k, t)
+tells words input (fault.Translation f) exit out err s k t d = AsAsked (Tells (fault_line (fault.Translation f))) d (s, k, t)
+tells words input (fault.Live f) exit out err s k t d = AsAsked (Tells (fault_line (fault.Live f))) d (s, k, t)
+tells words input (fault.Turns f) exit out err s k t d = AsAsked (Tells (fault_line (fault.Turns f))) d (s, k, t)
+tells words input (fault.Batch f) exit out err s k t d = AsAsked (Tells (fault_line (fault.Batch f))) d (s, k, t)
+tells words input (fault.Explore f) exit out err s k t d = AsAsked (Tells (fault_line (fault.Explore f))) d (s, k, t)
+tells words input (fault.Class f) exit out err s k t d = AsAsked (Tells (fault_line (fault.Class f))) d (s, k, t)
+tells words input fault.BadNumbers exit out err s k t d = AsAsked (Tells (fault_line fault.BadNumbers)) d (s, k, t)
+tells words input (fault.Aim f) exit out err s k t d = AsAsked (Tells (fault_line (fault.Aim f))) d (s, k, t)
+tells words input (fault.History f) exit out err s k t d = AsAsked (Tells (fault_line (fault.History f))) d (s, k, t)
+tells words input (fault.Order f) exit out err s k t d = AsAsked (Tells (fault_line (fault.Order f))) d (s, k, t)
+tells words input (fault.Tally f) exit out err s k t d = AsAsked (Tells (fault_line (fault.Tally f))) d (s, k, t)
+tells words input fault.WrongParts exit out err s k t d = AsAsked (Tells (fault_line fault.WrongParts)) d (s, k, t)
+tells words input fault.TooManyTrapped exit out err s k t d = AsAsked (Tells (fault_line fault.TooManyTrapped)) d (s, k, t)
+tells words input fault.NotText exit out err s k t d = AsAsked (Tells (fault_line fault.NotText)) d (s, k, t)
+tells words input fault.WriteFailed exit out err s k t d = AsAsked (Tells (fault_line fault.WriteFailed)) d (s, k, t)
 
 -- the same, or the reader failed
-pub tells_fault : (words : List Text) (input : Text) (f : ToolFault) (exit : Exit) (out err err' : Option Text)
-    {r : Result (String Global) Refusal}
-    → r ≡ Err (refusal.Fault f) → exit.status ≡ 1 → Told (fault_line f) exit.is_told err err' → Responds words input r →
-    Closes words input exit out out err err'
-tells_fault words input f exit out err err' e s t (Decided r d) = tells words input f exit out err err' s t
+pub tells_fault : (words : List Text) (input : Text) (f : ToolFault) (exit : Exit) (out err : Left)
+    {r : Result (String Global) Refusal} →
+    r ≡ Err (refusal.Fault f) →
+    exit.status ≡ 1 →
+    Keeps out.old out.new →
+    IsWritten (fault_line f) exit.is_told err.old err.new err.has_failed →
+    Responds words input r →
+    Closes words input exit out err
+tells_fault words input f exit out err e s k t (Decided r d) = tells words input f exit out err s k t
     (subst (Decides words input) e d)
-tells_fault words input f exit out err err' e s t (Unreadable l a) =
+tells_fault words input f exit out err e s k t (Unreadable l a) =
     let same : fault.ReadFailed ≡ f = cc in
-    ReaderFailed l a (s, keeps out, subst (λ g. Told (fault_line g) exit.is_told err err') (sym same) t)
+    let told : IsWritten (fault_line fault.ReadFailed) exit.is_told err.old err.new err.has_failed =
+    subst (λ g. IsWritten (fault_line g) exit.is_told err.old err.new err.has_failed) (sym same) t in
+    ReaderFailed l a (s, k, told)
 
 -- and one that tells it with what is said of it
-pub explains : (words : List Text) (input told : Text) (exit : Exit) (out err err' : Option Text)
-    → exit.status ≡ 1 → Told told exit.is_told err err' → IsEnding words input (Tells told) →
-    Closes words input exit out out err err'
-explains words input told exit out err err' s t d = AsAsked (Tells told) d (s, keeps out, t)
+pub explains : (words : List Text) (input told : Text) (exit : Exit) (out err : Left) →
+    exit.status ≡ 1 →
+    Keeps out.old out.new →
+    IsWritten told exit.is_told err.old err.new err.has_failed →
+    IsEnding words input (Tells told) →
+    Closes words input exit out err
+explains words input told exit out err s k t d = AsAsked (Tells told) d (s, k, t)
 
-pub done : (words : List Text) (input : Text) (text : String Global) (exit : Exit) (out out' err : Option Text)
-    → exit.status ≡ 0 → Appends out out' (string_bytes text) → Responds words input (Ok text) →
-    Closes words input exit out out' err err
-done words input text exit out out' err s a d = AsAsked (Prints (string_bytes text))
-    (is_decided words input (λ e. absurd (cc)) d) (s, a, keeps err)
+pub done : (words : List Text) (input : Text) (text : String Global) (exit : Exit) (out err : Left) →
+    exit.status ≡ 0 →
+    Keeps err.old err.new →
+    Appends out.old out.new (string_bytes text) →
+    Responds words input (Ok text) →
+    Closes words input exit out err
+done words input text exit out err s k a d = AsAsked (Prints (string_bytes text))
+    (is_decided words input (λ e. absurd (cc)) d) (s, a, k)
 
-pub cut_short : (words : List Text) (input : Text) (text : String Global) (exit : Exit)
-    (out out' err err' : Option Text)
-    → exit.status ≡ 1 → Begins out out' (string_bytes text) →
-    Told (fault_line fault.WriteFailed) exit.is_told err err' → Responds words input (Ok text) →
-    Closes words input exit out out' err err'
-cut_short words input text exit out out' err err' s b t d = WriterFailed (string_bytes text)
-    (is_decided words input (λ e. absurd (cc)) d) (s, b, t)
+pub cut_short : (words : List Text) (input : Text) (text : String Global) (exit : Exit) (out err : Left) →
+    exit.status ≡ 1 →
+    Begins out.old out.new (string_bytes text) × (out.has_failed ≡ true) →
+    IsWritten (fault_line fault.WriteFailed) exit.is_told err.old err.new err.has_failed →
+    Responds words input (Ok text) →
+    Closes words input exit out err
+cut_short words input text exit out err s b t d = WriterFailed (string_bytes text)
+    (is_decided words input (λ e. absurd (cc)) d) (s, b.0, b.1, t)
 
-pub bad_line : (words : List Text) (input : Text) (e : Error) (exit : Exit) (out err err' : Option Text)
-    → exit.status ≡ 2 → Responds words input (Err (refusal.BadLine e)) → Closes words input exit out out err err'
-bad_line words input e exit out err err' s d = AsAsked Usage (is_decided words input (λ x. absurd (cc)) d)
-    (s, keeps out)
+pub bad_line : (words : List Text) (input : Text) (e : Error) (exit : Exit) (out err : Left) →
+    exit.status ≡ 2 →
+    Keeps out.old out.new →
+    Responds words input (Err (refusal.BadLine e)) →
+    Closes words input exit out err
+bad_line words input e exit out err s k d = AsAsked Usage (is_decided words input (λ x. absurd (cc)) d) (s, k)
 
--- what a write leaves, where it didn't fail and where it failed
-pub written : (r : Result (Unit {0}) ToolFault) (told : Text) (old new : Option Text) →
-    OnOk r (Appends old new told) →
-    OnErr r (Begins old new told) →
-    Told told (is_ok r) old new
-written (Ok x) told old new a b = a
-written (Err e) told old new a b = b
+-- what is written at once: all, or a beginning
+pub all_written : (bytes : Text) (is_written : Bool) (old new : Option Text) (has_failed : Bool) →
+    is_written ≡ true →
+    IsWritten bytes is_written old new has_failed →
+    Appends old new bytes
+all_written bytes is_written old new has_failed e h = subst (λ b. IsWritten bytes b old new has_failed) e h
+
+pub part_written : (bytes : Text) (is_written : Bool) (old new : Option Text) (has_failed : Bool) →
+    is_written ≡ false →
+    IsWritten bytes is_written old new has_failed →
+    Begins old new bytes × (has_failed ≡ true)
+part_written bytes is_written old new has_failed e h = subst (λ b. IsWritten bytes b old new has_failed) e h
+
+-- lines of progress are as they were, whatever a writer that has failed does then
+later : (r : Request) (a b : Option Text) (before after : Bool) →
+    (before ≡ true → after ≡ true) →
+    Progresses r a b before →
+    Progresses r a b after
+later r a b before after kept = on (tells_progress r)
+  where
+    written : (text : Text) (is_whole : Bool) → IsWritten text is_whole a b before → IsWritten text is_whole a b after
+    written text true h = h
+    written text false h = (h.0, kept h.1)
+
+    on : (asks : Bool) →
+        MatchBool asks (HasLines a b before) (b ≡ a) →
+        MatchBool asks (HasLines a b after) (b ≡ a)
+    on true h = (h.0, h.1, written (progress_text 0 h.0) h.1 h.2)
+    on false h = h
+
+later_first : (words : List Text) (err between : Option Text) (before after : Bool) →
+    (before ≡ true → after ≡ true) →
+    TellsFirst words err before between →
+    TellsFirst words err after between
+later_first words err between before after kept Silent = Silent
+later_first words err between before after kept (Progressed l new a p) = Progressed l new a
+    (later l.request err new before after kept p)
 
 -- after the lines of progress
-pub ends_so : (words : List Text) (input : Text) (exit : Exit) (out out' err between err' : Option Text) →
-    TellsFirst words err between →
-    Closes words input exit out out' between err' →
-    Ends words input exit out out' err err'
-ends_so words input exit out out' err between err' p e = record { between = between; progress = p; end = e }
+pub ends_so : (words : List Text) (input : Text) (exit : Exit) (out err : Left) (between : Option Text) (before : Bool) →
+    (before ≡ true → err.has_failed ≡ true) →
+    TellsFirst words err.old before between →
+    Closes words input exit out (left between err.new err.has_failed) →
+    Ends words input exit out err
+ends_so words input exit out err between before kept p e = record {
+  between = between;
+  progress = later_first words err.old between before err.has_failed kept p;
+  end = e;
+}
+
+-- and where nothing comes before
+pub ends_alone : (words : List Text) (input : Text) (exit : Exit) (out err : Left) →
+    Closes words input exit out err →
+    Ends words input exit out err
+ends_alone words input exit out err e = record { between = err.old; progress = Silent; end = e }

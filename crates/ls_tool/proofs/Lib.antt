@@ -1,4 +1,3 @@
-pub mod Written
 pub mod Ending
 pub mod Inputs
 pub mod Telling

@@ -1,5 +1,5 @@
 -- What the program writes, for its words and its input.
-use Rattle.std.specs.Prelude.{◌≡◌, ◌≢◌, ◌≤◌, ◌+◌, ◌*◌, ℕ, List, [], ◌∷◌, ◌++◌, length, take, codes, Bool, MatchBool}
+use Rattle.std.specs.Prelude.{◌≡◌, ◌≢◌, ◌+◌, ◌*◌, ℕ, List, [], ◌∷◌, ◌++◌, length, codes, Bool, MatchBool}
 use Rattle.std.specs.Prelude.{true, false, Option, Some, None, Result, Ok, Err, String, string_bytes, if◌then◌else◌}
 use Rattle.std.specs.Global.{Global}
 use Rattle.std.specs.Fmt.{decimal}
@@ -23,6 +23,7 @@ use Rattle.ls_views.specs.declared.view.View.{View}
 use Rattle.ls_views.specs.declared.view.View.TheVariants as views
 use Rattle.ls_explanations.specs.Explanations.{note}
 use Rattle.ls_faults.specs.Faults.{fault_line}
+use Rattle.ls_outlets.specs.Written.{Begins, IsWritten}
 use Rattle.ls_parts.specs.Parts.{is_text, parts_of}
 use Rattle.ls_command_line.specs.Words.{AsksFor}
 use Rattle.ls_command_line.specs.declared.words.CommandLine.{CommandLine}
@@ -32,6 +33,7 @@ use Rattle.ls_command_line.specs.declared.words.WordsFault.{WordsFault}
 use Rattle.ls_command_line.specs.declared.words.WordsFault.TheVariants as word_faults
 use Rattle.ls_faults.specs.declared.fault.ToolFault.{ToolFault}
 use Rattle.ls_faults.specs.declared.fault.ToolFault.TheVariants as faults
+use Rattle.ls_tool.specs.Asked.{OnClass}
 use Rattle.ls_tool.specs.declared.running.Exit.{Exit}
 use Rattle.ls_tool.specs.declared.refusal.Refusal.{Refusal}
 use Rattle.ls_tool.specs.declared.refusal.Refusal.TheVariants as refusals
@@ -39,6 +41,7 @@ use Rattle.ls_tool.specs.declared.refusal.Refusal.TheVariants as refusals
 -- what a command may answer on one text: a text or a fault
 abbrev pub OnOne : Request → Text → Result Text ToolFault → Type 0
 OnOne requests.Order history answer = OrdersTo history answer
+OnOne (requests.Find seeking) classes answer = OnClass seeking classes answer
 OnOne other text answer = answer ≡ Err faults.WrongParts
 
 abbrev exploring : ℕ → ℕ → Bool → Bool → Exploring
@@ -195,14 +198,6 @@ ReadsAfterWords old new other = Unit {0}
 
 -- ---- what a run leaves
 
--- a beginning of the bytes went to the writer
-abbrev pub Begins : Option Text → Option Text → Text → Type 0
-Begins old new bytes = (n : ℕ) × (n ≤ length bytes) × Appends old new (take n bytes)
-
--- what is told is on the writer, where all was told, or a beginning of it, where the writer failed
-abbrev pub Told : Text → Bool → Option Text → Option Text → Type 0
-Told told is_told err err' = MatchBool is_told (Appends err err' told) (Begins err err' told)
-
 -- as `explore: 131072 states, depth 37`, of so many times 65,536 states
 abbrev pub progress_line : ℕ → ℕ → Text
 progress_line count depth =
@@ -213,60 +208,74 @@ abbrev pub progress_text : ℕ → List ℕ → Text
 progress_text count [] = []
 progress_text count (depth ∷ depths) = progress_line (count + 1) depth ++ progress_text (count + 1) depths
 
--- where so many lines were there, these are added and counted; or a beginning of them, where the writer failed
-pub record HasTold (before after : ℕ) (is_open : Bool) (err err' : Option Text) : Type 0 where
+-- where so many lines were there, these are added and counted; or a beginning of them is, and the writer has failed
+pub record HasTold (before after : ℕ) (is_open : Bool) (err err' : Option Text) (has_failed : Bool) : Type 0 where
   pub depths : List ℕ
   pub lines : is_open ≡ true → after ≡ before + length depths
-  pub added : Told (progress_text before depths) is_open err err'
+  pub added : IsWritten (progress_text before depths) is_open err err' has_failed
 
 -- whether a command tells of its progress
 abbrev pub tells_progress : Request → Bool
 tells_progress (requests.Explore cells states illegal first progress) = progress
 tells_progress other = false
 
--- a beginning of lines of progress went to the writer, if the command tells of it, and else nothing
-abbrev pub Progresses : Request → Option Text → Option Text → Type 0
-Progresses r err err' = MatchBool (tells_progress r) ((depths : List ℕ) × Begins err err' (progress_text 0 depths))
-    (err' ≡ err)
+-- whole lines of progress, or a beginning of them, and the writer has failed
+abbrev pub HasLines : Option Text → Option Text → Bool → Type 0
+HasLines err err' has_failed = (depths : List ℕ) × (is_whole : Bool) × IsWritten (progress_text 0 depths) is_whole err
+    err' has_failed
+
+-- lines of progress went to the writer, if the command tells of it, and else nothing
+abbrev pub Progresses : Request → Option Text → Option Text → Bool → Type 0
+Progresses r err err' has_failed = MatchBool (tells_progress r) (HasLines err err' has_failed) (err' ≡ err)
 
 -- nothing went to the writer, or what does so for a command of these words
-pub data TellsFirst (words : List Text) (err : Option Text) : Option Text → Type 0 where
-  Silent : TellsFirst words err err
+pub data TellsFirst (words : List Text) (err : Option Text) (has_failed : Bool) : Option Text → Type 0 where
+  Silent : TellsFirst words err has_failed err
   Progressed : (l : CommandLine) (err' : Option Text) →
       AsksFor words (Some l) →
-      Progresses l.request err err' →
-      TellsFirst words err err'
+      Progresses l.request err err' has_failed →
+      TellsFirst words err has_failed err'
+
+-- a stream before and after a run, and whether its writer has failed then
+pub record Left : Type 0 where
+  pub old : Option Text
+  pub new : Option Text
+  pub has_failed : Bool
+
+abbrev pub left : Option Text → Option Text → Bool → Left
+left old new has_failed = record { old = old; new = new; has_failed = has_failed }
 
 -- status 0 with the whole text, 1 with what is told of a fault, 2 for a bad command line
-abbrev pub Shows : Ending → Exit → Option Text → Option Text → Option Text → Option Text → Type 0
-Shows (Prints text) exit out out' err err' = (exit.status ≡ 0) × Appends out out' text × Keeps err err'
-Shows (Tells told) exit out out' err err' = (exit.status ≡ 1) × Keeps out out' × Told told exit.is_told err err'
-Shows Usage exit out out' err err' = (exit.status ≡ 2) × Keeps out out'
+abbrev pub Shows : Ending → Exit → Left → Left → Type 0
+Shows (Prints text) exit out err = (exit.status ≡ 0) × Appends out.old out.new text × Keeps err.old err.new
+Shows (Tells told) exit out err = (exit.status ≡ 1) × Keeps out.old out.new ×
+    IsWritten told exit.is_told err.old err.new err.has_failed
+Shows Usage exit out err = (exit.status ≡ 2) × Keeps out.old out.new
 
--- the writer failed: a beginning of the text is there, and the fault's line is told
-abbrev pub CutShort : Text → Exit → Option Text → Option Text → Option Text → Option Text → Type 0
-CutShort text exit out out' err err' = (exit.status ≡ 1) × Begins out out' text ×
-    Told (fault_line faults.WriteFailed) exit.is_told err err'
+-- the writer has failed: a beginning of the text is there, and the fault's line is told
+abbrev pub CutShort : Text → Exit → Left → Left → Type 0
+CutShort text exit out err = (exit.status ≡ 1) × Begins out.old out.new text × (out.has_failed ≡ true) ×
+    IsWritten (fault_line faults.WriteFailed) exit.is_told err.old err.new err.has_failed
 
 -- a run ends as the words and the input ask, or it tells that memory ran out or that a stream failed
-pub data Closes (words : List Text) (input : Text) (exit : Exit) (out out' err err' : Option Text) : Type 0 where
+pub data Closes (words : List Text) (input : Text) (exit : Exit) (out err : Left) : Type 0 where
   AsAsked : (ending : Ending) →
       IsEnding words input ending →
-      Shows ending exit out out' err err' →
-      Closes words input exit out out' err err'
-  OutOfMemory : Shows (Tells (fault_line faults.Memory)) exit out out' err err' →
-      Closes words input exit out out' err err'
+      Shows ending exit out err →
+      Closes words input exit out err
+  OutOfMemory : Shows (Tells (fault_line faults.Memory)) exit out err →
+      Closes words input exit out err
   ReaderFailed : (l : CommandLine) →
       AsksFor words (Some l) →
-      Shows (Tells (fault_line faults.ReadFailed)) exit out out' err err' →
-      Closes words input exit out out' err err'
+      Shows (Tells (fault_line faults.ReadFailed)) exit out err →
+      Closes words input exit out err
   WriterFailed : (text : Text) →
       IsEnding words input (Prints text) →
-      CutShort text exit out out' err err' →
-      Closes words input exit out out' err err'
+      CutShort text exit out err →
+      Closes words input exit out err
 
 -- A run ends so, after the lines of progress that the words ask for. Where they ask for none, there are none.
-pub record Ends (words : List Text) (input : Text) (exit : Exit) (out out' err err' : Option Text) : Type 0 where
+pub record Ends (words : List Text) (input : Text) (exit : Exit) (out err : Left) : Type 0 where
   pub between : Option Text
-  pub progress : TellsFirst words err between
-  pub end : Closes words input exit out out' between err'
+  pub progress : TellsFirst words err.old err.has_failed between
+  pub end : Closes words input exit out (left between err.new err.has_failed)

@@ -7,13 +7,14 @@ ghost use Rattle.ls_explore.specs.Watching.{GoesOn};
 ghost use Rattle.ls_faults.specs.Given.{GivesText};
 ghost use Rattle.ls_parts.specs.Cutting.{plain_text};
 ghost use Rattle.ls_report.specs.Events.{Text};
+ghost use Rattle.ls_tool.specs.Asked.{OnClass, choosing_of, range_of};
 ghost use Rattle.ls_tool.specs.Output.{Answers, AnswersInput, AnswersText, Decides, IsTaken, OnFour, OnOne};
 ghost use Rattle.ls_tool.specs.Output.{OnSamples, OnThree, OnTwo};
 
 use crate::explained::refusal_of;
 use crate::refusal::Refusal;
 use crate::views::{state_view, states_view, trace_view};
-use ls_command_line::{CommandLine, Request, read_words};
+use ls_command_line::{CommandLine, Request, Seeking, read_words};
 use ls_commands::batch::{Drawing, Sampling, batch};
 use ls_commands::judged_batch::judge_batch;
 use ls_commands::live::{live, replay_live};
@@ -23,6 +24,7 @@ use ls_commands::translate::translate;
 use ls_explore::{Nobody, Watch};
 use ls_explore_commands::{Exploring, explore};
 use ls_faults::fault::ToolFault;
+use ls_find_commands::{Bounds, Choosing, Range, find, print_program};
 use ls_merging::merge;
 use ls_page::Window;
 use ls_paging::page::{page, page_with_order};
@@ -35,12 +37,50 @@ use std::alloc::Global;
 use std::sync::Wait;
 use std::thread::Threads;
 
+/// What `find` answers on a class text.
+fn on_class(alloc: Global, seeking: Seeking, classes: &str) -> Result<String, ToolFault>
+    ensures { GivesText (OnClass seeking classes.now) result }
+{
+    let choosing = choosing_of(seeking);
+    if let Some(number) = seeking.print {
+        return print_program(alloc, choosing, number, classes);
+    }
+    find(alloc, choosing, range_of(seeking), classes)
+}
+
+/// Which class of the text is chosen, and what its programs may be.
+fn choosing_of(seeking: Seeking) -> Choosing
+    ensures { result ≡ choosing_of seeking }
+{
+    Choosing {
+        class: seeking.class,
+        values: seeking.values,
+        bounds: Bounds {
+            threads: seeking.threads,
+            calls: seeking.calls,
+            setup: seeking.setup,
+        },
+    }
+}
+
+/// The numbers of the programs that are looked through.
+fn range_of(seeking: Seeking) -> Range
+    ensures { result ≡ range_of seeking }
+{
+    Range {
+        states: seeking.states as usize,
+        from: seeking.from,
+        to: seeking.to,
+    }
+}
+
 /// What the command answers on one text.
 fn on_one(alloc: Global, request: Request, text: &str) -> Result<String, ToolFault>
     ensures { GivesText (OnOne request text.now) result }
 {
     match request {
         Request::Order => order(alloc, text),
+        Request::Find(seeking) => on_class(alloc, seeking, text),
         Request::Check
         | Request::Compile
         | Request::Replay { .. }
@@ -156,6 +196,7 @@ fn on_two<R: Threads + Wait + Sync, W: Watch>(
         | Request::States { .. }
         | Request::Aim
         | Request::Translate { .. }
+        | Request::Find(_)
         | Request::Merge { .. } => Err(ToolFault::WrongParts),
     }
 }
@@ -221,6 +262,7 @@ fn on_three<R: Threads + Wait + Sync>(
         | Request::Batch { .. }
         | Request::Sample { .. }
         | Request::Explore { .. }
+        | Request::Find(_)
         | Request::Merge { .. } => Err(ToolFault::WrongParts),
     }
 }

@@ -1,20 +1,22 @@
 // The whole run, over any streams.
 
-ghost use Rattle.std.specs.Prelude.{◌≡◌, List, Some, map, string_bytes};
+ghost use Rattle.std.specs.Prelude.{◌≡◌, List, Some, map, string_bytes, true};
 ghost use Rattle.ls_faults.specs.Faults.{fault_line};
 ghost use Rattle.ls_command_line.specs.Words.{AsksFor};
+ghost use Rattle.ls_outlets.specs.Written.{IsWritten};
 ghost use Rattle.ls_report.specs.Events.{Text};
 ghost use Rattle.ls_tool.specs.Output.{Decides, Ends, IsTaken, OfInput, Progresses, ReadsAfterWords, Responds};
-ghost use Rattle.ls_tool.specs.Output.{TellsFirst, Told, tells_progress};
+ghost use Rattle.ls_tool.specs.Output.{TellsFirst, left, tells_progress};
 
 use crate::answer::answer_line;
 use crate::progress::Progress;
 use crate::refusal::Refusal;
-use crate::streams::{read_whole, tell_out, write_out};
+use crate::streams::read_whole;
 use ls_command_line::{CommandLine, Request, read_words};
 use ls_explore::Nobody;
 use ls_faults::fault::ToolFault;
 use ls_faults::line::fault_line;
+use ls_outlets::{Outlet, write_out};
 use std::alloc::{AllocError, Global};
 use std::io::{Read, Write};
 use std::sync::Wait;
@@ -26,7 +28,7 @@ pub struct Exit {
     /// The exit status.
     pub status: u8,
     /// Whether all was told: the line of a fault, or what is wrong with the words, is written, or there was nothing to
-    /// tell.
+    /// tell. The line of a fault isn't whole only if the writer has failed.
     pub is_told: bool,
 }
 
@@ -36,19 +38,22 @@ impl Clone for Exit {
     }
 }
 
-/// Writes what is told of a fault. Where that fails too, the status alone tells of the fault.
-fn tell<E: Write>(err: &mut E, told: &[u8]) -> Exit
+/// Writes what is told of a fault. If the writer fails, the status alone tells of the fault.
+fn tell<E: Outlet>(err: &mut E, told: &[u8]) -> Exit
     ensures status { result.status ≡ 1 }
-    ensures told { Told told.now result.is_told (E.contents err.old) (E.contents err.new) }
+    ensures told { IsWritten told.now result.is_told (E.contents err.old) (E.contents err.new) (E.has_failed err.new) }
+    ensures kept { E.has_failed err.old ≡ true → E.has_failed err.new ≡ true }
 {
-    let is_told = tell_out(err, told);
+    let is_told = write_out(err, told);
     Exit { status: 1, is_told }
 }
 
 /// Writes the fault's line.
-fn tell_line<E: Write>(err: &mut E, fault: ToolFault) -> Exit
+fn tell_line<E: Outlet>(err: &mut E, fault: ToolFault) -> Exit
     ensures status { result.status ≡ 1 }
-    ensures told { Told (fault_line fault) result.is_told (E.contents err.old) (E.contents err.new) }
+    ensures told { IsWritten (fault_line fault) result.is_told (E.contents err.old) (E.contents err.new)
+        (E.has_failed err.new) }
+    ensures kept { E.has_failed err.old ≡ true → E.has_failed err.new ≡ true }
 {
     let line = fault_line(fault);
     tell(err, line.as_bytes())
@@ -71,7 +76,7 @@ fn tells_progress(request: Request) -> bool
 }
 
 /// What a command line asks for of an input, with lines of progress where it asks for these.
-fn answer_telling<H: Threads + Wait + Sync, E: Write>(
+fn answer_telling<H: Threads + Wait + Sync, E: Outlet>(
     rt: &H,
     alloc: Global,
     line: CommandLine,
@@ -80,18 +85,18 @@ fn answer_telling<H: Threads + Wait + Sync, E: Write>(
 ) -> Result<String, Refusal>
     ensures decides { (words : List Text) → AsksFor words (Some line) → Decides words input.now result }
     ensures taken { IsTaken result }
-    ensures progress { Progresses line.request (E.contents err.old) (E.contents err.new) }
+    ensures progress { Progresses line.request (E.contents err.old) (E.contents err.new) (E.has_failed err.new) }
 {
     if !tells_progress(line.request) {
         return answer_line(rt, alloc, line, input, &mut Nobody);
     }
-    let mut progress = Progress::new(alloc, err);
+    let mut progress = Progress::new(err);
     answer_line(rt, alloc, line, input, &mut progress)
 }
 
 /// The answer to the words and to what the reader has left. Words that ask for nothing are answered before anything is
 /// read.
-fn respond<'a, H: Threads + Wait + Sync, R: Read, E: Write>(
+fn respond<'a, H: Threads + Wait + Sync, R: Read, E: Outlet>(
     rt: &H,
     alloc: Global,
     words: &'a [String],
@@ -101,7 +106,8 @@ fn respond<'a, H: Threads + Wait + Sync, R: Read, E: Write>(
     ensures responds { OfInput (R.remaining reader.old)
         (λ input. Responds (map string_bytes words.entry.now) input result) }
     ensures unread { ReadsAfterWords reader.old reader.new result }
-    ensures progress { TellsFirst (map string_bytes words.entry.now) (E.contents err.old) (E.contents err.new) }
+    ensures progress { TellsFirst (map string_bytes words.entry.now) (E.contents err.old) (E.has_failed err.new)
+        (E.contents err.new) }
 {
     let line = read_words(alloc, words)?;
     let input = read_whole(alloc, reader)?;
@@ -110,9 +116,9 @@ fn respond<'a, H: Threads + Wait + Sync, R: Read, E: Write>(
 
 /// Does what the words ask for: reads the input, answers it as `answer` does, and writes. Answers the exit status; with
 /// status 2 nothing is read. If it isn't known what the reader has left, as it isn't of standard input, the run ends as
-/// for some input. Threads are started by `live`, `batch` and `replay --live` alone. `explore --progress` alone tells
-/// of its progress.
-pub fn run<'a, H: Threads + Wait + Sync, R: Read, W: Write, E: Write>(
+/// for some input. All is written that is to be, unless the writer has failed. Threads are started by `live`, `batch`
+/// and `replay --live` alone. `explore --progress` alone tells of its progress.
+pub fn run<'a, H: Threads + Wait + Sync, R: Read, W: Outlet, E: Outlet>(
     rt: &H,
     alloc: Global,
     words: &'a [String],
@@ -121,17 +127,20 @@ pub fn run<'a, H: Threads + Wait + Sync, R: Read, W: Write, E: Write>(
     err: &mut E,
 ) -> Exit
     ensures ends { OfInput (R.remaining reader.old) (λ input. Ends (map string_bytes words.entry.now) input result
-        (W.contents out.old) (W.contents out.new) (E.contents err.old) (E.contents err.new)) }
+        (left (W.contents out.old) (W.contents out.new) (W.has_failed out.new))
+        (left (E.contents err.old) (E.contents err.new) (E.has_failed err.new))) }
     ensures unread { result.status ≡ 2 → reader.new ≡ reader.old }
 {
     match respond(rt, alloc, words, reader, err) {
-        Ok(text) => match write_out(out, text.as_bytes()) {
-            Ok(()) => Exit {
+        Ok(text) => {
+            if !write_out(out, text.as_bytes()) {
+                return tell_line(err, ToolFault::WriteFailed);
+            }
+            Exit {
                 status: 0,
                 is_told: true,
-            },
-            Err(_) => tell_line(err, ToolFault::WriteFailed),
-        },
+            }
+        }
         Err(Refusal::Fault(fault)) => tell_line(err, fault),
         Err(Refusal::Explained(told)) => tell(err, told.as_slice()),
         Err(Refusal::BadLine(error)) => Exit {

@@ -111,10 +111,15 @@ assigned (AtSlot n) v = checked.SetSlot n v
 assigned (AtField e f) v = checked.SetField e f v
 assigned (AtItem a i) v = checked.SetItem a i v
 
+-- a left side without the parentheses round it, which change nothing (JLS 15.8.5)
+abbrev pub unwrapped : parsed.Expression → parsed.Expression
+unwrapped (parsed.Paren inner span) = unwrapped inner
+unwrapped e = e
+
 -- assignment: the left side, then the value (JLS 15.26.1)
 abbrev pub assignment : Known → List Local → parsed.Expression → parsed.Expression → Elaborated checked.Statement
 assignment known locals target value =
-    with_ok (typed known locals target) (λ x.
+    with_ok (typed known locals (unwrapped target)) (λ x.
     with_ok (variable (span_of target) x.expression x.static) (λ to.
     with_ok (fitting known locals to.type value) (λ v. Ok (assigned to.place v))))
 
@@ -141,7 +146,7 @@ abbrev pub addition : Known →
     Elaborated checked.Expression →
     Elaborated checked.Statement
 addition known locals target value =
-    with_ok (typed known locals target) (λ x.
+    with_ok (typed known locals (unwrapped target)) (λ x.
     with_ok (counter (span_of target) x.expression x.static) (λ to.
     with_ok value (λ v. Ok (added to v))))
 

@@ -2,11 +2,12 @@
 
 ghost use Rattle.std.specs.Prelude.{◌≡◌};
 ghost use Rattle.ls_checked.specs.Plain.{plain, plain_statement};
-ghost use Rattle.ls_types_elaboration.specs.TypedStatements.{variable, assigned, assignment};
+ghost use Rattle.ls_types_elaboration.specs.TypedStatements.{variable, unwrapped, assigned, assignment};
+ghost use Rattle.ls_types_elaboration.specs.TypedExpressions.{typed};
 ghost use Rattle.ls_types_elaboration.specs.Placed.{placed};
 ghost use Rattle.ls_types_tables.specs.ByName.{known_of};
 ghost use Rattle.ls_types_expressions.specs.Views.{locals_of, place_of, plain_variable};
-ghost use Rattle.ls_types_elaboration.specs.Answers.{Gives};
+ghost use Rattle.ls_types_elaboration.specs.Answers.{Gives, typed_of};
 
 use crate::expressions::{fitting, typed};
 use crate::places::span_of;
@@ -34,7 +35,7 @@ pub struct Variable {
     pub value_type: ValueType,
 }
 
-fn left_side(span: Span, x: Typed) -> Result<Variable, Broken>
+fn variable_at(span: Span, x: Typed) -> Result<Variable, Broken>
     ensures { plain_variable result ≡ variable span (plain x.expression) x.of }
 {
     let Static::Of(value_type) = x.of else {
@@ -57,6 +58,17 @@ fn left_side(span: Span, x: Typed) -> Result<Variable, Broken>
             Ok(Variable { place, value_type })
         }
         _ => Err(broken_at(Rule::NotAssignable, span)),
+    }
+}
+
+/// What is on a left side, without the parentheses round it. Refused only by a broken rule, or if memory runs out.
+pub fn left_side(site: Site, target: &Parsed) -> Result<Typed, CheckFault>
+    ensures { Gives typed_of result
+        (typed (known_of site.entry.known) (locals_of site.entry) (unwrapped (placed target.now))) }
+{
+    match target {
+        Parsed::Paren { inner, .. } => left_side(site, inner),
+        _ => typed(site, target),
     }
 }
 
@@ -83,8 +95,8 @@ pub fn assignment(site: Site, target: &Parsed, value: &Parsed) -> Result<Stateme
     ensures { Gives plain_statement result
         (assignment (known_of site.entry.known) (locals_of site.entry) (placed target.now) (placed value.now)) }
 {
-    let x = typed(site, target)?;
-    let to = left_side(span_of(target), x)?;
+    let x = left_side(site, target)?;
+    let to = variable_at(span_of(target), x)?;
     let v = fitting(site, to.value_type, value);
     let (to, v) = also(to, v)?;
     Ok(assigned(to.place, v))

@@ -8,14 +8,14 @@ ghost use Rattle.ls_types_elaboration.specs.Elaborated.{with_ok, each};
 ghost use Rattle.ls_types_elaboration.specs.Trees.{span_of};
 ghost use Rattle.ls_types_elaboration.specs.TypedExpressions.{typed};
 ghost use Rattle.ls_types_elaboration.specs.TypedStatements.{counter, added, addition, step, simple, simples};
-ghost use Rattle.ls_types_elaboration.specs.TypedStatements.{one_simple};
+ghost use Rattle.ls_types_elaboration.specs.TypedStatements.{one_simple, unwrapped};
 ghost use Rattle.ls_types_elaboration.specs.Placed.{placed};
 ghost use Rattle.ls_types_elaboration.specs.PlacedStatements.{placed_simple};
 ghost use Rattle.ls_types_tables.specs.ByName.{known_of};
 ghost use Rattle.ls_types_expressions.specs.Views.{locals_of, counter_of, plain_counter};
 ghost use Rattle.ls_types_elaboration.specs.Answers.{Gives};
 
-use crate::assignments::assignment;
+use crate::assignments::{assignment, left_side};
 use crate::expressions::{fitting, typed};
 use crate::places::span_of;
 use crate::site::Site;
@@ -97,10 +97,10 @@ fn step(up: bool) -> Expression
 // The variable to which a form adds.
 fn counted(site: Site, target: &Parsed) -> Result<Counter, CheckFault>
     ensures { Gives counter_of result
-        (with_ok (typed (known_of site.entry.known) (locals_of site.entry) (placed target.now))
+        (with_ok (typed (known_of site.entry.known) (locals_of site.entry) (unwrapped (placed target.now)))
         (λ x. counter (span_of (placed target.now)) x.expression x.static)) }
 {
-    let x = typed(site, target)?;
+    let x = left_side(site, target)?;
     let to = counter_at(span_of(target), x)?;
     Ok(to)
 }

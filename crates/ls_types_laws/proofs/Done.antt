@@ -25,7 +25,7 @@ use Rattle.ls_types_elaboration.specs.TypedStatements.{Loops, loop_of, jump, con
 use Rattle.ls_types_elaboration.specs.TypedStatements.{loop_named, variable, assignment, counter, Counter, OfSlot}
 use Rattle.ls_types_elaboration.specs.TypedStatements.{OfField, added, addition, step, simple, one_simple, simples}
 use Rattle.ls_types_elaboration.specs.TypedStatements.{returned, opened, opening, condition, for_loop, closed, followed}
-use Rattle.ls_types_elaboration.specs.TypedStatements.{monitor_of, monitor, sequence, statement, items}
+use Rattle.ls_types_elaboration.specs.TypedStatements.{monitor_of, monitor, sequence, statement, items, unwrapped}
 use Rattle.ls_types_elaboration.specs.TypedMethods.{with_unnamed_slot, all_items}
 use Rattle.ls_types_laws.proofs.Results.{Gives, bind, weaker, unless, either, each_keeps}
 use Rattle.ls_types_laws.proofs.Lists.{Each, each_push, Grows, grows_same, grows_by, grows_on, at_grown, at_end}
@@ -139,7 +139,7 @@ assignment_gives : (F : checked.File) (known : Known) (locals : List Local) (slo
     Gives (λ s. Later F known slots (λ W. Fine F W r s)) (assignment known locals target value)
 assignment_gives F known locals slots r ready target value =
     bind (λ x. Later F known slots (λ W. Shows F W x)) (λ s. Later F known slots (λ W. Fine F W r s))
-    (typed known locals target) _ (typed_later F known locals slots ready target) (λ x h.
+    (typed known locals (unwrapped target)) _ (typed_later F known locals slots ready (unwrapped target)) (λ x h.
     bind (λ to. Later F known slots (λ W. MaySet F W r to)) (λ s. Later F known slots (λ W. Fine F W r s))
     (variable (span_of target) x.expression x.static) _
     (variable_gives F known slots r (span_of target) x.expression x.static h) (λ to may.
@@ -191,7 +191,7 @@ addition_gives : (F : checked.File) (known : Known) (locals : List Local) (slots
     Gives (λ s. Later F known slots (λ W. Fine F W r s)) (addition known locals target value)
 addition_gives F known locals slots r ready target value is =
     bind (λ x. Later F known slots (λ W. Shows F W x)) (λ s. Later F known slots (λ W. Fine F W r s))
-    (typed known locals target) _ (typed_later F known locals slots ready target) (λ x h.
+    (typed known locals (unwrapped target)) _ (typed_later F known locals slots ready (unwrapped target)) (λ x h.
     bind (λ to. Later F known slots (λ W. MayAdd F W r to)) (λ s. Later F known slots (λ W. Fine F W r s))
     (counter (span_of target) x.expression x.static) _
     (counter_gives F known slots r (span_of target) x.expression x.static h) (λ to may.

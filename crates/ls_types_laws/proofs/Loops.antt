@@ -19,7 +19,7 @@ use Rattle.ls_types_elaboration.specs.TypedStatements.{Loops, loop_of, WithSlots
 use Rattle.ls_types_elaboration.specs.TypedStatements.{AtSlot, AtField, AtItem, assigned, assignment, Counter, OfSlot}
 use Rattle.ls_types_elaboration.specs.TypedStatements.{OfField, counter, added, addition, step, simple, one_simple}
 use Rattle.ls_types_elaboration.specs.TypedStatements.{simples, returned, opened, opening, condition, for_loop, closed}
-use Rattle.ls_types_elaboration.specs.TypedStatements.{followed, monitor, statement, items}
+use Rattle.ls_types_elaboration.specs.TypedStatements.{followed, monitor, statement, items, unwrapped}
 use Rattle.ls_types_judgement.specs.Leaving.{JumpsInLoops}
 use Rattle.ls_types_laws.proofs.Results.{Gives, bind, after, unless, each_keeps}
 use Rattle.ls_types_laws.proofs.Lists.{Each, each_push}
@@ -74,7 +74,7 @@ assigned_good n (AtItem a i) v = tt
 assignment_good : (n : ℕ) (known : Known) (locals : List Local) (target value : Expression) →
     Gives (JumpsInLoops n) (assignment known locals target value)
 assignment_good n known locals target value =
-    after (JumpsInLoops n) (typed known locals target) _ (λ x.
+    after (JumpsInLoops n) (typed known locals (unwrapped target)) _ (λ x.
     after (JumpsInLoops n) (variable (span_of target) x.expression x.static) _ (λ to.
     after (JumpsInLoops n) (fitting known locals to.type value) _ (λ v. assigned_good n to.place v)))
 
@@ -86,7 +86,7 @@ addition_good : (n : ℕ) (known : Known) (locals : List Local) (target : Expres
     (value : Elaborated checked.Expression) →
     Gives (JumpsInLoops n) (addition known locals target value)
 addition_good n known locals target value =
-    after (JumpsInLoops n) (typed known locals target) _ (λ x.
+    after (JumpsInLoops n) (typed known locals (unwrapped target)) _ (λ x.
     after (JumpsInLoops n) (counter (span_of target) x.expression x.static) _ (λ to.
     after (JumpsInLoops n) value _ (λ v. added_good n to v)))
 

@@ -24,7 +24,7 @@ use Rattle.ls_types_elaboration.specs.TypedStatements.{Loops, loop_of, with_slot
 use Rattle.ls_types_elaboration.specs.TypedStatements.{label_text, fresh_label, variable, assignment, counter, added}
 use Rattle.ls_types_elaboration.specs.TypedStatements.{addition, step, simple, one_simple, simples, returned, opened}
 use Rattle.ls_types_elaboration.specs.TypedStatements.{opening, condition, for_loop, closed, followed, monitor_of}
-use Rattle.ls_types_elaboration.specs.TypedStatements.{monitor, statement, items}
+use Rattle.ls_types_elaboration.specs.TypedStatements.{monitor, statement, items, unwrapped}
 use Rattle.ls_parser_placing.specs.Unplaced.{nowhere, unplaced, unplaced_name, unplaced_type, unplaced_declarator}
 use Rattle.ls_parser_placing.specs.Unplaced.{unplaced_declaration, unplaced_simple, unplaced_opening}
 use Rattle.ls_parser_placing.specs.Unplaced.{unplaced_statement, unplaced_items}
@@ -128,10 +128,19 @@ monitor_same known locals e =
     bind (typed known locals e) (typed known locals (unplaced e)) _ _ (typed_same known locals e) (λ x.
     monitor_of_same (span_of (unplaced e)) (span_of e) x.expression x.static (span_nowhere e))
 
+unwrapped_same : (e : Expression) → unwrapped (unplaced e) ≡ unplaced (unwrapped e)
+unwrapped_same (Trees.Paren inner span) = unwrapped_same inner
+unwrapped_same _ = refl
+
+left_same : (known : Known) (locals : List Local) (e : Expression) →
+    typed known locals (unwrapped (unplaced e)) ≡ anywhere (typed known locals (unwrapped e))
+left_same known locals e = ap (λ t. typed known locals t) (unwrapped_same e) ∙ typed_same known locals (unwrapped e)
+
 assignment_same : (known : Known) (locals : List Local) (target value : Expression)
     → assignment known locals (unplaced target) (unplaced value) ≡ anywhere (assignment known locals target value)
 assignment_same known locals target value =
-    bind (typed known locals target) (typed known locals (unplaced target)) _ _ (typed_same known locals target) (λ x.
+    bind (typed known locals (unwrapped target)) (typed known locals (unwrapped (unplaced target))) _ _
+    (left_same known locals target) (λ x.
     bind (variable (span_of target) x.expression x.static) (variable (span_of (unplaced target)) x.expression x.static)
     _ _
     (variable_same (span_of (unplaced target)) (span_of target) x.expression x.static (span_nowhere target)) (λ to.
@@ -154,7 +163,8 @@ addition_same : (known : Known) (locals : List Local) (target : Expression) (v v
     v' ≡ anywhere v
     → addition known locals (unplaced target) v' ≡ anywhere (addition known locals target v)
 addition_same known locals target v v' e =
-    bind (typed known locals target) (typed known locals (unplaced target)) _ _ (typed_same known locals target) (λ x.
+    bind (typed known locals (unwrapped target)) (typed known locals (unwrapped (unplaced target))) _ _
+    (left_same known locals target) (λ x.
     bind (counter (span_of target) x.expression x.static) (counter (span_of (unplaced target)) x.expression x.static) _
     _
     (counter_same (span_of (unplaced target)) (span_of target) x.expression x.static (span_nowhere target)) (λ to.

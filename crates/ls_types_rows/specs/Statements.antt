@@ -70,6 +70,21 @@ NotAssigned =
     × Breaks (assign (named (codes "r") 1) (named (codes "q") 2)) rules.WrongType 2
     × Breaks (assign (parsed.Item (named (codes "a") 1) (one 2) (at 3)) (one 4)) rules.WrongType 4
 
+-- parentheses round a left side change nothing, also round a call without a value
+abbrev pub Wrapped : Type 0
+Wrapped =
+    Becomes None [] (assign (parsed.Paren (parsed.Paren (named (codes "i") 1) (at 2)) (at 3)) (one 4))
+    (checked.SetField (checked.Slot 0) 0 (int 1)) []
+    × Becomes None [] (assign (parsed.Paren (parsed.Item (named (codes "a") 1) (one 2) (at 3)) (at 4)) (yes 5))
+    (checked.SetItem (own 2) (int 1) truth) []
+    × Breaks (assign (parsed.Paren (call (codes "v") [] 1) (at 3)) (one 4)) rules.NotAssignable 3
+    × Breaks (assign (parsed.Paren (parsed.Paren (call (codes "v") [] 1) (at 3)) (at 4)) (one 5)) rules.NotAssignable 4
+    × Breaks (parsed.Perform (parsed.Add (parsed.Paren (call (codes "v") [] 1) (at 3)) (yes 4))) rules.NotAssignable 3
+    × Breaks (parsed.Perform (parsed.Count true false (parsed.Paren (call (codes "v") [] 1) (at 3))))
+    rules.NotAssignable 3
+    × Breaks (assign (parsed.Paren (named (codes "z") 1) (at 2)) (one 3)) rules.UnknownName 1
+    × Breaks (assign (field (parsed.Paren (call (codes "v") [] 1) (at 3)) (codes "k") 4) (one 6)) rules.WrongType 2
+
 -- a call without a value is a statement; the value of any other expression is dropped
 abbrev pub Evaluations : Type 0
 Evaluations =

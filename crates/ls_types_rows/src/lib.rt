@@ -10,7 +10,7 @@ ghost use Rattle.ls_types_rows.specs.Calls.{Methods, Arguments, Locks, Markables
 ghost use Rattle.ls_types_rows.specs.Calls.{Arrays};
 ghost use Rattle.ls_types_rows.specs.Statements.{Assignments, NotAssigned, Evaluations, Declarations, OwnInitialiser};
 ghost use Rattle.ls_types_rows.specs.Statements.{OutOfScope, TwoOfOneName, OwnSlots, MostSlots, Jumps, NoLoops};
-ghost use Rattle.ls_types_rows.specs.Statements.{Labels, Conditions, Returns, ForLoops, Additions};
+ghost use Rattle.ls_types_rows.specs.Statements.{Labels, Conditions, Returns, ForLoops, Additions, Wrapped};
 ghost use Rattle.ls_types_rows.specs.Monitors.{Forms, JumpsThrough, OutOfBlock, Locked, NamedSlotsAlone};
 ghost use Rattle.ls_types_rows.specs.Monitors.{SynchronizedMethods};
 ghost use Rattle.ls_types_rows.specs.Files.{ReservedClasses, MembersOfOneName, OneNameForSeveral, OtherConstructors};
@@ -50,6 +50,7 @@ pub fn calls()
 pub fn statements()
     ensures assignments { Assignments }
     ensures not_assigned { NotAssigned }
+    ensures wrapped { Wrapped }
     ensures evaluations { Evaluations }
     ensures declarations { Declarations }
     ensures own_initialiser { OwnInitialiser }

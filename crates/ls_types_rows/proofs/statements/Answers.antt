@@ -7,6 +7,9 @@ returns-clause-assignments c = (refl, refl, refl, refl, refl)
 pub returns-clause-not_assigned : goal.returns-clause-not_assigned
 returns-clause-not_assigned c = (refl, refl, refl, refl, refl, refl, refl, refl, refl, refl)
 
+pub returns-clause-wrapped : goal.returns-clause-wrapped
+returns-clause-wrapped c = (refl, refl, refl, refl, refl, refl, refl, refl)
+
 pub returns-clause-evaluations : goal.returns-clause-evaluations
 returns-clause-evaluations c = (refl, refl)
 

@@ -8,7 +8,7 @@ use Rattle.ls_explore.specs.Walks.{led_to, root_of}
 use Rattle.ls_explore.proofs.Closing.{first_there}
 use Rattle.ls_explore.proofs.Loops.{root_same}
 use Rattle.ls_explore.proofs.Paths.{length-paths}
-use Rattle.ls_explore.proofs.Telling.{tells_all, tells_ends, tells_over, tells_states, tells_truth, tells_whole}
+use Rattle.ls_explore.proofs.Telling.{tells_acts, tells_all, tells_ends, tells_over, tells_states, tells_truth, tells_whole}
 use Rattle.ls_explore.proofs.Walks.{walked_none}
 use Rattle.ls_explore.proofs.exploring.explore.Goals as goal
 
@@ -45,6 +45,14 @@ returns-clause-told g c =
     let er = root_same c.in_ok-walker.walker c.search.new.walker setup c.search.ensures.code c.search.ensures.cells ∙
     ap (λ (m : Machine). root_of m setup) c.in_ok-walker.ensures.loaded in
     tells_truth c.args.code.now c.args.cells setup c.args.extent.threads c.most_steps.result
+    (root_of c.search.new.walker setup) c.in_ok-rows.rows.items c.most_steps.ensures er c.in_ok-rows.ensures.told
+
+pub returns-clause-acts : goal.returns-clause-acts
+returns-clause-acts g c =
+    let setup : List ℕ = c.args.setup.now in
+    let er = root_same c.in_ok-walker.walker c.search.new.walker setup c.search.ensures.code c.search.ensures.cells ∙
+    ap (λ (m : Machine). root_of m setup) c.in_ok-walker.ensures.loaded in
+    tells_acts c.args.code.now c.args.cells setup c.args.extent.threads c.most_steps.result
     (root_of c.search.new.walker setup) c.in_ok-rows.rows.items c.most_steps.ensures er c.in_ok-rows.ensures.told
 
 pub returns-clause-over : goal.returns-clause-over

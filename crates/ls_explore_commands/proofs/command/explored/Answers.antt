@@ -1,4 +1,4 @@
-use Rattle.std.proofs.Common.{◌≡◌, ◌∙◌, subst, sym}
+use Rattle.std.proofs.Common.{◌&&◌, ◌≡◌, ◌∙◌, subst, sym}
 use Rattle.std.proofs.lemmas.Result.{err_from_is_err_and}
 use Rattle.std.specs.Prelude.{All, string_bytes}
 use Rattle.ls_checked.specs.PlainProgram.{plain_program}
@@ -6,7 +6,7 @@ use Rattle.ls_checked.specs.declared.program.Program.{Program}
 use Rattle.ls_image.specs.Images.{program_of_image}
 use Rattle.ls_labels.specs.Names.{Names}
 use Rattle.ls_schedule.specs.Reading.{thread_names}
-use Rattle.ls_explore_reports.specs.Judged.{AreHistories, IsJudged}
+use Rattle.ls_explore_reports.specs.Judged.{AreHistories, IsJudged, IsToldLinear}
 use Rattle.ls_explore_reports.specs.Printing.{explored_text}
 use Rattle.ls_explore_commands.specs.Explored.{names_in}
 use Rattle.ls_explore_commands.proofs.ExploredLemmas.{explore_fails, explore_tells, judged_so, long_fails, rows_named}
@@ -16,7 +16,7 @@ pub returns-in_err-found-clause-gives : goal.returns-in_err-found-clause-gives
 returns-in_err-found-clause-gives g c =
     let p = err_from_is_err_and c.from_residual.result c.from_residual.ensures.1 in
     rw (p.1, p.2) (explore_fails c.args.image.now c.args.exploring c.in_err-found.field-0.0
-    c.in_err-found.ensures.states c.in_err-found.ensures.cells c.in_err-found.ensures.endless
+    c.in_err-found.ensures.cells c.in_err-found.ensures.states c.in_err-found.ensures.endless
     c.in_err-found.ensures.setup)
 
 pub judge_rows-requires : goal.judge_rows-requires
@@ -35,11 +35,15 @@ returns-in_err-text-clause-gives g c =
     let of_rows = c.in_ok-judged.ensures.rows ∙ c.as_slice.ensures.value in
     let verdicts = subst (λ (q : Program). All (IsJudged (plain_program q)) judged) c.program.ensures
     c.in_ok-judged.ensures.verdicts in
+    let linear = subst (λ rows. All (IsToldLinear (found.complete && found.roomy) rows) judged) c.as_slice.ensures.value
+    (subst (λ w. All (IsToldLinear w c.as_slice.result.now) judged) c.is_whole-whole.ensures
+    c.in_ok-judged.ensures.linear) in
     let so =
-    judged_so i c.args.exploring.cells c.args.exploring.states found.setup found.rows.items judged found.states
+    judged_so c.linearity_is_meant.ensures c.none_is_illegal.ensures.whole c.none_is_not_linearizable.ensures.whole i
+    c.args.exploring.cells c.args.exploring.states found.setup found.rows.items judged found.states
     found.complete found.roomy of_rows c.in_ok-found.ensures.told c.in_ok-found.ensures.found
     c.in_ok-found.ensures.cut c.in_ok-found.ensures.tells c.in_ok-found.ensures.whole c.in_ok-found.ensures.apart
-    c.in_ok-found.ensures.order verdicts
+    c.in_ok-found.ensures.order verdicts linear
     in
     let p = err_from_is_err_and c.from_residual-in_err-text.result c.from_residual-in_err-text.ensures.1 in
     rw (p.1, p.2)
@@ -57,6 +61,9 @@ returns-clause-gives g c =
     let of_rows = c.in_ok-judged.ensures.rows ∙ c.as_slice.ensures.value in
     let verdicts = subst (λ (q : Program). All (IsJudged (plain_program q)) judged) c.program.ensures
     c.in_ok-judged.ensures.verdicts in
+    let linear = subst (λ rows. All (IsToldLinear (found.complete && found.roomy) rows) judged) c.as_slice.ensures.value
+    (subst (λ w. All (IsToldLinear w c.as_slice.result.now) judged) c.is_whole-whole.ensures
+    c.in_ok-judged.ensures.linear) in
     let first = subst (λ (ns : Names). t ≡ explored_text ns (thread_names c.names_in.result.program.now) found.setup
     c.as_slice-2.result.now found.states found.complete found.roomy e) c.names_in.ensures.names
     c.in_ok-text.ensures.text in
@@ -65,7 +72,8 @@ returns-clause-gives g c =
     let said = subst (λ js. t ≡ explored_text (names_in i) (thread_names (program_of_image i)) found.setup js
     found.states found.complete found.roomy e) c.as_slice-2.ensures.value next in
     explore_tells i e found.setup judged found.states found.complete found.roomy t c.in_ok-found.ensures.good
-    (judged_so i e.cells e.states found.setup found.rows.items judged found.states found.complete found.roomy of_rows
+    (judged_so c.linearity_is_meant.ensures c.none_is_illegal.ensures.whole c.none_is_not_linearizable.ensures.whole i
+    e.cells e.states found.setup found.rows.items judged found.states found.complete found.roomy of_rows
     c.in_ok-found.ensures.told c.in_ok-found.ensures.found c.in_ok-found.ensures.cut c.in_ok-found.ensures.tells
-    c.in_ok-found.ensures.whole c.in_ok-found.ensures.apart c.in_ok-found.ensures.order verdicts)
+    c.in_ok-found.ensures.whole c.in_ok-found.ensures.apart c.in_ok-found.ensures.order verdicts linear)
     said

@@ -7,20 +7,27 @@ use Rattle.ls_checked.specs.CheckedProgram.{Program}
 use Rattle.ls_types.specs.CheckedFile as checked
 use Rattle.ls_translation.specs.Texts.{file_of, program_of}
 use Rattle.ls_explore_images.specs.Settings.{EndsAt, GoesOnFor, IsSetting, SticksAt}
-use Rattle.ls_explore_images.proofs.Refusals.{endless_cells, endless_goes, endless_late, endless_memory, endless_not}
-use Rattle.ls_explore_images.proofs.Refusals.{endless_states, late_cells, late_setup, late_states, not_many}
-use Rattle.ls_explore_images.proofs.Settings.{no_both, not_ending, not_sticking}
+use Rattle.ls_explore_images.proofs.Refusals.{endless_cells, endless_goes, endless_late, endless_memory, endless_no_cells}
+use Rattle.ls_explore_images.proofs.Refusals.{endless_no_states, endless_not}
+use Rattle.ls_explore_images.proofs.Refusals.{endless_states, late_cells, late_setup, late_states, good_numbers}
+use Rattle.ls_explore_images.proofs.Settings.{not_ending, not_sticking}
 use Rattle.ls_explore_images.proofs.exploring.explore_image.Goals as goal
 
 pub returns-in-Ends-clause-states : goal.returns-in-Ends-clause-states
 returns-in-Ends-clause-states g c =
     late_states (file_of c.args.image.now) (program_of c.args.image.now) c.args.image.now.code c.args.cells _
-    c.args.states c.explore_rest.result c.explore_rest.ensures.late (grind arith)
+    c.args.states (good_numbers c.args.image.now.code c.args.cells c.args.states c.are_bad_cells.result
+    c.are_bad_states.result c.are_bad_cells.ensures c.if-are_bad_cells.false c.are_bad_states.ensures
+    c.if-are_bad_states.false) c.explore_rest.result
+    c.explore_rest.ensures.late
 
 pub returns-in-Ends-clause-cells : goal.returns-in-Ends-clause-cells
 returns-in-Ends-clause-cells g c =
     late_cells (file_of c.args.image.now) (program_of c.args.image.now) c.args.image.now.code c.args.cells _
-    c.args.states c.explore_rest.result c.explore_rest.ensures.late
+    c.args.states (good_numbers c.args.image.now.code c.args.cells c.args.states c.are_bad_cells.result
+    c.are_bad_states.result c.are_bad_cells.ensures c.if-are_bad_cells.false c.are_bad_states.ensures
+    c.if-are_bad_states.false) c.explore_rest.result
+    c.explore_rest.ensures.late
 
 pub returns-in-Ends-clause-endless : goal.returns-in-Ends-clause-endless
 returns-in-Ends-clause-endless g c =
@@ -35,11 +42,14 @@ pub returns-in-Ends-clause-setup : goal.returns-in-Ends-clause-setup
 returns-in-Ends-clause-setup g c =
     let ends : EndsAt (file_of c.args.image.now) (program_of c.args.image.now) c.in-Ends.count = search rules in
     late_setup (file_of c.args.image.now) (program_of c.args.image.now) c.args.image.now.code c.args.cells
-    c.in-Ends.count c.explore_rest.result ends c.explore_rest.ensures.late
+    c.in-Ends.count c.args.states (good_numbers c.args.image.now.code c.args.cells c.args.states c.are_bad_cells.result
+    c.are_bad_states.result c.are_bad_cells.ensures c.if-are_bad_cells.false c.are_bad_states.ensures
+    c.if-are_bad_states.false) c.explore_rest.result ends
+    c.explore_rest.ensures.late
 
-pub returns-then-states-eq0-clause-endless : goal.returns-then-states-eq0-clause-endless
-returns-then-states-eq0-clause-endless g c = endless_states (file_of c.args.image.now) (program_of c.args.image.now)
-    c.args.image.now.code c.args.cells c.args.states (grind arith)
+pub returns-then-are_bad_states-clause-endless : goal.returns-then-are_bad_states-clause-endless
+returns-then-are_bad_states-clause-endless g c = endless_states (file_of c.args.image.now) (program_of c.args.image.now)
+    c.args.image.now.code c.args.cells c.args.states (c.are_bad_states.ensures.0 c.if-are_bad_states.true)
 
 pub returns-then-are_bad_cells-clause-endless : goal.returns-then-are_bad_cells-clause-endless
 returns-then-are_bad_cells-clause-endless g c = endless_cells (file_of c.args.image.now) (program_of c.args.image.now)
@@ -60,13 +70,6 @@ returns-in_err-explore_stuck-in-Sticks-clause-endless g c =
     rw (p.1, p.2) (endless_memory (file_of c.args.image.now) (program_of c.args.image.now) c.args.image.now.code
     c.args.cells c.args.states)
 
-pub returns-in-GoesOn-clause-states : goal.returns-in-GoesOn-clause-states
-returns-in-GoesOn-clause-states g c = (
-  λ e. absurd cc,
-  λ many.
-      absurd (not_many c.args.states c.if-states-eq0.false c.if-states-gt-MOST_STATES.false many),
-)
-
 pub returns-in-GoesOn-clause-endless : goal.returns-in-GoesOn-clause-endless
 returns-in-GoesOn-clause-endless g c =
     let file : File = file_of c.args.image.now in
@@ -82,5 +85,16 @@ returns-in-GoesOn-clause-endless g c =
     (λ (p : Program). IsSetting file p c.in_ok-setting.setting) of_program first in
     let goes : GoesOnFor file program 100001 = subst (IsSetting file program) c.in-GoesOn.is next in
     endless_goes file program c.args.image.now.code c.args.cells c.args.states
-    (λ many. not_many c.args.states c.if-states-eq0.false c.if-states-gt-MOST_STATES.false many)
-    (λ bad. no_both (sym (c.are_bad_cells.ensures.1 bad) ∙ c.if-are_bad_cells.false)) goes
+    (good_numbers c.args.image.now.code c.args.cells c.args.states c.are_bad_cells.result
+    c.are_bad_states.result c.are_bad_cells.ensures c.if-are_bad_cells.false c.are_bad_states.ensures
+    c.if-are_bad_states.false) goes
+
+pub returns-in-GoesOn-clause-cells : goal.returns-in-GoesOn-clause-cells
+returns-in-GoesOn-clause-cells g c = endless_no_cells c.args.image.now.code c.args.cells c.args.states (good_numbers c.args.image.now.code c.args.cells c.args.states c.are_bad_cells.result
+    c.are_bad_states.result c.are_bad_cells.ensures c.if-are_bad_cells.false c.are_bad_states.ensures
+    c.if-are_bad_states.false)
+
+pub returns-in-GoesOn-clause-states : goal.returns-in-GoesOn-clause-states
+returns-in-GoesOn-clause-states g c = endless_no_states c.args.image.now.code c.args.cells c.args.states (good_numbers c.args.image.now.code c.args.cells c.args.states c.are_bad_cells.result
+    c.are_bad_states.result c.are_bad_cells.ensures c.if-are_bad_cells.false c.are_bad_states.ensures
+    c.if-are_bad_states.false)

@@ -2,6 +2,7 @@ use Rattle.std.proofs.Common.{ℕ, List, subst}
 use Rattle.ls_checked.specs.CheckedTree.{File}
 use Rattle.ls_checked.specs.CheckedProgram.{Program}
 use Rattle.ls_code.specs.Code.{Code}
+use Rattle.ls_explore.specs.Rows.{TellsActs}
 use Rattle.ls_explore.specs.Rows.{TellsAll, TellsEnds, TellsOver, TellsStates, TellsTruth, TellsWhole}
 use Rattle.ls_translation.specs.Texts.{file_of, program_of}
 use Rattle.ls_explore_images.proofs.Tellings.{tell_all, tell_states, tell_truth, tell_whole}
@@ -18,6 +19,7 @@ returns-clause-told g c =
     tell_truth file program code c.args.cells c.args.image.now.kept c.requires.cells setup c.args.count threads rows
     c.acts_in_time.ensures c.in_ok-steps.ensures.steps c.count_threads-threads.ensures
     (subst (λ (p : Code). TellsTruth p c.args.cells setup rows) c.code.ensures c.in_ok-rows.ensures.told)
+    (subst (λ (p : Code). TellsActs p c.args.cells setup rows) c.code.ensures c.in_ok-rows.ensures.acts)
     (subst (λ (p : Code). TellsOver p c.args.cells setup threads rows) c.code.ensures c.in_ok-rows.ensures.over)
 
 pub returns-clause-tells : goal.returns-clause-tells

@@ -49,7 +49,8 @@ returns-clause-told c =
     ap (source_history file program) c.in_ok-steps.ensures in
     subst (TellTruth file program c.args.count) (sym c.in_ok-vec.ensures.items)
     (stuck_truth file program c.args.count (c.stuck_covers.ensures file program c.args.count c.requires.stuck.stuck) row
-    (ap (λ (r : Told). r.path) c.in_ok-row.ensures) has (ap (λ (r : Told). r.ending) c.in_ok-row.ensures))
+    (ap (λ (r : Told). r.path) c.in_ok-row.ensures) has (ap (λ (r : Told). r.ending) c.in_ok-row.ensures)
+    c.requires.stuck.acts)
 
 pub returns-clause-found : goal.returns-clause-found
 returns-clause-found c =

@@ -1,51 +1,91 @@
-use Rattle.std.proofs.Common.{map, subst, refl, true}
+use Rattle.std.proofs.Common.{map, refl, subst, true}
+use Rattle.std.proofs.KnownBytes.{Keeps-refl}
 use Rattle.std.specs.Prelude.{string_bytes}
-use Rattle.std.specs.Io.KnownBytes.{Appends}
-use Rattle.ls_tool.specs.Output.{Begins, Told}
-use Rattle.ls_tool.proofs.Ending.{bad_line, cut_short, done, ends_so, explains, if_known, is_decided, tells_fault}
+use Rattle.ls_outlets.specs.Written.{IsWritten}
+use Rattle.ls_tool.specs.Output.{left}
+use Rattle.ls_tool.proofs.Ending.{all_written, bad_line, cut_short, done, ends_alone, ends_so, explains, if_known}
+use Rattle.ls_tool.proofs.Ending.{is_decided, part_written, tells_fault}
 use Rattle.ls_tool.proofs.running.run.Goals as goal
 
-pub returns-in-Ok-write_out-clause-ends : goal.returns-in-Ok-write_out-clause-ends
-returns-in-Ok-write_out-clause-ends g c =
+pub returns-then-not-write_out-clause-ends : goal.returns-then-not-write_out-clause-ends
+returns-then-not-write_out-clause-ends g c =
+    let words = map string_bytes c.args.words.now in
+    let old = g.W.Write.contents c.args.out.now in
+    let new = g.W.Write.contents c.write_out.new.writer in
+    let failed = g.W.Outlet.has_failed c.write_out.new.writer in
+    let between = g.E.Write.contents c.respond.new.err in
+    let err = g.E.Write.contents c.tell_line.new.err in
+    let err_failed = g.E.Outlet.has_failed c.tell_line.new.err in
+    let part = part_written (string_bytes c.in-Ok.text) c.write_out.result old new failed c.if-not-write_out.true
+    (subst (λ z. IsWritten z c.write_out.result old new failed) c.as_bytes.ensures.value c.write_out.ensures.written) in
     if_known (g.R.Read.remaining c.args.reader.now) _ _ (λ input d.
-    ends_so (map string_bytes c.args.words.now) input (record { status = 0; is_told = true }) _ _ _ _ _
-    c.in-Ok.ensures.progress
-    (done (map string_bytes c.args.words.now) input c.in-Ok.text (record { status = 0; is_told = true }) _ _ _ refl
-    (subst (λ z. Appends (g.W.Write.contents c.args.out.now) (g.W.Write.contents c.write_out.new.writer) z)
-    c.as_bytes.ensures.value c.in-Ok-write_out.ensures.ok) d)) c.in-Ok.ensures.responds
+    ends_so words input c.tell_line.result (left old new failed)
+    (left (g.E.Write.contents c.args.err.now) err err_failed) between (g.E.Outlet.has_failed c.respond.new.err)
+    c.tell_line.ensures.kept c.in-Ok.ensures.progress
+    (cut_short words input c.in-Ok.text c.tell_line.result (left old new failed) (left between err err_failed)
+    c.tell_line.ensures.status part c.tell_line.ensures.told d)) c.in-Ok.ensures.responds
 
-pub returns-in-Ok-clause-ends : goal.returns-in-Ok-clause-ends
-returns-in-Ok-clause-ends g c =
+pub returns-else-not-write_out-clause-ends : goal.returns-else-not-write_out-clause-ends
+returns-else-not-write_out-clause-ends g c =
+    let words = map string_bytes c.args.words.now in
+    let old = g.W.Write.contents c.args.out.now in
+    let new = g.W.Write.contents c.write_out.new.writer in
+    let failed = g.W.Outlet.has_failed c.write_out.new.writer in
+    let between = g.E.Write.contents c.respond.new.err in
+    let err_failed = g.E.Outlet.has_failed c.respond.new.err in
+    let whole = all_written (string_bytes c.in-Ok.text) c.write_out.result old new failed c.if-not-write_out.false
+    (subst (λ z. IsWritten z c.write_out.result old new failed) c.as_bytes.ensures.value c.write_out.ensures.written) in
     if_known (g.R.Read.remaining c.args.reader.now) _ _ (λ input d.
-    ends_so (map string_bytes c.args.words.now) input _ _ _ _ _ _ c.in-Ok.ensures.progress
-    (cut_short (map string_bytes c.args.words.now) input c.in-Ok.text _ _ _ _ _ c.tell_line.ensures.status
-    (subst (λ z. Begins (g.W.Write.contents c.args.out.now) (g.W.Write.contents c.write_out.new.writer) z)
-    c.as_bytes.ensures.value c.in-Err.ensures.err) c.tell_line.ensures.told d)) c.in-Ok.ensures.responds
+    ends_so words input (record { status = 0; is_told = true }) (left old new failed)
+    (left (g.E.Write.contents c.args.err.now) between err_failed) between err_failed (λ e. e) c.in-Ok.ensures.progress
+    (done words input c.in-Ok.text (record { status = 0; is_told = true }) (left old new failed)
+    (left between between err_failed) refl (Keeps-refl between) whole d)) c.in-Ok.ensures.responds
 
 pub returns-in-Err-Fault-clause-ends : goal.returns-in-Err-Fault-clause-ends
 returns-in-Err-Fault-clause-ends g c =
+    let words = map string_bytes c.args.words.now in
+    let out = g.W.Write.contents c.args.out.now in
+    let out_failed = g.W.Outlet.has_failed c.args.out.now in
+    let between = g.E.Write.contents c.respond.new.err in
+    let tell = c.tell_line-in-Err-Fault in
+    let err = g.E.Write.contents tell.new.err in
+    let err_failed = g.E.Outlet.has_failed tell.new.err in
     if_known (g.R.Read.remaining c.args.reader.now) _ _ (λ input d.
-    ends_so (map string_bytes c.args.words.now) input _ _ _ _ _ _ c.in-Err-Fault.ensures.progress
-    (tells_fault (map string_bytes c.args.words.now) input c.in-Err-Fault.fault _ _ _ _ refl
-    c.tell_line-in-Err-Fault.ensures.status c.tell_line-in-Err-Fault.ensures.told d))
+    ends_so words input tell.result (left out out out_failed)
+    (left (g.E.Write.contents c.args.err.now) err err_failed) between (g.E.Outlet.has_failed c.respond.new.err)
+    tell.ensures.kept c.in-Err-Fault.ensures.progress
+    (tells_fault words input c.in-Err-Fault.fault tell.result (left out out out_failed) (left between err err_failed)
+    refl tell.ensures.status (Keeps-refl out) tell.ensures.told d))
     (rw c.in-Err-Fault.field-0-is at c.in-Err-Fault.ensures.responds)
-
-pub returns-clause-ends : goal.returns-clause-ends
-returns-clause-ends g c =
-    if_known (g.R.Read.remaining c.args.reader.now) _ _ (λ input d.
-    ends_so (map string_bytes c.args.words.now) input _ _ _ _ _ _ c.in-Err-BadLine.ensures.progress
-    (bad_line (map string_bytes c.args.words.now) input c.in-Err-BadLine.error _ _ _ _ refl d))
-    (rw c.in-Err-BadLine.field-0-is at c.in-Err-BadLine.ensures.responds)
-
-pub returns-clause-unread : goal.returns-clause-unread
-returns-clause-unread g c = λ e. rw c.in-Err-BadLine.field-0-is at c.in-Err-BadLine.ensures.unread
 
 pub returns-in-Err-Explained-clause-ends : goal.returns-in-Err-Explained-clause-ends
 returns-in-Err-Explained-clause-ends g c =
+    let words = map string_bytes c.args.words.now in
+    let out = g.W.Write.contents c.args.out.now in
+    let out_failed = g.W.Outlet.has_failed c.args.out.now in
+    let between = g.E.Write.contents c.respond.new.err in
+    let err = g.E.Write.contents c.tell.new.err in
+    let err_failed = g.E.Outlet.has_failed c.tell.new.err in
+    let told = subst (λ z. IsWritten z c.tell.result.is_told between err err_failed) c.as_slice.ensures.value
+    c.tell.ensures.told in
     if_known (g.R.Read.remaining c.args.reader.now) _ _ (λ input d.
-    ends_so (map string_bytes c.args.words.now) input _ _ _ _ _ _ c.in-Err-Explained.ensures.progress
-    (explains (map string_bytes c.args.words.now) input c.in-Err-Explained.told.items _ _ _ _ c.tell.ensures.status
-    (subst (λ z. Told z c.tell.result.is_told (g.E.Write.contents c.respond.new.err)
-    (g.E.Write.contents c.tell.new.err)) c.as_slice.ensures.value c.tell.ensures.told)
-    (is_decided (map string_bytes c.args.words.now) input (λ e. absurd (cc)) d)))
+    ends_so words input c.tell.result (left out out out_failed)
+    (left (g.E.Write.contents c.args.err.now) err err_failed) between (g.E.Outlet.has_failed c.respond.new.err)
+    c.tell.ensures.kept c.in-Err-Explained.ensures.progress
+    (explains words input c.in-Err-Explained.told.items c.tell.result (left out out out_failed)
+    (left between err err_failed) c.tell.ensures.status (Keeps-refl out) told
+    (is_decided words input (λ e. absurd (cc)) d)))
     (rw c.in-Err-Explained.field-0-is at c.in-Err-Explained.ensures.responds)
+
+pub returns-in-Err-BadLine-clause-ends : goal.returns-in-Err-BadLine-clause-ends
+returns-in-Err-BadLine-clause-ends g c =
+    let words = map string_bytes c.args.words.now in
+    let out = g.W.Write.contents c.args.out.now in
+    let out_failed = g.W.Outlet.has_failed c.args.out.now in
+    if_known (g.R.Read.remaining c.args.reader.now) _ _ (λ input d.
+    ends_alone words input _ (left out out out_failed) _
+    (bad_line words input c.in-Err-BadLine.error _ (left out out out_failed) _ refl (Keeps-refl out) d))
+    (rw c.in-Err-BadLine.field-0-is at c.in-Err-BadLine.ensures.responds)
+
+pub returns-in-Err-BadLine-clause-unread : goal.returns-in-Err-BadLine-clause-unread
+returns-in-Err-BadLine-clause-unread g c = λ e. rw c.in-Err-BadLine.field-0-is at c.in-Err-BadLine.ensures.unread

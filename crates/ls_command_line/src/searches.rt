@@ -1,0 +1,128 @@
+// The commands `explore` and `find` as clap has them.
+
+ghost use Rattle.std.specs.Prelude.{◌≡◌, IfOk, false};
+ghost use Rattle.clap.specs.Words.{app_of};
+ghost use Rattle.clap.specs.declared.builder.command.Command.TheViews.{out-Command};
+ghost use Rattle.ls_command_line.specs.Words.{bounds_line, explore_line, find_line};
+
+use crate::line::{cells_option, flag_option, number_option, plain_command, with_option};
+use clap::Command;
+use std::alloc::{AllocError, Global};
+
+pub(crate) fn explore_command<'a>(alloc: Global) -> Result<Command<'a>, AllocError>
+    ensures shape { IfOk result (λ c. app_of c ≡ explore_line) }
+    ensures local { IfOk result (λ c. (out-Command c).has_globals ≡ false) }
+{
+    let command = plain_command(
+        alloc,
+        "explore",
+        "Finds the histories of all schedules of a program, with a schedule of source steps for each",
+        "Standard input has two parts, class text and thread program, with a line %% between them:\n  \
+         printf 'class C { }\\n%%%%\\nsetup { c = new C(); }\\n' | listset explore",
+    );
+    let states = number_option(
+        alloc,
+        "states",
+        false,
+        "how many states are kept at the most, 1 to 16777216 [default: 1000000]",
+    );
+    let command = with_option(with_option(command, cells_option(alloc)), states);
+    let illegal = flag_option(
+        alloc,
+        "illegal",
+        "prints only histories of which no order is legal",
+    );
+    let command = with_option(command, illegal);
+    let first = flag_option(alloc, "first", "prints only the first of the histories");
+    let command = with_option(command, first);
+    let progress = flag_option(
+        alloc,
+        "progress",
+        "tells on standard error of each 65536 states that are kept",
+    );
+    with_option(command, progress)
+}
+
+/// The command with the bounds of the programs that it looks through.
+fn bounds_command<'a>(alloc: Global) -> Result<Command<'a>, AllocError>
+    ensures shape { IfOk result (λ c. app_of c ≡ bounds_line) }
+    ensures local { IfOk result (λ c. (out-Command c).has_globals ≡ false) }
+{
+    let command = plain_command(
+        alloc,
+        "find",
+        "Finds the first small program of a class that has a history that isn't linearizable",
+        "Standard input is a class text:\n  \
+         printf 'class C { int n; int next() { n = n + 1; return n; } }' | listset find",
+    );
+    let threads = number_option(
+        alloc,
+        "threads",
+        false,
+        "how many threads a program has at the most, 2 to 4 [default: 2]",
+    );
+    let command = with_option(command, threads);
+    let calls = number_option(
+        alloc,
+        "calls",
+        false,
+        "how many calls a thread has at the most, 1 to 4 [default: 2]",
+    );
+    let command = with_option(command, calls);
+    let setup = number_option(
+        alloc,
+        "setup",
+        false,
+        "how many calls the setup has at the most, up to 8 [default: 1]",
+    );
+    let command = with_option(command, setup);
+    let values = number_option(
+        alloc,
+        "values",
+        false,
+        "an int argument is one of the integers from 1 to N, which is 1 to 9 [default: 2]",
+    );
+    with_option(command, values)
+}
+
+pub(crate) fn find_command<'a>(alloc: Global) -> Result<Command<'a>, AllocError>
+    ensures shape { IfOk result (λ c. app_of c ≡ find_line) }
+    ensures local { IfOk result (λ c. (out-Command c).has_globals ≡ false) }
+{
+    let command = bounds_command(alloc);
+    let class = number_option(
+        alloc,
+        "class",
+        false,
+        "which class of the text is meant, from 1 [default: the one that no other names]",
+    );
+    let command = with_option(command, class);
+    let states = number_option(
+        alloc,
+        "states",
+        false,
+        "how many states of a program are kept at the most [default: 200000]",
+    );
+    let command = with_option(command, states);
+    let from = number_option(
+        alloc,
+        "from",
+        false,
+        "the number of the first program [default: 1]",
+    );
+    let command = with_option(command, from);
+    let to = number_option(
+        alloc,
+        "to",
+        false,
+        "the number of the last program [default: 1000000]",
+    );
+    let command = with_option(command, to);
+    let print = number_option(
+        alloc,
+        "print",
+        false,
+        "prints the program of this number alone",
+    );
+    with_option(command, print)
+}

@@ -1,0 +1,12 @@
+// What rows tell, as the contracts of functions that compute nothing.
+
+ghost use Rattle.ls_explore_commands.specs.Laws.{RowsReadBack};
+
+use ls_text_laws::schedules_read_back;
+
+/// The schedule of a row, of at most 1,000,000 steps, is read as it is printed.
+pub fn rows_read_back()
+    ensures { RowsReadBack }
+{
+    schedules_read_back();
+}

@@ -1,0 +1,51 @@
+-- Programs by their numbers, doubles and texts. Numbers and counts were made by a generator that was written apart.
+use Rattle.std.specs.Prelude.{◌≡◌, ℕ, true, false, List, [], ◌∷◌, Some, None, codes, slice_get}
+use Rattle.ls_families.specs.Families.{Plan, count_of, family_of, plans}
+use Rattle.ls_families.specs.Doubles.{is_double}
+use Rattle.ls_families.specs.Texts.{plan_text}
+use Rattle.ls_families_rows.specs.Shapes.{most, shape}
+
+abbrev pub plan : ℕ → List ℕ → List ℕ → Plan
+plan setup threads calls = record { shape = shape setup threads; calls = calls }
+
+-- of three calls, two threads of two and a setup of one: the program of this number is that
+abbrev pub Numbers : ℕ → Plan → Type 0
+Numbers n p = slice_get (plans (family_of 3 (most 2 2 1))) n ≡ Some p
+
+abbrev pub ByNumber : Type 0
+ByNumber =
+    Numbers 0 (plan 0 (1 ∷ 1 ∷ []) (1 ∷ 1 ∷ []))
+    × Numbers 1 (plan 0 (1 ∷ 1 ∷ []) (1 ∷ 2 ∷ []))
+    × Numbers 8 (plan 0 (1 ∷ 1 ∷ []) (3 ∷ 3 ∷ []))
+    × Numbers 9 (plan 1 (1 ∷ 1 ∷ []) (1 ∷ 1 ∷ 1 ∷ []))
+    × Numbers 36 (plan 0 (1 ∷ 2 ∷ []) (1 ∷ 1 ∷ 1 ∷ []))
+    × Numbers 100 (plan 1 (1 ∷ 2 ∷ []) (2 ∷ 2 ∷ 1 ∷ 2 ∷ []))
+    × Numbers 200 (plan 0 (2 ∷ 2 ∷ []) (3 ∷ 1 ∷ 1 ∷ 3 ∷ []))
+    × Numbers 467 (plan 1 (2 ∷ 2 ∷ []) (3 ∷ 3 ∷ 3 ∷ 3 ∷ 3 ∷ []))
+
+abbrev pub NoneAfter : Type 0
+NoneAfter = slice_get (plans (family_of 3 (most 2 2 1))) 468 ≡ None
+
+abbrev pub Counts : Type 0
+Counts =
+    (count_of (family_of 6 (most 2 2 1)) ≡ 10836)
+    × (count_of (family_of 6 (most 2 2 2)) ≡ 66564)
+    × (count_of (family_of 6 (most 3 1 2)) ≡ 10836)
+    × (count_of (family_of 2 (most 4 4 8)) ≡ 102586316)
+
+-- threads of one length, the greater calls first, and nothing else
+abbrev pub Doubles : Type 0
+Doubles =
+    (is_double (plan 0 (1 ∷ 1 ∷ []) (2 ∷ 1 ∷ [])) ≡ true)
+    × (is_double (plan 0 (1 ∷ 1 ∷ []) (1 ∷ 2 ∷ [])) ≡ false)
+    × (is_double (plan 0 (1 ∷ 1 ∷ []) (2 ∷ 2 ∷ [])) ≡ false)
+    × (is_double (plan 1 (1 ∷ 1 ∷ []) (3 ∷ 1 ∷ 2 ∷ [])) ≡ false)
+    × (is_double (plan 0 (1 ∷ 2 ∷ []) (2 ∷ 1 ∷ 1 ∷ [])) ≡ false)
+    × (is_double (plan 0 (2 ∷ 2 ∷ []) (1 ∷ 2 ∷ 1 ∷ 1 ∷ [])) ≡ true)
+    × (is_double (plan 0 (1 ∷ 1 ∷ 1 ∷ []) (1 ∷ 3 ∷ 2 ∷ [])) ≡ true)
+
+abbrev pub Texts : Type 0
+Texts =
+    plan_text (codes "s = new C();") (codes "s.add(1);" ∷ codes "s.get();" ∷ [])
+    (plan 1 (1 ∷ 2 ∷ []) (1 ∷ 2 ∷ 1 ∷ 1 ∷ [])) ≡
+    codes "setup { s = new C(); s.add(1); }\nthread A { s.get(); }\nthread B { s.add(1); s.add(1); }\n"

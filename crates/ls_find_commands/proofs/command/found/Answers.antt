@@ -1,0 +1,43 @@
+use Rattle.std.proofs.Common.{◌≡◌, ◌∙◌, ◌-◌, ◌≤◌, ap, arith, length, subst, sym}
+use Rattle.std.specs.Prelude.{min}
+use Rattle.ls_families.specs.Families.{Family, plans}
+use Rattle.ls_faults.proofs.Answering.{wider}
+use Rattle.ls_find.specs.Family.{IsFound}
+use Rattle.ls_find_commands.specs.Found.{FindsIn, IsBadRange, NoNumbers, Searched, halted_answer}
+use Rattle.ls_find_commands.proofs.Ranges.{last_within, next_under, not_both}
+use Rattle.ls_find_commands.proofs.command.found.Goals as goal
+
+pub returns-then-is_bad_range : goal.returns-then-is_bad_range
+returns-then-is_bad_range c =
+    let many = c.count-count.ensures ∙ ap (λ (f : Family). length (plans f)) c.family.ensures in
+    NoNumbers (subst (IsBadRange c.args.range) many (c.is_bad_range.ensures.bad.0 c.if-is_bad_range.true))
+
+pub finding_text-requires-clause-last : goal.finding_text-requires-clause-last
+finding_text-requires-clause-last c =
+    let many = c.count-count.ensures ∙ ap (λ (f : Family). length (plans f)) c.family.ensures in
+    let within : c.min-to.result ≤ length (plans c.args.programs.now.family) = omega (arith, many) in
+    let last = last_within c.args.classes.now c.args.programs.now (c.args.range.from - 1) c.min-to.result
+    c.in_ok-finding.finding c.in_ok-finding.ensures within in
+    omega (arith, last, many, c.count-count.type_inv)
+
+pub finding_text-requires-clause-next : goal.finding_text-requires-clause-next
+finding_text-requires-clause-next c =
+    let many = c.count-count.ensures ∙ ap (λ (f : Family). length (plans f)) c.family.ensures in
+    next_under c.args.classes.now c.args.programs.now (c.args.range.from - 1) c.min-to.result
+    c.in_ok-finding.finding c.in_ok-finding.ensures (omega (arith, many, c.count-count.type_inv))
+
+pub returns : goal.returns
+returns c =
+    let r = c.args.range in
+    let p = c.args.programs.now in
+    let f = c.in_ok-finding.finding in
+    let many = c.count-count.ensures ∙ ap (λ (g : Family). length (plans g)) c.family.ensures in
+    let to : c.min-to.result ≡ min r.to (length (plans p.family)) = c.min-to.ensures ∙ ap (min r.to) many in
+    let found = subst (λ n. IsFound c.args.classes.now p (r.from - 1) n f) to c.in_ok-finding.ensures in
+    let good : ¬ IsBadRange r (length (plans p.family)) =
+    λ bad. not_both (c.is_bad_range.ensures.bad.1 (subst (IsBadRange r) (sym many) bad)) c.if-is_bad_range.false in
+    wider (λ a. a ≡ halted_answer (r.from - 1) c.count-count.result f.passed.items f.halted)
+    (FindsIn c.args.classes.now p r) c.finding_text.result
+    (λ a h. subst (FindsIn c.args.classes.now p r)
+    (sym (h ∙ ap (λ n. halted_answer (r.from - 1) n f.passed.items f.halted) many)) (Searched f good found))
+    c.finding_text.ensures

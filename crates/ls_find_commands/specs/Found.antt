@@ -1,0 +1,72 @@
+-- What the command `find` says.
+use Rattle.std.specs.Prelude.{◌≡◌, ◌-◌, ◌<◌, ◌⊎◌, ℕ, List, Option, None, Some, Result, Ok, Err, length, min, slice_get}
+use Rattle.std.specs.Prelude.{string_bytes}
+use Rattle.ls_class_programs.specs.ClassPrograms.{AreProgramsOf, IsClassFault}
+use Rattle.ls_class_programs.specs.declared.choosing.Choosing.{Choosing}
+use Rattle.ls_class_programs.specs.declared.fault.ClassFault.{ClassFault}
+use Rattle.ls_explore_images.specs.Faults.{AreBadStates}
+use Rattle.ls_explore_images.specs.declared.fault.ExploreFault.TheVariants as explore
+use Rattle.ls_families.specs.Families.{Plan, plans}
+use Rattle.ls_family_search.specs.Judged.{Programs, text_of}
+use Rattle.ls_family_search.specs.declared.judging.Halted.{Halted}
+use Rattle.ls_family_search.specs.declared.judging.Passed.{Passed}
+use Rattle.ls_family_search.specs.declared.searching.Finding.{Finding}
+use Rattle.ls_faults.specs.Faults.{lifted_class, lifted_compile}
+use Rattle.ls_faults.specs.declared.fault.ToolFault.{ToolFault}
+use Rattle.ls_faults.specs.declared.fault.ToolFault.TheVariants as faults
+use Rattle.ls_find.specs.Family.{IsFound}
+use Rattle.ls_find.specs.declared.explorer.Why.{Why}
+use Rattle.ls_find.specs.declared.explorer.Why.TheVariants as whys
+use Rattle.ls_find_reports.specs.Printing.{found_text, none_text}
+use Rattle.ls_image.specs.Images.{program_of_image}
+use Rattle.ls_report.specs.Events.{Text}
+use Rattle.ls_schedule.specs.Printing.{schedule_text}
+use Rattle.ls_schedule.specs.Reading.{thread_names}
+use Rattle.ls_find_commands.specs.declared.command.Range.{Range}
+
+-- no program, of so many, has the first number, or the last comes before it
+abbrev pub IsBadRange : Range → ℕ → Type 0
+IsBadRange r count = (r.from ≡ 0) ⊎ (r.to < r.from) ⊎ (count < r.from)
+
+-- the text of the program with which a search ends, from a number on and of so many; or its fault
+abbrev pub why_answer : ℕ → ℕ → List Passed → Text → Why → Result Text ToolFault
+why_answer from count ps program (whys.NotLinearizable i schedule) =
+    Ok (found_text from count ps program (schedule_text (thread_names (program_of_image i)) schedule))
+why_answer from count ps program (whys.NotCompiled fault) = Err (lifted_compile fault)
+
+abbrev pub halted_answer : ℕ → ℕ → List Passed → Option (Halted Why) → Result Text ToolFault
+halted_answer from count ps None = Ok (none_text from count ps)
+halted_answer from count ps (Some h) = why_answer from count ps (string_bytes h.program) h.halt
+
+-- what is found among programs
+pub data FindsIn (classes : Text) (p : Programs) (r : Range) : Result Text ToolFault → Type 0 where
+  NoNumbers : IsBadRange r (length (plans p.family)) → FindsIn classes p r (Err faults.BadNumbers)
+  Searched : (f : Finding Why) →
+      ¬ IsBadRange r (length (plans p.family)) →
+      IsFound classes p (r.from - 1) (min r.to (length (plans p.family))) f →
+      FindsIn classes p r (halted_answer (r.from - 1) (length (plans p.family)) f.passed.items f.halted)
+
+-- What is found among those of a class text, or why there are none.
+pub data FindsTo (o : Choosing) (r : Range) (classes : Text) : Result Text ToolFault → Type 0 where
+  NoStates : AreBadStates r.states → FindsTo o r classes (Err (faults.Explore explore.BadStates))
+  NoPrograms : (f : ClassFault) →
+      ¬ AreBadStates r.states →
+      IsClassFault o classes f →
+      FindsTo o r classes (Err (lifted_class f))
+  Among : (p : Programs) (answer : Result Text ToolFault) →
+      ¬ AreBadStates r.states →
+      AreProgramsOf o classes p →
+      FindsIn classes p r answer →
+      FindsTo o r classes answer
+
+-- The program of a number, from 1, or why there is none.
+pub data PrintsTo (o : Choosing) (n : ℕ) (classes : Text) : Result Text ToolFault → Type 0 where
+  NoClass : (f : ClassFault) → IsClassFault o classes f → PrintsTo o n classes (Err (lifted_class f))
+  NoNumber : (p : Programs) →
+      AreProgramsOf o classes p →
+      (n ≡ 0) ⊎ (length (plans p.family) < n) →
+      PrintsTo o n classes (Err faults.BadNumbers)
+  Prints : (p : Programs) (plan : Plan) →
+      AreProgramsOf o classes p →
+      slice_get (plans p.family) (n - 1) ≡ Some plan →
+      PrintsTo o n classes (Ok (text_of p plan))

@@ -1,0 +1,8 @@
+//! The command `find`: what it says of a class text.
+#![tactic(auto)]
+
+mod command;
+
+pub use command::{Range, find, print_program};
+pub use ls_class_programs::Choosing;
+pub use ls_families::Bounds;

@@ -1,0 +1,126 @@
+// The text of what is found.
+
+ghost use Rattle.std.specs.Prelude.{◌≡◌, ◌+◌, ◌<◌, ◌^◌, ◌++◌, IfOk, IfSome, OnOk, count_by, length, position};
+ghost use Rattle.std.specs.Prelude.{string_bytes};
+ghost use Rattle.ls_find_reports.specs.Printing.{first_text, found_text, head_text, is_cut, is_double, none_text};
+ghost use Rattle.ls_find_reports.specs.Printing.{passed_text};
+
+use ls_family_search::Passed;
+use std::alloc::{AllocError, Global};
+use std::fmt::Write;
+
+fn is_double(one: Passed) -> bool
+    ensures { result ≡ is_double one }
+{
+    match one {
+        Passed::Double => true,
+        Passed::Good | Passed::Cut => false,
+    }
+}
+
+fn is_cut(one: Passed) -> bool
+    ensures { result ≡ is_cut one }
+{
+    match one {
+        Passed::Cut => true,
+        Passed::Double | Passed::Good => false,
+    }
+}
+
+/// How many are doubles.
+fn count_doubles(passed: &[Passed]) -> usize
+    ensures { result ≡ count_by is_double passed.now }
+{
+    passed.iter().filter(|one| is_double(**one)).count()
+}
+
+/// How many are cut.
+fn count_cut(passed: &[Passed]) -> usize
+    ensures { result ≡ count_by is_cut passed.now }
+{
+    passed.iter().filter(|one| is_cut(**one)).count()
+}
+
+/// The place of the first that is cut.
+fn first_cut(passed: &[Passed]) -> Option<usize>
+    ensures is { result ≡ position is_cut passed.now }
+    ensures within { IfSome result (λ i. i < length passed.now) }
+{
+    passed.iter().position(|one| is_cut(*one))
+}
+
+/// Adds the number of the first that is cut, if there is one.
+fn push_first(out: &mut String, from: u64, first: Option<usize>) -> Result<(), AllocError>
+    requires { IfSome first (λ i. from + i + 1 < 2 ^ 64) }
+    ensures { OnOk result (string_bytes out.new ≡ string_bytes out.old ++ first_text from first) }
+{
+    if let Some(place) = first {
+        let number = from + place as u64 + 1;
+        write!(out, ", the first number {number}")?;
+    }
+    Ok(())
+}
+
+/// Adds the number of a program among so many.
+#[tactic(auto, unfolding(crate::specs::Printing::head_text))]
+fn push_head(out: &mut String, number: u64, count: u64) -> Result<(), AllocError>
+    ensures { OnOk result (string_bytes out.new ≡ string_bytes out.old ++ head_text number count) }
+{
+    write!(out, "// number {number} of {count}: not linearizable\n")?;
+    Ok(())
+}
+
+/// Adds how many were passed as doubles, and how many were cut.
+#[tactic(auto, unfolding(crate::specs::Printing::passed_text))]
+fn push_passed(out: &mut String, from: u64, passed: &[Passed]) -> Result<(), AllocError>
+    requires { from + length passed.now < 2 ^ 64 }
+    ensures { OnOk result (string_bytes out.new ≡ string_bytes out.old ++ passed_text from passed.now) }
+{
+    let doubles = count_doubles(passed);
+    let cut = count_cut(passed);
+    write!(out, "// {doubles} doubles, {cut} cut")?;
+    push_first(out, from, first_cut(passed))?;
+    out.push_str("\n")
+}
+
+/// The text of a program that isn't linearizable: its number among so many, how the numbers before it were passed, the
+/// program, and its schedule as another part.
+pub fn print_found(
+    alloc: Global,
+    from: u64,
+    count: u64,
+    passed: &[Passed],
+    program: &str,
+    schedule: &str,
+) -> Result<String, AllocError>
+    requires { from + length passed.now + 1 < 2 ^ 64 }
+    ensures { IfOk result (λ text. string_bytes text ≡ found_text from count passed.now program.now schedule.now) }
+{
+    let number = from + passed.len() as u64 + 1;
+    let mut out = String::new(alloc);
+    push_head(&mut out, number, count)?;
+    push_passed(&mut out, from, passed)?;
+    out.push_str(program)?;
+    out.push_str("%%\n")?;
+    out.push_str(schedule)?;
+    Ok(out)
+}
+
+/// The text that there is none from a number on, and how the programs were passed.
+pub fn print_none(
+    alloc: Global,
+    from: u64,
+    count: u64,
+    passed: &[Passed],
+) -> Result<String, AllocError>
+    requires first { from + 1 < 2 ^ 64 }
+    requires last { from + length passed.now < 2 ^ 64 }
+    ensures { IfOk result (λ text. string_bytes text ≡ none_text from count passed.now) }
+{
+    let first = from + 1;
+    let last = from + passed.len() as u64;
+    let mut out = String::new(alloc);
+    write!(out, "// none in numbers {first} to {last} of {count}\n")?;
+    push_passed(&mut out, from, passed)?;
+    Ok(out)
+}

@@ -1,0 +1,99 @@
+-- The calls that a program makes on an object of a class, and how it makes the object.
+use Rattle.std.specs.Prelude.{ℕ, Bool, true, false, ◌&&◌, ◌||◌, not, List, [], ◌∷◌, ◌++◌, codes, map, take, Option}
+use Rattle.std.specs.Prelude.{Some}
+use Rattle.std.specs.Prelude.{None}
+use Rattle.std.specs.List.{flat_map, list_any}
+use Rattle.ls_tree.specs.Trees as trees
+use Rattle.ls_tree.specs.Trees.{ClassTree, Member, Modifier, Parameter, Text, TypeName}
+
+abbrev pub integers : List Text
+integers =
+    codes "1" ∷ codes "2" ∷ codes "3" ∷ codes "4" ∷ codes "5" ∷ codes "6" ∷ codes "7" ∷ codes "8" ∷ codes "9" ∷ []
+
+abbrev pub booleans : List Text
+booleans = codes "false" ∷ codes "true" ∷ []
+
+-- what an argument of a type may be: one of the first so many integers, or a boolean; a reference may not be given
+abbrev pub arguments_of : ℕ → TypeName → List Text
+arguments_of most trees.Int = take most integers
+arguments_of most trees.Boolean = booleans
+arguments_of most trees.BooleanArray = []
+arguments_of most (trees.Class name) = []
+arguments_of most (trees.Markable name) = []
+
+-- one more argument: there is a comma before it, but for the first
+abbrev pub and_then : Text → Text → Text
+and_then [] argument = argument
+and_then (c ∷ begun) argument = (c ∷ begun) ++ (codes ", " ++ argument)
+
+-- each of these lists of arguments with each of those arguments after it: the last argument changes first
+abbrev pub with_argument : List Text → List Text → List Text
+with_argument begun more = flat_map (λ b. map (and_then b) more) begun
+
+-- these lists of arguments, with arguments for more parameters
+abbrev pub with_arguments : ℕ → List Text → List Parameter → List Text
+with_arguments most begun [] = begun
+with_arguments most begun (p ∷ more) = with_arguments most (with_argument begun (arguments_of most p.type_name)) more
+
+-- all lists of arguments for these parameters: none if one of them is a reference
+abbrev pub all_arguments : ℕ → List Parameter → List Text
+all_arguments most parameters = with_arguments most ([] ∷ []) parameters
+
+-- ---- calls
+
+abbrev pub is_private : Modifier → Bool
+is_private trees.Private = true
+is_private trees.Public = false
+is_private trees.Protected = false
+is_private trees.Final = false
+is_private trees.Volatile = false
+is_private (trees.Annotation name) = false
+
+-- nothing, an int or a boolean
+abbrev pub is_plain : Option TypeName → Bool
+is_plain None = true
+is_plain (Some trees.Int) = true
+is_plain (Some trees.Boolean) = true
+is_plain (Some trees.BooleanArray) = false
+is_plain (Some (trees.Class name)) = false
+is_plain (Some (trees.Markable name)) = false
+
+-- whether a method may be called: none of its modifiers is `private`, and it answers no reference
+abbrev pub is_callable : List Modifier → List (List Modifier) → Option TypeName → Bool
+is_callable modifiers locked result =
+    not (list_any is_private modifiers) && (not (list_any (list_any is_private) locked) && is_plain result)
+
+-- as `s.add(1);`
+abbrev pub call_text : Text → Text → Text
+call_text name arguments = codes "s." ++ (name ++ (codes "(" ++ (arguments ++ codes ");")))
+
+abbrev pub calls_if : Bool → ℕ → Text → List Parameter → List Text
+calls_if true most name parameters = map (call_text name) (all_arguments most parameters)
+calls_if false most name parameters = []
+
+abbrev pub member_calls : ℕ → Member → List Text
+member_calls most (trees.Fields declaration) = []
+member_calls most (trees.Method modifiers locked result name parameters body) =
+    calls_if (is_callable modifiers locked result) most name parameters
+member_calls most (trees.Constructor modifiers name parameters body) = []
+
+-- the calls of a class: of each method that may be called, with all its arguments
+abbrev pub class_calls : ℕ → ClassTree → List Text
+class_calls most c = flat_map (member_calls most) c.members
+
+-- ---- the making
+
+-- those of the first constructor; a class without one has no parameters
+abbrev pub constructor_parameters : List Member → List Parameter
+constructor_parameters [] = []
+constructor_parameters (trees.Constructor modifiers name parameters body ∷ more) = parameters
+constructor_parameters (trees.Method modifiers locked result name parameters body ∷ more) = constructor_parameters more
+constructor_parameters (trees.Fields declaration ∷ more) = constructor_parameters more
+
+-- as `s = new C(1);`
+abbrev pub making_text : Text → Text → Text
+making_text name arguments = codes "s = new " ++ (name ++ (codes "(" ++ (arguments ++ codes ");")))
+
+-- all ways to make an object of a class
+abbrev pub makings : ℕ → ClassTree → List Text
+makings most c = map (making_text c.name) (all_arguments most (constructor_parameters c.members))

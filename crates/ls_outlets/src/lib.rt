@@ -1,0 +1,11 @@
+//! Writers that know whether they have failed. All of some bytes is written, or a beginning of them, and the writer has
+//! failed.
+#![tactic(auto)]
+
+mod outlet;
+mod watched;
+mod writing;
+
+pub use outlet::Outlet;
+pub use watched::Watched;
+pub use writing::{write_out, write_whole};

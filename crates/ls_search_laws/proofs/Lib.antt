@@ -1,0 +1,11 @@
+pub mod Stepping
+pub mod Covering
+pub mod Noting
+pub mod Reading
+pub mod Renaming
+pub mod Renamed
+pub mod Strides
+pub mod Telling
+pub mod Search
+pub mod Cells
+pub mod Histories

@@ -1,0 +1,5 @@
+use Rattle.ls_search_laws.proofs.Renaming.{effect_renames}
+use Rattle.ls_search_laws.proofs.laws.effect_renames.Goals as goal
+
+pub returns : goal.returns
+returns c = effect_renames

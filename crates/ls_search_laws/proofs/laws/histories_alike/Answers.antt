@@ -1,0 +1,5 @@
+use Rattle.ls_search_laws.proofs.Histories.{histories_alike}
+use Rattle.ls_search_laws.proofs.laws.histories_alike.Goals as goal
+
+pub returns : goal.returns
+returns c = histories_alike

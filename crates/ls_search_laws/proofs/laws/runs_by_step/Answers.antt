@@ -1,0 +1,5 @@
+use Rattle.ls_search_laws.proofs.Stepping.{one_more}
+use Rattle.ls_search_laws.proofs.laws.runs_by_step.Goals as goal
+
+pub returns : goal.returns
+returns c = one_more

@@ -1,0 +1,5 @@
+use Rattle.ls_search_laws.proofs.Renamed.{strides_rename}
+use Rattle.ls_search_laws.proofs.laws.strides_rename.Goals as goal
+
+pub returns : goal.returns
+returns c = strides_rename

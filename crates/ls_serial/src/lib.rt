@@ -1,0 +1,7 @@
+//! Serial histories, in which calls run one at a time, and which histories they explain.
+#![tactic(auto)]
+
+mod explaining;
+mod runs;
+
+pub use runs::SerialRuns;

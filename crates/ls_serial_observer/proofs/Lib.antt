@@ -1,0 +1,5 @@
+pub mod There
+pub mod Same
+pub mod Remaining
+pub mod Explaining
+pub mod Judging

@@ -1,0 +1,184 @@
+-- Searched schedules have each serial history.
+use Rattle.std.proofs.Common.{◌≡◌, ◌≢◌, ◌⊎◌, inl, inr, ℕ, zero, suc, ◌+◌, ◌<◌, ◌≤◌, true, false, List, [], ◌∷◌}
+use Rattle.std.proofs.Common.{◌++◌, Contains, replicate, refl, sym, ap, ◌∙◌, subst, arith}
+use Rattle.std.proofs.Common.{append-nil}
+use Rattle.std.proofs.lemmas.Bool.{cases_lt}
+use Rattle.ls_events.specs.declared.event.Event.{Event}
+use Rattle.ls_checked.specs.CheckedTree.{File}
+use Rattle.ls_checked.specs.CheckedProgram.{Program}
+use Rattle.ls_meaning.specs.declared.step.Did.{Did}
+use Rattle.ls_meaning.specs.declared.step.Did.TheVariants as did
+use Rattle.ls_meaning.specs.Still.{IsActing, IsStill}
+use Rattle.ls_meaning.specs.Threads.{next}
+use Rattle.ls_meaning.specs.Runs.{State, answers_of, source_history, source_run}
+use Rattle.ls_meaning.specs.Runs.{start, step}
+use Rattle.ls_serial.specs.Serial.{IsEndOf, IsSerial}
+use Rattle.ls_serial_search.specs.Following.{CallsNext, IsBetween, IsFollowed, called, events_of}
+use Rattle.ls_serial_search.specs.Searched.{IsSearched}
+use Rattle.ls_serial_search.specs.Laws.{HasHistoryOf}
+use Rattle.ls_serial_search.proofs.Stepping.{acts_within, history_more, holds_of_all, state_more, steps_more}
+use Rattle.ls_serial_search.proofs.Answering.{between_acts, cases_nat, others_answers}
+use Rattle.ls_serial_search.proofs.Between.{all_between}
+use Rattle.ls_serial_search.proofs.SoFar.{IsSoFar, pending_not_serial, serial_so_far, so_far_before, then_ends}
+
+module _ (file : File) (program : Program) where
+  suc_is : (j : ℕ) → suc j ≡ j + 1
+  suc_is j = omega arith
+
+  -- they leave the answers of other threads
+  along_answers : (schedule : List ℕ) (t u j : ℕ) → u ≢ t →
+      answers_of (source_run file program (schedule ++ replicate j t)) u ≡
+      answers_of (source_run file program schedule) u
+  along_answers schedule t u zero ne = ap (λ ts. answers_of (source_run file program ts) u) (append-nil schedule)
+  along_answers schedule t u (suc j) ne =
+      ap (λ k. answers_of (source_run file program (schedule ++ replicate k t)) u) (suc_is j)
+      ∙ ap (λ ts. answers_of (source_run file program ts) u) (sym (steps_more schedule t j))
+      ∙ ap (λ s. answers_of s u) (state_more file program (schedule ++ replicate j t) t)
+      ∙ others_answers file program (source_run file program (schedule ++ replicate j t)) t u ne
+      ∙ along_answers schedule t u j ne
+
+  module _ (known : List (List ℕ)) (searched : IsSearched file program known) where
+    -- the state and the history are those of one of the schedules
+    record IsAt (s : State) (h : List Event) : Type 0 where
+      schedule : List ℕ
+      there : Contains known schedule
+      state : s ≡ source_run file program schedule
+      history : h ≡ source_history file program schedule
+
+    -- they are those within a call after one of the schedules
+    record IsWithin (s : State) (h : List Event) : Type 0 where
+      schedule : List ℕ
+      there : Contains known schedule
+      thread : ℕ
+      followed : IsFollowed file program known schedule thread
+      before : ℕ
+      less : before < followed.steps
+      state : s ≡ source_run file program (schedule ++ replicate (before + 1) thread)
+      history : h ≡ source_history file program (schedule ++ replicate (before + 1) thread)
+
+    abbrev IsKnown : State → List Event → Type 0
+    IsKnown s h = IsAt s h ⊎ IsWithin s h
+
+    -- the thread goes on that was followed
+    advance : (schedule : List ℕ) (t j : ℕ) (s : State) (h : List Event) →
+        Contains known schedule →
+        (f : IsFollowed file program known schedule t) →
+        j ≤ f.steps →
+        s ≡ source_run file program (schedule ++ replicate j t) →
+        h ≡ source_history file program (schedule ++ replicate j t) →
+        IsActing (step file program s t).did →
+        IsKnown (step file program s t).after (h ++ events_of t (step file program s t).did)
+    advance schedule t j s h there f le es eh acts = by_place (cases_lt j f.steps)
+      where
+        one : List ℕ
+        one = schedule ++ replicate j t
+
+        state : (step file program s t).after ≡ source_run file program (schedule ++ replicate (j + 1) t)
+        state = ap (λ z. (step file program z t).after) es ∙ sym (state_more file program (schedule ++ replicate j t) t)
+            ∙ ap (source_run file program) (steps_more schedule t j)
+
+        history : h ++ events_of t (step file program s t).did ≡
+            source_history file program (schedule ++ replicate (j + 1) t)
+        history = ap (λ z. h ++ events_of t (step file program z t).did) es
+            ∙ ap (λ z. z ++ events_of t (step file program
+            (source_run file program (schedule ++ replicate j t)) t).did) eh
+            ∙ sym (history_more file program (schedule ++ replicate j t) t)
+            ∙ ap (source_history file program) (steps_more schedule t j)
+
+        still_acts : (d : Did) → IsStill d → IsActing d → ⊥
+        still_acts (did.Acted a x) still acts = still
+        still_acts did.Waits still acts = acts
+        still_acts did.Idle still acts = acts
+
+        by_last : j ≡ f.steps →
+            IsStill (step file program (source_run file program (schedule ++ replicate f.steps t)) t).did
+            ⊎ Contains known (schedule ++ replicate (f.steps + 1) t) →
+            IsKnown (step file program s t).after (h ++ events_of t (step file program s t).did)
+        by_last same (inl still) = absurd (still_acts _ still
+            (subst (λ i. IsActing (step file program (source_run file program (schedule ++ replicate i t)) t).did) same
+            (subst (λ z. IsActing (step file program z t).did) es acts)))
+        by_last same (inr new) = inl (record {
+          schedule = schedule ++ replicate (j + 1) t;
+          there = subst (λ i. Contains known (schedule ++ replicate (i + 1) t)) (sym same) new;
+          state = state;
+          history = history;
+        })
+
+        by_place : (j < f.steps) ⊎ (f.steps ≤ j) →
+            IsKnown (step file program s t).after (h ++ events_of t (step file program s t).did)
+        by_place (inl less) = inr (record {
+          schedule = schedule;
+          there = there;
+          thread = t;
+          followed = f;
+          before = j;
+          less = less;
+          state = state;
+          history = history;
+        })
+        by_place (inr past) = by_last (omega arith) f.last
+
+    -- another thread can't go on
+    other_calls : (s : State) (h : List Event) (t : ℕ) →
+        (w : IsWithin s h) →
+        t ≢ w.thread →
+        IsActing (step file program s t).did →
+        IsSoFar (h ++ events_of t (step file program s t).did) →
+        ⊥
+    other_calls s h t w ne acts so = not_end (then_ends (source_history file program w.schedule)
+        (called w.thread w.followed.call) (called t k.0) (searched.serial w.schedule w.there)
+        (subst IsSoFar (ap (λ es. h ++ es) k.1 ∙ ap (λ z. z ++ called t k.0 ∷ [])
+        (w.history ∙ w.followed.begun.is w.before w.less)) so))
+      where
+        between : IsBetween file program s t
+        between = subst (λ q. CallsNext (next file program t q))
+            (sym (ap (λ z. answers_of z t) w.state ∙ along_answers w.schedule w.thread t (w.before + 1) ne))
+            (all_between file program w.schedule (searched.serial w.schedule w.there) t)
+
+        k : (n : ℕ) × (events_of t (step file program s t).did ≡ called t n ∷ [])
+        k = between_acts file program s t between acts
+
+        not_end : {c : Event} {n : ℕ} → IsEndOf c (called t n) → ⊥
+        not_end e = let h : true ≡ false = e.ends in cc
+
+    abbrev Holds : State → List Event → Type 0
+    Holds s h = IsSoFar h → IsKnown s h
+
+    kept : (s : State) (h : List Event) (t : ℕ) →
+        Holds s h →
+        IsActing (step file program s t).did →
+        Holds (step file program s t).after (h ++ events_of t (step file program s t).did)
+    kept s h t holds acts so = by_known (holds (so_far_before h _ so))
+      where
+        within : (w : IsWithin s h) → (t ≡ w.thread) ⊎ (t ≢ w.thread) →
+            IsKnown (step file program s t).after (h ++ events_of t (step file program s t).did)
+        within w (inr ne) = absurd (other_calls s h t w ne acts so)
+        within w (inl same) =
+            subst (λ i. IsKnown (step file program s i).after (h ++ events_of i (step file program s i).did)) (sym same)
+            (advance w.schedule w.thread (w.before + 1) s h w.there w.followed (omega (arith, w.less)) w.state w.history
+            (subst (λ i. IsActing (step file program s i).did) same acts))
+
+        by_known : IsKnown s h →
+            IsKnown (step file program s t).after (h ++ events_of t (step file program s t).did)
+        by_known (inl at) =
+            advance at.schedule t 0 s h at.there
+            ((searched.followed at.schedule at.there) t (acts_within file program s t acts)) (omega arith)
+            (at.state ∙ ap (source_run file program) (sym (append-nil at.schedule)))
+            (at.history ∙ ap (source_history file program) (sym (append-nil at.schedule))) acts
+        by_known (inr w) = within w (cases_nat t w.thread)
+
+    at_start : IsKnown (start program) []
+    at_start = inl (record { schedule = []; there = searched.start; state = refl; history = refl })
+
+    pub known_history : (schedule : List ℕ) →
+        IsSerial (source_history file program schedule) →
+        HasHistoryOf file program known schedule
+    known_history schedule serial =
+        by_known (holds_of_all file program Holds kept (λ so. at_start) schedule (serial_so_far _ serial))
+      where
+        by_known : IsKnown (source_run file program schedule) (source_history file program schedule) →
+            HasHistoryOf file program known schedule
+        by_known (inl at) = record { one = at.schedule; there = at.there; same = at.history }
+        by_known (inr w) = absurd (pending_not_serial (source_history file program w.schedule)
+            (called w.thread w.followed.call) (searched.serial w.schedule w.there)
+            (subst IsSerial (w.history ∙ w.followed.begun.is w.before w.less) serial))

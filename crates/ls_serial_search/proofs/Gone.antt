@@ -1,0 +1,199 @@
+-- Schedules that become more.
+use Rattle.std.proofs.Common.{◌≡◌, ◌⊎◌, inl, inr, ℕ, zero, suc, ◌+◌, ◌<◌, ◌≤◌, Bool, true, List, [], ◌∷◌, ◌++◌, None}
+use Rattle.std.proofs.Common.{Some, Contains}
+use Rattle.std.proofs.Common.{length, replicate, slice_get, slice_index_or, sym, ap, ◌∙◌, subst, arith, append_assoc}
+use Rattle.std.proofs.Common.{append-nil}
+use Rattle.std.proofs.lemmas.Bool.{cases_lt}
+use Rattle.std.proofs.lemmas.List.Elements.{Contains-append_left, Contains-push, Contains-push_cases}
+use Rattle.ls_checked.specs.CheckedTree.{File}
+use Rattle.ls_checked.specs.CheckedProgram.{Program}
+use Rattle.ls_meaning.specs.Still.{IsStill}
+use Rattle.ls_meaning.specs.Runs.{source_history, source_run, step}
+use Rattle.ls_serial.specs.Serial.{IsSerial}
+use Rattle.ls_serial.proofs.Lists.{contains_get, get_contains, get_within, is_get}
+use Rattle.ls_serial_search.specs.Following.{IsFollowed}
+use Rattle.ls_serial_search.specs.Happened.{EndsIn, StaysIn}
+use Rattle.ls_serial_search.specs.Searched.{AreSerial, IsSearched}
+use Rattle.ls_serial_search.specs.Told.{AreMore}
+
+module _ (file : File) (program : Program) where
+  -- the same schedules
+  pub no_more : (known : List (List ℕ)) → AreMore file program known known
+  no_more known = record { more = []; is = append-nil known; serial = λ s. s }
+
+  -- more, and more again
+  pub more_again : (a b c : List (List ℕ)) → AreMore file program a b → AreMore file program b c →
+      AreMore file program a c
+  more_again a b c m n = record {
+    more = m.more ++ n.more;
+    is = sym (append_assoc a m.more n.more) ∙ ap (λ l. l ++ n.more) m.is ∙ n.is;
+    serial = λ s. n.serial (m.serial s);
+  }
+
+  pub there_more : (a b : List (List ℕ)) (s : List ℕ) → AreMore file program a b → Contains a s → Contains b s
+  there_more a b s m there = subst (λ l. Contains l s) m.is (Contains-append_left a m.more s there)
+
+  pub followed_more : (a b : List (List ℕ)) (s : List ℕ) (t : ℕ) → AreMore file program a b →
+      IsFollowed file program a s t →
+      IsFollowed file program b s t
+  followed_more a b s t m f = record { call = f.call; steps = f.steps; begun = f.begun; last = by_last f.last }
+    where
+      by_last : IsStill (step file program (source_run file program (s ++ replicate f.steps t)) t).did
+          ⊎ Contains a (s ++ replicate (f.steps + 1) t) →
+          IsStill (step file program (source_run file program (s ++ replicate f.steps t)) t).did
+          ⊎ Contains b (s ++ replicate (f.steps + 1) t)
+      by_last (inl still) = inl still
+      by_last (inr there) = inr (there_more a b _ m there)
+
+  -- a thread that doesn't go on
+  pub stays_followed : (known : List (List ℕ)) (s : List ℕ) (t : ℕ) → StaysIn file program s t →
+      IsFollowed file program known s t
+  stays_followed known s t f = record { call = f.call; steps = f.steps; begun = f.begun; last = inl f.still }
+
+  -- a call that ends
+  pub ends_followed : (a b : List (List ℕ)) (s longer : List ℕ) (t n : ℕ) →
+      EndsIn file program s t n →
+      longer ≡ s ++ replicate n t →
+      b ≡ a ++ longer ∷ [] →
+      IsFollowed file program b s t
+  ends_followed a b s longer t n f is more = record {
+    call = f.call;
+    steps = f.before;
+    begun = f.begun;
+    last = inr (subst (λ l. Contains b l) (is ∙ ap (λ k. s ++ replicate k t) f.is)
+        (subst (λ l. Contains l longer) (sym more) (Contains-push a longer)));
+  }
+
+  pub ends_more : (a b : List (List ℕ)) (s longer : List ℕ) (t n : ℕ) →
+      EndsIn file program s t n →
+      longer ≡ s ++ replicate n t →
+      b ≡ a ++ longer ∷ [] →
+      Contains a s →
+      AreMore file program a b
+  ends_more a b s longer t n f is more there = record {
+    more = longer ∷ [];
+    is = sym more;
+    serial = λ serial x inside. by_place serial x
+        (Contains-push_cases a longer x (subst (λ l. Contains l x) more inside));
+  }
+    where
+      by_place : AreSerial file program a → (x : List ℕ) → Contains a x ⊎ (longer ≡ x) →
+          IsSerial (source_history file program x)
+      by_place serial x (inl old) = serial x old
+      by_place serial x (inr new) = subst (λ l. IsSerial (source_history file program l)) (sym is ∙ new)
+          (f.serial (serial s there))
+
+  -- ---- the threads of one schedule
+
+  abbrev pub AreFollowed : List (List ℕ) → List ℕ → ℕ → Type 0
+  AreFollowed known s n = (t : ℕ) → t < n → IsFollowed file program known s t
+
+  pub threads_more : (a b : List (List ℕ)) (s : List ℕ) (n : ℕ) →
+      AreMore file program a b →
+      AreFollowed a s n →
+      IsFollowed file program b s n →
+      AreFollowed b s (n + 1)
+  threads_more a b s n m old new t lt = by_place (cases_lt t n)
+    where
+      by_place : (t < n) ⊎ (n ≤ t) → IsFollowed file program b s t
+      by_place (inl less) = followed_more a b s t m (old t less)
+      by_place (inr past) = let same : n ≡ t = omega arith in subst (IsFollowed file program b s) same new
+
+  -- ---- the schedules up to a place
+
+  abbrev pub AreDone : List (List ℕ) → ℕ → Type 0
+  AreDone known n = (i : ℕ) (s : List ℕ) → i < n → slice_get known i ≡ Some s →
+      AreFollowed known s (length program.threads)
+
+  get_before : (a more : List (List ℕ)) (i : ℕ) (s : List ℕ) →
+      i < length a →
+      slice_get (a ++ more) i ≡ Some s →
+      slice_get a i ≡ Some s
+  get_before [] more i s lt at = absurd (omega arith)
+  get_before (x ∷ a) more zero s lt at = at
+  get_before (x ∷ a) more (suc i) s lt at = get_before a more i s (omega arith) at
+
+  some_is : {x y : List ℕ} → Some x ≡ Some y → x ≡ y
+  some_is h = cc
+
+  pub done_more : (a b : List (List ℕ)) (s : List ℕ) (n : ℕ) →
+      n < length a →
+      slice_get a n ≡ Some s →
+      AreMore file program a b →
+      AreDone a n →
+      AreFollowed b s (length program.threads) →
+      AreDone b (n + 1)
+  done_more a b s n within at m old new i x lt there = by_place (cases_lt i n)
+    where
+      before : i < length a → slice_get a i ≡ Some x
+      before less = get_before a m.more i x less (subst (λ l. slice_get l i ≡ Some x) (sym m.is) there)
+
+      by_place : (i < n) ⊎ (n ≤ i) → AreFollowed b x (length program.threads)
+      by_place (inl less) = λ t l. followed_more a b x t m (old i x less (before (omega arith)) t l)
+      by_place (inr past) =
+          let same : n ≡ i = omega arith in
+          subst (λ y. AreFollowed b y (length program.threads))
+          (some_is (sym at ∙ ap (slice_get a) same ∙ before (omega arith))) new
+
+  pub done_searched : (known : List (List ℕ)) (n : ℕ) →
+      length known ≤ n →
+      Contains known [] →
+      AreSerial file program known →
+      AreDone known n →
+      IsSearched file program known
+  done_searched known n le start serial done = record {
+    start = start;
+    serial = serial;
+    followed = λ s there t lt. let at = contains_get known s there in
+        done at.0 s (omega (arith, get_within known at.0 s at.1)) at.1 t lt;
+  }
+
+  -- ---- the search so far
+
+  -- what is known when so many schedules were gone on from
+  pub record IsGone (known : List (List ℕ)) (n : ℕ) (complete : Bool) : Type 0 where
+    pub start : Contains known []
+    pub serial : AreSerial file program known
+    pub done : complete ≡ true → AreDone known n
+
+  pub gone_first : (known : List (List ℕ)) → known ≡ [] ∷ [] → IsGone known 0 true
+  gone_first known is = record {
+    start = subst (λ l. Contains l []) (sym is) (Contains-push [] []);
+    serial = λ s there. by_place s (Contains-push_cases [] [] s (subst (λ l. Contains l s) is there));
+    done = λ all i s lt at. absurd (omega arith);
+  }
+    where
+      by_place : (s : List ℕ) → Contains [] s ⊎ ([] ≡ s) → IsSerial (source_history file program s)
+      by_place s (inl there) = absurd (nothing (contains_get [] s there).1)
+        where
+          nothing : None ≡ Some s → ⊥
+          nothing h = cc
+      by_place s (inr same) = subst (λ l. IsSerial (source_history file program l)) same tt
+
+  pub gone_more : (a b : List (List ℕ)) (s x : List ℕ) (n : ℕ) (all followed both : Bool) →
+      n < length a →
+      x ≡ slice_index_or a n x →
+      s ≡ x →
+      IsGone a n all →
+      (Contains a s → AreMore file program a b) →
+      (followed ≡ true → Contains a s → AreFollowed b s (length program.threads)) →
+      (both ≡ true → (all ≡ true) × (followed ≡ true)) →
+      IsGone b (n + 1) both
+  gone_more a b s x n all followed both lt is same old more new split = record {
+    start = there_more a b [] (more there) old.start;
+    serial = (more there).serial old.serial;
+    done = λ is_so. done_more a b s n lt at (more there) (old.done (split is_so).0) (new (split is_so).1 there);
+  }
+    where
+      at : slice_get a n ≡ Some s
+      at = is_get a n x lt ∙ ap Some (sym is) ∙ ap Some (sym same)
+
+      there : Contains a s
+      there = get_contains a n s at
+
+  pub gone_all : (known : List (List ℕ)) (n : ℕ) (complete : Bool) →
+      IsGone known n complete →
+      length known ≤ n →
+      complete ≡ true →
+      IsSearched file program known
+  gone_all known n complete g le is_so = done_searched known n le g.start g.serial (g.done is_so)

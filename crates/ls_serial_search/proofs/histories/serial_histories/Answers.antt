@@ -1,0 +1,58 @@
+use Rattle.std.proofs.Common.{◌≡◌, ◌+◌, ◌-◌, length, refl, arith, subst, sym}
+use Rattle.ls_checked.specs.CheckedTree.{File}
+use Rattle.ls_checked.specs.CheckedProgram.{Program}
+use Rattle.ls_checked.specs.Plain.{plain_file}
+use Rattle.ls_checked.specs.PlainProgram.{plain_program}
+use Rattle.ls_serial_search.specs.Histories.{lists_of}
+use Rattle.ls_serial_search.proofs.Kept.{AreKept, are_serial, are_true, kept_more, kept_none, tell_serial}
+use Rattle.ls_serial_search.proofs.histories.serial_histories.Goals as goal
+
+pub loop-at-init : goal.loop-at-init
+loop-at-init c =
+    let file : File = plain_file c.args.file.now in
+    let program : Program = plain_program c.args.program.now in
+    subst (λ vs. AreKept file program c.as_slice-schedules.result.now (length c.as_slice-schedules.result.now)
+    (lists_of vs)) (sym c.new-histories.ensures.items)
+    (kept_none file program c.as_slice-schedules.result.now (length c.as_slice-schedules.result.now) refl)
+
+pub loop-at-preserved : goal.loop-at-preserved
+loop-at-preserved c =
+    let file : File = plain_file c.args.file.now in
+    let program : Program = plain_program c.args.program.now in
+    let more : c.loop-at.at ≡ (c.loop-at.at - 1) + 1 = omega (arith, c.loop-at-test.true) in
+    kept_more file program c.as_slice-schedules.result.now (c.loop-at.at - 1) (lists_of c.loop-at.histories.items)
+    (lists_of c.keep.new.histories.items) c.index-schedules-at.result
+    (subst (λ n. AreKept file program c.as_slice-schedules.result.now n (lists_of c.loop-at.histories.items)) more
+    c.loop-at.invariant) (omega (arith, c.loop-at-test.true, c.loop-at.invariant.within))
+    (sym c.index-schedules-at.is) c.in_ok-keep.ensures
+
+pub returns-clause-serial : goal.returns-clause-serial
+returns-clause-serial c =
+    let file : File = plain_file c.args.file.now in
+    let program : Program = plain_program c.args.program.now in
+    let none : c.loop-at.at ≡ 0 = omega (arith, c.loop-at-test.false) in
+    are_serial file program c.in_ok-known.known.schedules.items (lists_of c.loop-at.histories.items)
+    (subst (λ known. AreKept file program known 0 (lists_of c.loop-at.histories.items))
+    c.as_slice-schedules.ensures.value
+    (subst (λ n. AreKept file program c.as_slice-schedules.result.now n (lists_of c.loop-at.histories.items)) none
+    c.loop-at.invariant)) c.in_ok-known.ensures.serial
+
+pub returns-clause-truth : goal.returns-clause-truth
+returns-clause-truth c =
+    let file : File = plain_file c.args.file.now in
+    let program : Program = plain_program c.args.program.now in
+    let none : c.loop-at.at ≡ 0 = omega (arith, c.loop-at-test.false) in
+    are_true file program c.as_slice-schedules.result.now (lists_of c.loop-at.histories.items)
+    (subst (λ n. AreKept file program c.as_slice-schedules.result.now n (lists_of c.loop-at.histories.items)) none
+    c.loop-at.invariant)
+
+pub returns-clause-tells : goal.returns-clause-tells
+returns-clause-tells c = λ complete.
+    let file : File = plain_file c.args.file.now in
+    let program : Program = plain_program c.args.program.now in
+    let none : c.loop-at.at ≡ 0 = omega (arith, c.loop-at-test.false) in
+    tell_serial file program c.in_ok-known.known.schedules.items (lists_of c.loop-at.histories.items)
+    (subst (λ known. AreKept file program known 0 (lists_of c.loop-at.histories.items))
+    c.as_slice-schedules.ensures.value
+    (subst (λ n. AreKept file program c.as_slice-schedules.result.now n (lists_of c.loop-at.histories.items)) none
+    c.loop-at.invariant)) (c.in_ok-known.ensures.complete complete)

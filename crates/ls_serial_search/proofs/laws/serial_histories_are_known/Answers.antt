@@ -1,0 +1,5 @@
+use Rattle.ls_serial_search.proofs.Covering as covering
+use Rattle.ls_serial_search.proofs.laws.serial_histories_are_known.Goals as goal
+
+pub returns : goal.returns
+returns c = covering.known_history

@@ -1,0 +1,19 @@
+use Rattle.std.proofs.Common.{subst}
+use Rattle.ls_checked.specs.Plain.{plain_file}
+use Rattle.ls_checked.specs.PlainProgram.{plain_program}
+use Rattle.ls_serial_search.specs.Told.{AreRunsOf}
+use Rattle.ls_serial_search.proofs.Collected.{tell_serial, tell_truth}
+use Rattle.ls_serial_search.proofs.telling.serial_runs.Goals as goal
+
+pub returns : goal.returns
+returns c =
+    let are = subst (λ known. AreRunsOf (plain_file c.args.file.now) (plain_program c.args.program.now) known
+    c.in_ok-runs.runs)
+    c.as_slice.ensures.value c.in_ok-runs.ensures in
+    record {
+      truth = tell_truth (plain_file c.args.file.now) (plain_program c.args.program.now)
+          c.beginnings_are_histories.ensures
+          c.in_ok-known.known.schedules.items c.in_ok-runs.runs are;
+      serial = λ complete. tell_serial (plain_file c.args.file.now) (plain_program c.args.program.now)
+          c.in_ok-known.known.schedules.items c.in_ok-runs.runs are (c.in_ok-known.ensures.complete complete);
+    }

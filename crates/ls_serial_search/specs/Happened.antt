@@ -1,0 +1,54 @@
+-- What a step does to its thread's call, and what comes of a call.
+use Rattle.std.specs.Prelude.{◌≡◌, ℕ, ◌+◌, List, [], ◌∷◌, ◌++◌, replicate}
+use Rattle.ls_events.specs.declared.event.Event.{Event}
+use Rattle.ls_checked.specs.CheckedTree.{File}
+use Rattle.ls_checked.specs.CheckedProgram.{Program}
+use Rattle.ls_meaning.specs.declared.step.Did.{Did}
+use Rattle.ls_meaning.specs.Still.{IsStill}
+use Rattle.ls_meaning.specs.Runs.{source_history, source_run, step}
+use Rattle.ls_serial.specs.Serial.{IsEndOf, IsSerial}
+use Rattle.ls_serial_search.specs.declared.following.Happened.{Happened}
+use Rattle.ls_serial_search.specs.declared.following.Happened.TheVariants as happened
+use Rattle.ls_serial_search.specs.declared.following.Followed.{Followed}
+use Rattle.ls_serial_search.specs.declared.following.Followed.TheVariants as followed
+use Rattle.ls_serial_search.specs.Following.{IsBegun, called, events_of}
+
+-- the event of a step is the end of a call
+pub record IsLast (thread call : ℕ) (events : List Event) : Type 0 where
+  pub end : Event
+  pub is : events ≡ end ∷ []
+  pub ends : IsEndOf (called thread call) end
+
+-- what the events of a step say of the call
+abbrev pub EventsSay : ℕ → List Event → Happened → Type 0
+EventsSay thread events happened.Stays = ⊥
+EventsSay thread events happened.GoesOn = events ≡ []
+EventsSay thread events (happened.Begins call) = events ≡ called thread call ∷ []
+EventsSay thread events (happened.Ends call) = IsLast thread call events
+
+abbrev pub HasHappened : ℕ → Did → Happened → Type 0
+HasHappened thread did happened.Stays = IsStill did
+HasHappened thread did happened.GoesOn = events_of thread did ≡ []
+HasHappened thread did (happened.Begins call) = events_of thread did ≡ called thread call ∷ []
+HasHappened thread did (happened.Ends call) = IsLast thread call (events_of thread did)
+
+-- the call has begun, and the thread doesn't go on; or the thread doesn't call
+pub record StaysIn (file : File) (program : Program) (schedule : List ℕ) (thread : ℕ) : Type 0 where
+  pub call : ℕ
+  pub steps : ℕ
+  pub begun : IsBegun file program schedule thread call steps
+  pub still : IsStill (step file program (source_run file program (schedule ++ replicate steps thread)) thread).did
+
+-- with the last of so many steps the call ends
+pub record EndsIn (file : File) (program : Program) (schedule : List ℕ) (thread steps : ℕ) : Type 0 where
+  pub call : ℕ
+  pub before : ℕ
+  pub is : steps ≡ before + 1
+  pub begun : IsBegun file program schedule thread call before
+  pub serial : IsSerial (source_history file program schedule) →
+      IsSerial (source_history file program (schedule ++ replicate steps thread))
+
+abbrev pub HasFollowed : File → Program → List ℕ → ℕ → Followed → Type 0
+HasFollowed file program schedule thread followed.Stays = StaysIn file program schedule thread
+HasFollowed file program schedule thread (followed.Ends steps) = EndsIn file program schedule thread steps
+HasFollowed file program schedule thread followed.Unknown = Unit {0}

@@ -1,0 +1,7 @@
+pub mod Following
+pub mod Searched
+pub mod Laws
+pub mod Orders
+pub mod Happened
+pub mod Told
+pub mod Histories

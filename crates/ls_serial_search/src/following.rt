@@ -1,0 +1,103 @@
+// What comes of a thread's next call, if no other thread goes on.
+
+ghost use Rattle.std.specs.Prelude.{◌≡◌, IfOk};
+ghost use Rattle.ls_checked.specs.Plain.{plain_file};
+ghost use Rattle.ls_checked.specs.PlainProgram.{plain_program};
+ghost use Rattle.ls_meaning.specs.Runs.{event_of};
+ghost use Rattle.ls_serial_search.specs.Following.{events_in};
+ghost use Rattle.ls_serial_search.specs.Happened.{EventsSay, HasFollowed, HasHappened};
+
+use crate::playing::played;
+use ls_checked::program::Program;
+use ls_checked::tree::File;
+use ls_events::action::Action;
+use ls_events::schedule::Schedule;
+use ls_events::value::Value;
+use ls_meaning::step::Did;
+use std::alloc::{AllocError, Global};
+
+/// What a step does to its thread's call.
+#[derive(Drop)]
+pub(crate) enum Happened {
+    /// The thread doesn't act.
+    Stays,
+    GoesOn,
+    Begins(usize),
+    Ends(usize),
+}
+
+/// What comes of a call.
+#[derive(Drop)]
+pub(crate) enum Followed {
+    /// There is none, or it waits for ever.
+    Stays,
+    /// It ends with the last of so many steps.
+    Ends(usize),
+    /// It goes on past the bound.
+    Unknown,
+}
+
+/// A program of a file, and the most steps in which a call is followed.
+#[derive(Drop)]
+pub(crate) struct Task<'a> {
+    pub(crate) file: &'a File,
+    pub(crate) program: &'a Program,
+    pub(crate) most_steps: usize,
+}
+
+/// What an action of a thread does to its call.
+fn happened_by(thread: usize, action: &Action<Value>) -> Happened
+    ensures { EventsSay thread (events_in (event_of thread action.now)) result }
+{
+    match action {
+        Action::Call(call) => Happened::Begins(*call),
+        Action::Return(call, _) => Happened::Ends(*call),
+        Action::Trap(call, _) => Happened::Ends(*call),
+        _ => Happened::GoesOn,
+    }
+}
+
+/// What a step of a thread did to its call.
+fn what_happened(thread: usize, did: &Did) -> Happened
+    ensures { HasHappened thread did.now result }
+{
+    match did {
+        Did::Acted(action, _) => happened_by(thread, action),
+        Did::Waits => Happened::Stays,
+        Did::Idle => Happened::Stays,
+    }
+}
+
+/// Follows a thread's next call after a schedule. The only refusal is that memory ran out.
+pub(crate) fn follow(
+    alloc: Global,
+    task: &Task,
+    schedule: &Schedule,
+    thread: u8,
+) -> Result<Followed, AllocError>
+    ensures { IfOk result
+        (λ f. HasFollowed (plain_file task.now.file.now) (plain_program task.now.program.now) schedule.now thread f) }
+{
+    let mut run = played(alloc, task.file, task.program, schedule)?;
+    let first = run.step(alloc, thread as usize)?;
+    let call = match what_happened(thread as usize, &first) {
+        Happened::Begins(call) => call,
+        Happened::Stays => return Ok(Followed::Stays),
+        Happened::GoesOn | Happened::Ends(_) => return Ok(Followed::Unknown),
+    };
+    for steps in 1..task.most_steps {
+        let did = run.step(alloc, thread as usize)?;
+        match what_happened(thread as usize, &did) {
+            Happened::GoesOn => {}
+            Happened::Stays => return Ok(Followed::Stays),
+            Happened::Begins(_) => return Ok(Followed::Unknown),
+            Happened::Ends(ended) => {
+                if ended == call {
+                    return Ok(Followed::Ends(steps + 1));
+                }
+                return Ok(Followed::Unknown);
+            }
+        }
+    }
+    Ok(Followed::Unknown)
+}

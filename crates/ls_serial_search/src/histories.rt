@@ -1,0 +1,115 @@
+// The serial histories of a program.
+
+ghost use Rattle.std.specs.Prelude.{◌≡◌, true, IfOk, IsTrue, OnOk};
+ghost use Rattle.ls_checked.specs.Plain.{plain_file};
+ghost use Rattle.ls_checked.specs.PlainProgram.{plain_program};
+ghost use Rattle.ls_events.specs.Beginnings.{IsBeginning};
+ghost use Rattle.ls_meaning.specs.Runs.{source_history};
+ghost use Rattle.ls_serial.specs.Serial.{HaveBeginning};
+ghost use Rattle.ls_linearizable.specs.Linearizable.{AreTrue, TellSerial};
+ghost use Rattle.ls_serial_search.specs.Histories.{AreSerialRuns, IsKept, lists_of};
+
+use crate::following::Task;
+use crate::playing::played;
+use crate::searching::search;
+use crate::telling::Bounds;
+use ls_checked::program::Program;
+use ls_checked::tree::File;
+use ls_events::event::Event;
+use ls_events::same::are_same_events;
+use ls_events::schedule::Schedule;
+use std::alloc::{AllocError, Global};
+
+/// Serial histories of a program.
+#[derive(Drop)]
+pub struct SerialHistories {
+    pub histories: Vec<Vec<Event>>,
+    /// Whether no bound was met. Then the histories begin with each serial history of a schedule, of any length.
+    pub complete: bool,
+}
+
+/// Whether a history begins so. True only where it does.
+fn begins(history: &[Event], first: &[Event]) -> bool
+    ensures { IsTrue result → IsBeginning first.now history.now }
+{
+    let count = first.len();
+    if count > history.len() {
+        return false;
+    }
+    are_same_events(&history[..count], first)
+}
+
+/// Whether one of the histories begins so. True only where one does.
+fn has_beginning(histories: &[Vec<Event>], first: &[Event]) -> bool
+    ensures { IsTrue result → HaveBeginning (lists_of histories.now) first.now }
+{
+    for at in 0..histories.len() {
+        if begins(histories[at].as_slice(), first) {
+            return true;
+        }
+    }
+    false
+}
+
+/// The same events.
+fn copied(alloc: Global, events: &[Event]) -> Result<Vec<Event>, AllocError>
+    ensures { IfOk result (λ v. v.items ≡ events.now) }
+{
+    let copy = events.iter().copied().collect(alloc)?;
+    Ok(copy)
+}
+
+/// Adds the history of a schedule, if none of the others begins with it. The only refusal is that memory ran out.
+fn keep(
+    alloc: Global,
+    file: &File,
+    program: &Program,
+    schedule: &Schedule,
+    histories: &mut Vec<Vec<Event>>,
+) -> Result<(), AllocError>
+    ensures { OnOk result (IsKept (lists_of histories.old.items) (lists_of histories.new.items)
+        (source_history (plain_file file.now) (plain_program program.now) schedule.now)) }
+{
+    let run = played(alloc, file, program, schedule)?;
+    let events = run.history();
+    if has_beginning(histories.as_slice(), events) {
+        return Ok(());
+    }
+    let history = copied(alloc, events)?;
+    histories.push(history)?;
+    Ok(())
+}
+
+/// Serial histories of a program. The only refusal is that memory ran out.
+///
+/// A history with which one that is kept begins isn't kept.
+pub fn serial_histories(
+    alloc: Global,
+    file: &File,
+    program: &Program,
+    bounds: Bounds,
+) -> Result<SerialHistories, AllocError>
+    ensures serial { IfOk result (λ s. AreSerialRuns (lists_of s.histories.items)) }
+    ensures truth { IfOk result (λ s. AreTrue (plain_file file.now) (plain_program program.now)
+        (lists_of s.histories.items)) }
+    ensures tells { IfOk result (λ s. s.complete ≡ true → TellSerial (plain_file file.now)
+        (plain_program program.now) (lists_of s.histories.items)) }
+{
+    let task = Task {
+        file,
+        program,
+        most_steps: bounds.steps,
+    };
+    let known = search(alloc, &task, bounds.orders)?;
+    let mut histories = Vec::new(alloc);
+    let schedules = known.schedules.as_slice();
+    let mut at = schedules.len();
+    while at > 0 {
+        at -= 1;
+        keep(alloc, file, program, &schedules[at], &mut histories)?;
+    }
+    Ok(SerialHistories {
+        histories,
+        complete: known.complete,
+    })
+}

@@ -1,0 +1,50 @@
+// Schedules and their runs.
+
+ghost use Rattle.std.specs.Prelude.{◌≡◌, ◌++◌, IfOk, IfSome, replicate};
+ghost use Rattle.ls_checked.specs.Plain.{plain_file};
+ghost use Rattle.ls_checked.specs.PlainProgram.{plain_program};
+ghost use Rattle.ls_source.specs.Shown.{progress_of};
+ghost use Rattle.ls_serial_search.specs.Orders.{progress_at};
+
+use ls_checked::program::Program;
+use ls_checked::tree::File;
+use ls_events::schedule::{MOST_STEPS, Schedule};
+use ls_source::run::SourceRun;
+use std::alloc::{AllocError, Global};
+
+/// The run of a program of a file after a schedule. The only refusal is that memory ran out.
+pub(crate) fn played<'a>(
+    alloc: Global,
+    file: &'a File,
+    program: &'a Program,
+    schedule: &Schedule,
+) -> Result<SourceRun<'a>, AllocError>
+    ensures { IfOk result
+        (λ r. progress_of r ≡ progress_at (plain_file file.now) (plain_program program.now) schedule.now) }
+{
+    let mut run = SourceRun::new(alloc, file, program)?;
+    let steps = schedule.steps();
+    for thread in steps {
+        let _did = run.step(alloc, *thread as usize)?;
+    }
+    Ok(run)
+}
+
+/// The schedule with so many steps more of a thread; none if no schedule has so many. The only refusal is that memory
+/// ran out.
+pub(crate) fn with_steps(
+    alloc: Global,
+    schedule: &Schedule,
+    thread: u8,
+    count: usize,
+) -> Result<Option<Schedule>, AllocError>
+    ensures { IfOk result (λ longer. IfSome longer (λ s. s ≡ schedule.now ++ replicate count thread)) }
+{
+    schedule.fits();
+    if count > MOST_STEPS - schedule.len() {
+        return Ok(None);
+    }
+    let mut longer = schedule.copied(alloc)?;
+    longer.push_run(thread, count)?;
+    Ok(Some(longer))
+}

@@ -1,0 +1,79 @@
+// The serial runs of a program.
+
+ghost use Rattle.std.specs.Prelude.{◌≡◌, ◌<◌, true, Contains, IfOk, List};
+ghost use Rattle.ls_events.specs.declared.event.Event.{Event as EventValue};
+ghost use Rattle.ls_checked.specs.Plain.{plain_file};
+ghost use Rattle.ls_checked.specs.PlainProgram.{plain_program};
+ghost use Rattle.ls_serial.specs.Serial.{HaveBeginning, IsSerial};
+ghost use Rattle.ls_serial_search.specs.Told.{AreRunsOf, Tells};
+
+use crate::following::Task;
+use crate::playing::played;
+use crate::searching::search;
+use ls_checked::program::Program;
+use ls_checked::tree::File;
+use ls_events::schedule::Schedule;
+use ls_linearizable::laws::beginnings_are_histories;
+use ls_serial::SerialRuns;
+use std::alloc::{AllocError, Global};
+
+/// Bounds of a search.
+#[derive(Drop)]
+pub struct Bounds {
+    /// The most steps in which a call is followed.
+    pub steps: usize,
+    /// The most orders of calls after which the next calls are followed.
+    pub orders: usize,
+}
+
+/// The serial runs of a program.
+#[derive(Drop)]
+pub struct SerialSearch {
+    pub runs: SerialRuns,
+    /// Whether no bound was met. Then the runs begin with each serial history of a schedule, of any length.
+    pub complete: bool,
+}
+
+/// The serial runs of these schedules of a program of a file. The only refusal is that memory ran out.
+fn runs_of(
+    alloc: Global,
+    file: &File,
+    program: &Program,
+    schedules: &[Schedule],
+) -> Result<SerialRuns, AllocError>
+    ensures { IfOk result
+        (λ runs. AreRunsOf (plain_file file.now) (plain_program program.now) schedules.now runs) }
+{
+    let mut runs = SerialRuns::new(alloc);
+    for at in 0..schedules.len() {
+        let run = played(alloc, file, program, &schedules[at])?;
+        runs.add(alloc, run.history())?;
+    }
+    Ok(runs)
+}
+
+/// Searches the serial histories of a program of a file. The source alone is run, with no cells. The only refusal is
+/// that memory ran out.
+///
+/// A search that isn't complete met a bound. Its runs are runs of the program too.
+pub fn serial_runs(
+    alloc: Global,
+    file: &File,
+    program: &Program,
+    bounds: &Bounds,
+) -> Result<SerialSearch, AllocError>
+    ensures { IfOk result (λ s. Tells (plain_file file.now) (plain_program program.now) s) }
+{
+    let task = Task {
+        file,
+        program,
+        most_steps: bounds.steps,
+    };
+    beginnings_are_histories();
+    let known = search(alloc, &task, bounds.orders)?;
+    let runs = runs_of(alloc, file, program, known.schedules.as_slice())?;
+    Ok(SerialSearch {
+        runs,
+        complete: known.complete,
+    })
+}

@@ -1,0 +1,28 @@
+-- What `find` is asked.
+use Rattle.std.specs.Prelude.{ℕ, Option, Some, None, Result}
+use Rattle.ls_class_programs.specs.declared.choosing.Choosing.{Choosing}
+use Rattle.ls_command_line.specs.declared.words.Seeking.{Seeking}
+use Rattle.ls_faults.specs.declared.fault.ToolFault.{ToolFault}
+use Rattle.ls_find_commands.specs.Found.{FindsTo, PrintsTo}
+use Rattle.ls_find_commands.specs.declared.command.Range.{Range}
+use Rattle.ls_report.specs.Events.{Text}
+
+-- which class of the text is chosen, and what its programs may be
+abbrev pub choosing_of : Seeking → Choosing
+choosing_of s = record {
+  class = s.class;
+  values = s.values;
+  bounds = record { threads = s.threads; calls = s.calls; setup = s.setup };
+}
+
+-- the numbers of the programs that are looked through
+abbrev pub range_of : Seeking → Range
+range_of s = record { states = s.states; from = s.from; to = s.to }
+
+-- one program is printed, or the first is found that has a history that isn't linearizable
+abbrev pub asked_for : Seeking → Option ℕ → Text → Result Text ToolFault → Type 0
+asked_for s None classes answer = FindsTo (choosing_of s) (range_of s) classes answer
+asked_for s (Some n) classes answer = PrintsTo (choosing_of s) n classes answer
+
+abbrev pub OnClass : Seeking → Text → Result Text ToolFault → Type 0
+OnClass s classes answer = asked_for s s.print classes answer

@@ -1,0 +1,5 @@
+pub mod Items
+pub mod Keeping
+pub mod Growing
+pub mod Acting
+pub mod Knowing

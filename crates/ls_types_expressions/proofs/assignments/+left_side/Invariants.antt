@@ -1,0 +1,6 @@
+use Rattle.ls_types_elaboration.specs.Placed.{placed}
+use Rattle.ls_types_expressions.proofs.Nodes.{nodes}
+use Rattle.ls_types_expressions.proofs.assignments.+left_side.Given as goal
+
+abbrev pub decreases-left_side : goal.decreases-left_side
+decreases-left_side l = nodes (placed l.target.now)

@@ -1,0 +1,171 @@
+#!/usr/bin/env python3
+"""verdicts [--program P] [--seed N] [--count N]: whether `explore` says of each history rightly if it is linearizable.
+
+Each case is a class of counters, stacks, queues, sets, locks or markable references, right or broken, and a random program of two or
+three threads. All orders of whole calls are run by `trace`, one call after another, so no exploration is asked for them. A history is
+linearizable exactly if one of these runs explains it. Of each row of `explore`: `linearizable` and `not linearizable` stand where they
+should, nothing where the exploration is no whole one, and the last line counts them. Ends with status 1 if something is wrong."""
+import argparse
+import random
+import re
+import sys
+
+from tool import PROGRAM, joined, keep, run
+
+STATES, ALONE = "60000", 400
+EVENT = re.compile(r"(\w+)\.(\d+) (call|return|trap) ?(.*)")
+TRACED = re.compile(r"\d+ (\w+)\.(\d+) (call|return|trap)\b ?(.*)")
+END = re.compile(r"states \d+ histories \d+( illegal (\d+))?( not linearizable (\d+))? (complete|complete in these cells|cut)")
+
+# A class of each kind: its text, how its object is made, and the calls that a program draws from.
+KINDS = {
+    "counter": ("class S { int v; void inc() { int t = v; v = t + 1; } int get() { return v; } }", "inc() get()"),
+    "kept_counter": ("class S { int v; synchronized void inc() { v++; } synchronized int get() { return v; } }", "inc() get()"),
+    "tickets": ("class S { int n; int next() { if (n > 1) return -1; n++; return n; } }", "next()"),
+    "stack": ("""class N { int v; N next; N(int v, N next) { this.v = v; this.next = next; } }
+class S { N top; void push(int v) { top = new N(v, top); } int pop() { int v = top.v; top = top.next; return v; } }""",
+              "push(1) push(2) pop()"),
+    "kept_stack": ("""class N { int v; N next; N(int v, N next) { this.v = v; this.next = next; } }
+class S { N top; synchronized void push(int v) { top = new N(v, top); }
+synchronized int pop() { if (top == null) return -1; int v = top.v; top = top.next; return v; } }""", "push(1) push(2) pop()"),
+    "queue": ("""class S { boolean[] full = new boolean[4]; int head; int tail; Lock m = new ReentrantLock();
+void enq(int k) { m.lock(); try { full[tail] = k == 1; tail++; } finally { m.unlock(); } }
+boolean deq() { if (head == tail) { int none = 1 / 0; } boolean x = full[head]; head++; return x; } }""", "enq(1) enq(2) deq()"),
+    "set": ("""class S { boolean a; boolean b;
+boolean add(int k) { if (k == 1) { if (a) return false; a = true; return true; } if (b) return false; b = true; return true; }
+boolean remove(int k) { if (k == 1) { if (!a) return false; a = false; return true; } if (!b) return false; b = false; return true; }
+boolean contains(int k) { if (k == 1) return a; return b; } }""", "add(1) remove(1) contains(1) add(2)"),
+    "trapped_set": ("class S { int n; boolean add(int k) { n++; k = 1 / (2 - n); n--; return true; } }", "add(1) add(2)"),
+    "try_lock": ("class S { Lock m = new ReentrantLock(); int v; int f() { if (m.tryLock()) { v++; m.unlock(); return v; } return 0; } }",
+                 "f()"),
+    "lock_held": ("class S { Lock m = new ReentrantLock(); int v; void take() { m.lock(); v++; } int see() { return v; } }",
+                  "take() see()"),
+    "waits_for_it": ("class S { boolean on; int n; void set() { on = true; } int got() { while (!on && n < 1) { n++; } return n; } }",
+                     "set() got()"),
+    "markable": ("""class N { int v; }
+class S { N n = new N(); AtomicMarkableReference<N> r = new AtomicMarkableReference<N>(n, false);
+boolean mark() { if (r.isMarked()) return false; return r.attemptMark(n, true); } boolean seen() { return r.isMarked(); } }""",
+                 "mark() seen()"),
+    "markable_exchanged": ("""class N { int v; }
+class S { N n = new N(); AtomicMarkableReference<N> r = new AtomicMarkableReference<N>(n, false);
+boolean mark() { return r.compareAndSet(n, n, false, true); } boolean free() { return r.compareAndSet(n, n, true, false); } }""",
+                           "mark() free()"),
+    "two_objects": ("""class P { int v; void up() { v++; } }
+class S { P a = new P(); P b = new P(); void move() { a.up(); b.up(); } int sum() { return a.v - b.v; } }""", "move() sum()"),
+}
+
+
+def program_of(rng, calls):
+    """A program of two threads of up to two calls or of three of one or two, with a call in the setup now and then, and how many calls
+    each of its threads has."""
+    shape = rng.choice(((1, 1), (2, 1), (2, 2), (1, 1, 1), (2, 1, 1)))
+    setup = f" s.{rng.choice(calls)};" if rng.random() < 0.3 else ""
+    threads = {"ABC"[i]: [f"s.{rng.choice(calls)};" for _ in range(n)] for i, n in enumerate(shape)}
+    text = f"setup {{ s = new S();{setup} }}\n" + "".join(f"thread {t} {{ {' '.join(it)} }}\n" for t, it in threads.items())
+    return text, {t: len(it) for t, it in threads.items()}
+
+
+def events(lines):
+    """The events of a history but those of the setup: the call's name, what happened, and the answer."""
+    found = (EVENT.match(line) for line in lines)
+    return [(f"{it[1]}.{it[2]}", it[3], it[4]) for it in found if it and it[1] != "setup"]
+
+
+def call_alone(program, text, schedule, thread):
+    """The schedule with one more call of a thread, alone to its end, and the call with its end. None if it doesn't end so."""
+    done = run(program, ["trace"], joined(text, f"{schedule} {thread}*{ALONE}\n".encode()), seconds=60)
+    lines = [it for it in map(TRACED.match, done.out.decode().split("\n")) if it]
+    before = run(program, ["trace"], joined(text, f"{schedule}\n".encode()), seconds=60).out.decode()
+    known = len([it for it in map(TRACED.match, before.split("\n")) if it])
+    for line in lines[known:]:
+        if line[1] == thread and line[3] != "call":
+            steps = int(line[0].split()[0]) - int(before.rstrip("\n").split("\n")[-1].split()[0] if before.strip() else 0)
+            return f"{schedule} {thread}*{steps}", (f"{thread}.{line[2]}", line[3], line[4])
+    return None
+
+
+def serial_runs(program, text, counts):
+    """Each run of whole calls, as the calls with their ends."""
+    runs, left = [()], [("setup*80", (), dict(counts), frozenset())]
+    while left:
+        schedule, calls, counts, trapped = left.pop()
+        for thread, count in counts.items():
+            if not count or thread in trapped:
+                continue
+            more = call_alone(program, text, schedule, thread)
+            if more is None:
+                continue
+            runs.append((*calls, more[1]))
+            left.append((more[0], runs[-1], {**counts, thread: count - 1}, trapped | ({thread} if more[1][1] == "trap" else set())))
+    return runs
+
+
+def explains(serial, history):
+    """Whether a run of whole calls explains a history: each end in the history is in the run, each call in the run was called in the
+    history, and what had ended there before a call was called ended before it here."""
+    called = {call: at for at, (call, what, _) in enumerate(history) if what == "call"}
+    ended = {call: (at, what, answer) for at, (call, what, answer) in enumerate(history) if what != "call"}
+    place = {call: at for at, (call, _, _) in enumerate(serial)}
+    if any(call not in called for call in place) or any(call not in place for call in ended):
+        return False
+    if any(call in ended and ended[call][1:] != (what, answer) for call, what, answer in serial):
+        return False
+    return not any(a in ended and ended[a][0] < called[b] and place[a] > place[b] for a in place for b in place)
+
+
+def wrong_row(head, history, runs, whole):
+    """What is wrong with what a row says of its history, or None; and whether it says that it isn't linearizable."""
+    is_so = any(explains(it, history) for it in runs)
+    is_set = re.search(r", (legal|illegal|not judged)", head) is not None
+    says_not, says_so = head.endswith(", not linearizable"), head.endswith(", linearizable")
+    if says_not and is_so or says_so and not is_so:
+        return f"{head}, but it is{'' if is_so else ' not'} linearizable", says_not
+    if whole and not is_so and not says_not or not is_set and is_so and not says_so and whole:
+        return f"{head} says too little", says_not
+    return None, says_not
+
+
+def tried(program, text, counts):
+    """What is wrong with an exploration, or None, and a word on it."""
+    done = run(program, ["explore", "--states", STATES], text, seconds=120)
+    if done.status != 0:
+        return f"explore: {done.told()}", ""
+    *blocks, last = done.out.decode().split("\n\n")
+    end = END.fullmatch(last.strip())
+    runs = serial_runs(program, text, counts)
+    count = 0
+    for block in blocks:
+        head, _, *history = block.split("\n")
+        wrong, says_not = wrong_row(head, events(history), runs, end[5] == "complete")
+        if wrong:
+            return wrong + "\n" + block, ""
+        count += says_not
+    if end[4] is not None and int(end[4]) != count or end[5] == "complete" and end[4] is None:
+        return f"{last.strip()}, but {count} rows are not linearizable", ""
+    return None, f"{len(runs)} runs, {len(blocks)} rows, {count} not linearizable, {end[5]}"
+
+
+def main():
+    reader = argparse.ArgumentParser(description=__doc__)
+    reader.add_argument("--program", default=PROGRAM)
+    reader.add_argument("--seed", type=int, default=1)
+    reader.add_argument("--count", type=int, default=100)
+    options = reader.parse_args()
+    bad = 0
+    for number in range(options.count):
+        rng = random.Random(options.seed * 1_000_000 + number)
+        name = rng.choice(sorted(KINDS))
+        classes, calls = KINDS[name]
+        program, counts = program_of(rng, calls.split())
+        text = joined(classes.encode(), program.encode())
+        wrong, told = tried(options.program, text, counts)
+        print(f"{number} {name}: {wrong or told}", flush=True)
+        if wrong:
+            bad += 1
+            keep(f"verdicts_{options.seed}_{number}", ["explore"], text, wrong, "what all orders of whole calls say")
+    print(f"{options.count} programs, {bad} wrong")
+    return 1 if bad else 0
+
+
+if __name__ == "__main__":
+    sys.exit(main())
