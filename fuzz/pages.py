@@ -4,7 +4,7 @@
 A run's data are put together from what `trace`, `state` and `source` print. From them the page must come to the
 state that `state` prints, at some steps and at the end, and its own reading of the class text must ask for what
 each line says. `programs`: random programs of one to four threads, for each hundredth seed of 64, under random
-schedules; each fourth is read from a later step on. `texts`: inputs of examples/, docs/LANGUAGE.md and tests/rows,
+schedules; each fourth is read from a later step on. `texts`: inputs of examples/, of the documents and of tests/rows,
 and the stored classes with random calls; of the class texts that tests/texts says to be accepted only that they
 are read. Needs Node. Ends with status 1 where something is wrong."""
 import argparse
@@ -41,10 +41,11 @@ def inputs():
             text = file.read()
         found = re.match(r"// ([^:\n]*):", text)
         yield os.path.basename(path), found[1].split() if found else [], text
-    with open(f"{TOP}/docs/LANGUAGE.md", encoding="utf-8") as file:
-        page = file.read()
-    for found in re.finditer(r"(?ms)^```input (.*?)\n(.*?)^```$", page):
-        yield f"LANGUAGE.md:{page.count(chr(10), 0, found.start()) + 1}", found[1].split(), found[2]
+    for path in sorted(glob.glob(f"{TOP}/docs/*.md")):
+        with open(path, encoding="utf-8") as file:
+            page = file.read()
+        for found in re.finditer(r"(?ms)^```input (.*?)\n(.*?)^```$", page):
+            yield f"{os.path.basename(path)}:{page.count(chr(10), 0, found.start()) + 1}", found[1].split(), found[2]
     for folder in sorted(glob.glob(f"{TOP}/tests/rows/*/*/")):
         with open(f"{folder}stdin", "rb") as file:
             text = file.read().decode("utf-8", "replace")

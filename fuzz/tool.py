@@ -8,7 +8,7 @@ PROGRAM = f"{TOP}/crates/listset/out/listset"
 FOUND = f"{TOP}/fuzz/found"
 PLACE = r"0|[1-9][0-9]*"
 
-# Each fault's number, name and place, as docs/LANGUAGE.md and the printed lines have them.
+# Each fault's number, name and place, as docs/FAULTS.md and the printed lines have them.
 PLAIN = """1 Memory,2 TooLong,24 ProgramLimit,30 TooManyLocals,31 TooManyCopies,32 CodeTooLong,33 CodeTooLong,35 BadCells,
 42 TooManySteps,44 ResultTooLong,51 BadLimit,52 NoThread,54 Disagree,60 BadCount,80 WrongParts,81 NotText,82 ReadFailed,
 83 WriteFailed"""
