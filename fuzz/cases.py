@@ -1,4 +1,5 @@
 """Cases of words and an input, drawn from a seed out of the worked rows, the examples and generated programs."""
+import glob
 import os
 import random
 
@@ -28,10 +29,9 @@ class Stock:
             for name in sorted(os.listdir(f"{ROWS}/{folder}")):
                 self.add(read(f"{ROWS}/{folder}/{name}/args").split()[0].decode(), read(f"{ROWS}/{folder}/{name}/stdin"))
                 self.add_history(f"{ROWS}/{folder}/{name}/stdout")
-        for name in sorted(os.listdir(EXAMPLES)):
-            if name.endswith(".txt"):
-                text = read(f"{EXAMPLES}/{name}")
-                self.add("check" if text.startswith(b"A.") or b"%%\nA." in text else "source", text)
+        for name in sorted(glob.glob("**/*.txt", root_dir=EXAMPLES, recursive=True)):
+            text = read(f"{EXAMPLES}/{name}")
+            self.add("check" if text.startswith(b"A.") or b"%%\nA." in text else "source", text)
         self.classes += [read(f"{EXAMPLES}/classes/{name}") for name in sorted(os.listdir(f"{EXAMPLES}/classes"))]
 
     def add(self, command, text):

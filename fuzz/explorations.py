@@ -89,7 +89,7 @@ def wrong_of(program, text, found):
 
 def examples():
     """The programs of the examples that `source` runs."""
-    for path in sorted(glob.glob(f"{TOP}/examples/*.txt")):
+    for path in sorted(glob.glob(f"{TOP}/examples/**/*.txt", recursive=True)):
         with open(path, "rb") as file:
             parts = file.read().split(b"\n%%\n")
         if len(parts) >= 3 and b"thread" in parts[1]:

@@ -117,7 +117,7 @@ def read_program(text, classes):
 def example_cases(lists):
     """The programs of the examples that have a schedule of source steps, with that and others."""
     found = []
-    for seed, path in enumerate(sorted(glob.glob(f"{TOP}/examples/*.txt"))):
+    for seed, path in enumerate(sorted(glob.glob(f"{TOP}/examples/**/*.txt", recursive=True))):
         with open(path, encoding="ascii") as file:
             parts = re.split(r"^%%\n", file.read(), flags=re.MULTILINE)
         if len(parts) != 3 or not re.match(r"// (source|trace|state)\b", parts[0]) or "StackOverflowError" in parts[0]:

@@ -36,7 +36,7 @@ def runs_of(text, words):
 
 def inputs():
     """Inputs of the repository, each with its name and the words of its command."""
-    for path in sorted(glob.glob(f"{TOP}/examples/*.txt")):
+    for path in sorted(glob.glob(f"{TOP}/examples/**/*.txt", recursive=True)):
         with open(path, encoding="utf-8") as file:
             text = file.read()
         found = re.match(r"// ([^:\n]*):", text)

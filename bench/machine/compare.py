@@ -72,7 +72,7 @@ def parts_of(path):
 
 def cases(program):
     """Gives each example and row: its name, its cells and its three parts. A schedule is one of instructions."""
-    for path in sorted((TOP / 'examples').glob('*.txt')):
+    for path in sorted((TOP / 'examples').glob('**/*.txt')):
         parts, command = parts_of(path), re.match(r'// *(\w+)', path.read_text())
         if parts and command and command[1] in ('replay', 'source', 'trace', 'state'):
             if command[1] != 'replay':
