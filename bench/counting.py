@@ -39,9 +39,9 @@ def least(words, text, runs):
 
 
 def build_script():
-    """Returns scripts/build as a module."""
+    """Returns scripts/build/program as a module."""
     sys.dont_write_bytecode = True
-    loader = importlib.machinery.SourceFileLoader('build', f'{TOP}/scripts/build')
+    loader = importlib.machinery.SourceFileLoader('build', f'{TOP}/scripts/build/program')
     made = importlib.util.module_from_spec(importlib.util.spec_from_loader('build', loader))
     loader.exec_module(made)
     return made
