@@ -88,7 +88,7 @@ fn are_same_things(things: &[Thing], others: &[Thing]) -> bool
 }
 
 /// Whether a store is the other. True only where it is.
-pub(crate) fn is_same_store(store: &Store, other: &Store) -> bool
+pub fn is_same_store(store: &Store, other: &Store) -> bool
     ensures { IsTrue result → store_of store.now ≡ store_of other.now }
 {
     are_same_values(&store.names, &other.names) && are_same_things(&store.things, &other.things)
@@ -139,7 +139,7 @@ fn copy_things(alloc: Global, things: &[Thing]) -> Result<Vec<Thing>, AllocError
 }
 
 /// The same store once more. The only refusal is that memory ran out.
-pub(crate) fn copy_store(alloc: Global, store: &Store) -> Result<Store, AllocError>
+pub fn copy_store(alloc: Global, store: &Store) -> Result<Store, AllocError>
     ensures { IfOk result (λ s. store_of s ≡ store_of store.now) }
 {
     let things = copy_things(alloc, &store.things)?;

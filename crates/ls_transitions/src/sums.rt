@@ -64,7 +64,7 @@ fn of_thing(sum: u64, thing: &Thing) -> u64 {
 }
 
 /// The number of a store.
-pub(crate) fn of_store(store: &Store) -> u64 {
+pub fn of_store(store: &Store) -> u64 {
     let mut sum = of_values(START, &store.names);
     for thing in &store.things {
         sum = of_thing(sum, thing);
@@ -133,7 +133,7 @@ fn of_work<'a>(sum: u64, work: &Pending<'a>) -> u64 {
 }
 
 /// The number of a thread's work.
-pub(crate) fn of_thread<'a>(thread: &Thread<'a>) -> u64 {
+pub fn of_thread<'a>(thread: &Thread<'a>) -> u64 {
     let sum = mixed(mixed(START, thread.begun as u64), thread.calls.len() as u64);
     match thread.phase {
         Phase::Starts => mixed(sum, 1),
@@ -160,7 +160,7 @@ pub(crate) fn of_thread<'a>(thread: &Thread<'a>) -> u64 {
 
 /// The number of a thread's number with those of a store and of a work.
 #[inline(always)]
-pub(crate) fn of_key(thread: usize, store: usize, work: usize) -> u64 {
+pub fn of_key(thread: usize, store: usize, work: usize) -> u64 {
     let both = (store as u64).wrapping_mul(0x9e37_79b9_7f4a_7c15) ^ (work as u64);
     mixed(both, thread as u64)
 }

@@ -125,7 +125,7 @@ fn is_same_phase<'a>(
 }
 
 /// Whether a thread still has to do the same as the other. True only where it has.
-pub(crate) fn is_same_thread<'a>(thread: &Thread<'a>, other: &Thread<'a>) -> bool
+pub fn is_same_thread<'a>(thread: &Thread<'a>, other: &Thread<'a>) -> bool
     ensures { IsTrue result → thread_of thread.now ≡ thread_of other.now }
 {
     thread.begun == other.begun
@@ -134,7 +134,7 @@ pub(crate) fn is_same_thread<'a>(thread: &Thread<'a>, other: &Thread<'a>) -> boo
 }
 
 /// A thread that still has to do the same. The only refusal is that memory ran out.
-pub(crate) fn copy_thread<'a>(alloc: Global, thread: &Thread<'a>) -> Result<Thread<'a>, AllocError>
+pub fn copy_thread<'a>(alloc: Global, thread: &Thread<'a>) -> Result<Thread<'a>, AllocError>
     ensures { IfOk result (λ t. thread_of t ≡ thread_of thread.now) }
 {
     let work = copy_work(alloc, &thread.work)?;

@@ -1,0 +1,5 @@
+//! Trials of the observer of serial runs.
+#![tactic(auto)]
+
+#[cfg(test)]
+mod counters;

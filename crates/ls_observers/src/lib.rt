@@ -1,0 +1,5 @@
+//! Who notes the events of histories, one after another.
+#![tactic(auto)]
+
+pub mod hashing;
+pub mod observer;

@@ -1,0 +1,5 @@
+pub mod Numbering
+pub mod Sets
+pub mod Judged
+pub mod Verdicts
+pub mod Steps

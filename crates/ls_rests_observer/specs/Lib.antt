@@ -1,0 +1,5 @@
+pub mod Numbered
+pub mod Listed
+pub mod Stepped
+pub mod Watched
+pub mod Laws

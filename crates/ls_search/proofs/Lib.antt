@@ -1,0 +1,12 @@
+pub mod Strides
+pub mod Pairs
+pub mod Sounding
+pub mod Settling
+pub mod Reaching
+pub mod Looking
+pub mod Sights
+pub mod Expanding
+pub mod Following
+pub mod Answering
+pub mod Unrenamed
+pub mod Telling

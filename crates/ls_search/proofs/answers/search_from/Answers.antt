@@ -1,0 +1,69 @@
+use Rattle.std.proofs.Common.{◌≡◌, true, Vec, Global, ℕ, List, map, Some, ap}
+use Rattle.std.specs.Prelude.{slice_get}
+use Rattle.std.specs.List.{fold}
+use Rattle.ls_checked.specs.CheckedTree.{File}
+use Rattle.ls_checked.specs.CheckedProgram.{Program}
+use Rattle.ls_checked.specs.Plain.{plain_file}
+use Rattle.ls_checked.specs.PlainProgram.{plain_program}
+use Rattle.ls_search_laws.specs.Noticing.{Noticed, noticed_after}
+use Rattle.ls_transitions.specs.Seen.{table_of}
+use Rattle.ls_search.specs.Answers.{IsStuck, root_of}
+use Rattle.ls_search.specs.SeenSearch.{pairs_of}
+use Rattle.ls_search.proofs.Telling.{closes_all, some_map}
+use Rattle.ls_search.proofs.answers.search_from.Goals as goal
+
+pub returns-clause-closes : goal.returns-clause-closes
+returns-clause-closes g c = λ complete.
+    let first = g.O.Observer.first c.args.ground.now.observer.now in
+    let next = g.O.Observer.next c.args.ground.now.observer.now in
+    let stands = g.O.Observer.stands c.args.ground.now.observer.now in
+    let file : File = plain_file c.args.ground.now.file.now in
+    let program : Program = plain_program c.args.ground.now.program.now in
+    let root : Noticed g.O.Observer.State = root_of stands (table_of c.args.transitions) c.args.root in
+    let begins : slice_get (pairs_of first stands c.close.new.search) 0 ≡ Some root =
+    c.in_ok-complete.ensures.keeps 0 root
+    (ap (λ (l : List (Noticed g.O.Observer.State)). slice_get l 0) c.in_ok-search.ensures.root) in
+    closes_all first next file program c.args.ground.now.threads (table_of c.close.new.search.transitions)
+    (map stands c.close.new.search.pool.values.items) c.close.new.search.found.nodes.items
+    c.in_ok-complete.ensures.sound
+    c.close.new.search.seen.items c.in_ok-complete.ensures.expanded (c.in_ok-complete.ensures.all complete)
+    (g.O.Observer.bad c.args.ground.now.observer.now) root c.in_ok-bad.bad c.in_ok-stuck.stuck begins
+    c.in_ok-bad.ensures.none c.in_ok-stuck.ensures.none
+
+pub returns-clause-bad : goal.returns-clause-bad
+returns-clause-bad g c =
+    let first = g.O.Observer.first c.args.ground.now.observer.now in
+    let next = g.O.Observer.next c.args.ground.now.observer.now in
+    let stands = g.O.Observer.stands c.args.ground.now.observer.now in
+    let file : File = plain_file c.args.ground.now.file.now in
+    let program : Program = plain_program c.args.ground.now.program.now in
+    let root : Noticed g.O.Observer.State = root_of stands (table_of c.args.transitions) c.args.root in
+    let begins : slice_get (pairs_of first stands c.close.new.search) 0 ≡ Some root =
+    c.in_ok-complete.ensures.keeps 0 root
+    (ap (λ (l : List (Noticed g.O.Observer.State)). slice_get l 0) c.in_ok-search.ensures.root) in
+    some_map
+    (λ (path : Vec ℕ Global). (r : Noticed g.O.Observer.State) →
+    slice_get (pairs_of first stands c.close.new.search) 0 ≡ Some r →
+    g.O.Observer.bad c.args.ground.now.observer.now
+    (fold (noticed_after first next file program) r path.items).noted ≡ true)
+    (λ (path : Vec ℕ Global). g.O.Observer.bad c.args.ground.now.observer.now
+    (fold (noticed_after first next file program) root path.items).noted ≡ true)
+    c.in_ok-bad.bad (λ path h. h root begins) c.in_ok-bad.ensures.some
+
+pub returns-clause-stuck : goal.returns-clause-stuck
+returns-clause-stuck g c =
+    let first = g.O.Observer.first c.args.ground.now.observer.now in
+    let next = g.O.Observer.next c.args.ground.now.observer.now in
+    let stands = g.O.Observer.stands c.args.ground.now.observer.now in
+    let file : File = plain_file c.args.ground.now.file.now in
+    let program : Program = plain_program c.args.ground.now.program.now in
+    let root : Noticed g.O.Observer.State = root_of stands (table_of c.args.transitions) c.args.root in
+    let begins : slice_get (pairs_of first stands c.close.new.search) 0 ≡ Some root =
+    c.in_ok-complete.ensures.keeps 0 root
+    (ap (λ (l : List (Noticed g.O.Observer.State)). slice_get l 0) c.in_ok-search.ensures.root) in
+    some_map
+    (λ (path : Vec ℕ Global). (r : Noticed g.O.Observer.State) →
+    slice_get (pairs_of first stands c.close.new.search) 0 ≡ Some r →
+    IsStuck file (fold (noticed_after first next file program) r path.items).configuration)
+    (λ (path : Vec ℕ Global). IsStuck file (fold (noticed_after first next file program) root path.items).configuration)
+    c.in_ok-stuck.stuck (λ path h. h root begins) c.in_ok-stuck.ensures.some

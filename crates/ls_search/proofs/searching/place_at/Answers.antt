@@ -1,0 +1,10 @@
+use Rattle.std.proofs.Common.{get_or, refl}
+use Rattle.std.proofs.lemmas.Option.{slice_get-get_or}
+use Rattle.ls_search.proofs.searching.place_at.Goals as goal
+
+pub returns : goal.returns
+returns c = (
+  get_or c.args.nodes.now c.args.at c.index-nodes-at.result,
+  slice_get-get_or c.args.nodes.now c.args.at c.index-nodes-at.result c.requires,
+  refl,
+)

@@ -1,0 +1,6 @@
+pub mod Places
+pub mod Strides
+pub mod Found
+pub mod Searched
+pub mod SeenSearch
+pub mod Answers

@@ -1,0 +1,70 @@
+// What is told of the histories and the ends of all schedules of a program.
+
+ghost use Rattle.std.specs.Prelude.{◌≡◌, ◌≤◌, ◌++◌, IfNone, IfOk, IfSome, IsTrue, false, replicate};
+ghost use Rattle.ls_checked.specs.Plain.{plain_file};
+ghost use Rattle.ls_checked.specs.PlainProgram.{plain_program};
+ghost use Rattle.ls_state_space.specs.Verdicts.{LeavesStuck, NeverStuck};
+ghost use Rattle.ls_source_judge.specs.Judged.{AllLinearizable, IsNotLinearizable};
+
+use ls_checked::program::Program;
+use ls_checked::tree::File;
+use ls_rests_observer::laws::bad_stays_bad;
+use ls_rests_observer::watching::serial_observer;
+use ls_serial_search::telling::Bounds;
+use ls_state_space::verdict::{Finding, verdict};
+use std::alloc::{AllocError, Global};
+
+/// What is told of all schedules of a program. A path is of steps after those of the setup.
+#[derive(Drop)]
+pub struct Judged {
+    /// How many steps of the setup there are.
+    pub setup: usize,
+    /// How many states were found.
+    pub states: usize,
+    /// Whether these are all.
+    pub complete: bool,
+    /// A path to a history that no serial history explains that is known.
+    pub bad: Option<Vec<u8>>,
+    /// Whether all serial histories are known. Then that history isn't linearizable.
+    pub known: bool,
+    /// A path to a state in which no thread acts and one waits for a lock.
+    pub stuck: Option<Vec<u8>>,
+}
+
+/// Judges the histories of all schedules of a program by its serial histories, and where threads come to wait. At most
+/// so many states are kept. A refusal is that memory ran out, or that a store, a work or a state has no number left.
+pub fn judge_schedules(
+    alloc: Global,
+    file: &File,
+    program: &Program,
+    limit: usize,
+) -> Result<Judged, AllocError>
+    ensures good { IfOk result (λ j. IsTrue j.complete → IfNone j.bad
+        (AllLinearizable (plain_file file.now) (plain_program program.now))) }
+    ensures bad { IfOk result (λ j. IsTrue j.known → IfSome j.bad (λ path.
+        IsNotLinearizable (plain_file file.now) (plain_program program.now) (replicate j.setup 0 ++ path.items))) }
+    ensures free { IfOk result (λ j. IsTrue j.complete → IfNone j.stuck
+        (NeverStuck (plain_file file.now) (plain_program program.now))) }
+    ensures stuck { IfOk result (λ j. IfSome j.stuck (λ path.
+        LeavesStuck (plain_file file.now) (plain_program program.now) (replicate j.setup 0 ++ path.items))) }
+    ensures cut { IfOk result (λ j. j.complete ≡ false → j.states ≡ limit) }
+    ensures few { IfOk result (λ j. j.states ≤ limit) }
+{
+    bad_stays_bad();
+    let serial = serial_observer(alloc, file, program, Bounds::usual())?;
+    let Finding {
+        setup,
+        states,
+        complete,
+        bad,
+        stuck,
+    } = verdict(alloc, &serial.observer, file, program, limit)?;
+    Ok(Judged {
+        setup,
+        states,
+        complete,
+        bad,
+        known: serial.complete,
+        stuck,
+    })
+}

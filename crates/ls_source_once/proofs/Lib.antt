@@ -1,0 +1,4 @@
+mod Stages
+mod Pushed
+mod Acting
+pub mod Once
