@@ -3,5 +3,4 @@ pub mod Even
 pub mod Ended
 pub mod Gathered
 pub mod Printing
-pub mod Judged
 pub mod Replays

@@ -1,11 +1,9 @@
-//! Samples of schedules by number, their runs in many threads, and the tally of the runs, also with a verdict on each
-//! history.
+//! Samples of schedules by number, their runs in many threads, and the tally of the runs.
 #![tactic(auto)]
 
 mod batching;
 mod fault;
 mod gathering;
-mod judging;
 pub mod laws;
 mod over;
 mod printing;
@@ -15,7 +13,6 @@ mod schedules;
 
 pub use batching::batch;
 pub use fault::BatchFault;
-pub use judging::print_judged;
 pub use ls_batch_tally::{Entry, Tally};
 pub use printing::print_tally;
 pub use samples::{Drawing, sample};

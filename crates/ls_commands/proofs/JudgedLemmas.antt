@@ -1,20 +1,21 @@
--- What `batch` may answer with verdicts.
+-- What `batch` may answer with `--judge`.
 use Rattle.std.proofs.Common.{◌≡◌, ◌↔◌, ◌<◌, ℕ, zero, suc, ◌+◌, List, [], ◌∷◌, length, Some, Result, Ok, Err, refl, sym}
 use Rattle.std.proofs.Common.{subst, arith}
 use Rattle.std.specs.Prelude.{IsErrOf, map, slice_get, slice_index_or}
 use Rattle.std.specs.List.{range_with_len}
 use Rattle.ls_code.specs.Machine.{machine_history}
+use Rattle.ls_checked.specs.CheckedTree.{File}
 use Rattle.ls_checked.specs.CheckedProgram.{Program}
 use Rattle.ls_events.specs.declared.event.Event.{Event as RunEvent}
 use Rattle.ls_machine.specs.Room.{AreBadCells}
 use Rattle.ls_image.specs.Images.{code_of_image}
 use Rattle.ls_image.specs.declared.image.Image.{Image}
-use Rattle.ls_batch.specs.Judged.{AreHistoriesOf, IsJudged}
 use Rattle.ls_batch.specs.Replays.{SeedsReplay}
 use Rattle.ls_batch.specs.Samples.{histories_of, history_of, IsBadCount, seed_schedule}
 use Rattle.ls_batch_tally.specs.Tallies.{IsTally, Row}
 use Rattle.ls_batch.specs.declared.fault.BatchFault.{BatchFault}
 use Rattle.ls_batch.specs.declared.fault.BatchFault.TheVariants as batch
+use Rattle.ls_judged_tallies.specs.Judged.{AreHistoriesOf, IsJudged}
 use Rattle.ls_report.specs.Events.{Text}
 use Rattle.ls_text_laws.specs.Histories.{IsReadable}
 use Rattle.ls_verdicts.specs.Verdicts.{IsHistoryOf}
@@ -22,7 +23,7 @@ use Rattle.ls_faults.specs.Faults.{lifted_batch}
 use Rattle.ls_faults.specs.Given.{GivesText}
 use Rattle.ls_commands.proofs.Answering.{not_refused}
 use Rattle.ls_commands.proofs.ReadBackLemmas.{are_cells}
-use Rattle.ls_commands.specs.Compiled.{plain_program_of}
+use Rattle.ls_commands.specs.Compiled.{file_of_image, plain_program_of}
 use Rattle.ls_commands.specs.Judged.{BadCount, Judged, Judges, NoCells}
 use Rattle.ls_commands.specs.Readable.{RunsAreReadable}
 use Rattle.ls_commands.specs.declared.batch.Sampling.{Sampling}
@@ -102,13 +103,16 @@ module _ (i : Image) (cells : ℕ) (s : Sampling) where
   judging_fails batch.BadCells bad many = NoCells (bad.0 refl)
   judging_fails batch.BadCount bad many = BadCount (many.0 refl).0 (many.0 refl).1
 
-  pub judging_tells : (rows : List Row) (t : Text) (p : Program) →
+  pub judging_tells : (rows : List Row) (t : Text) (file : File) (p : Program) →
+      file ≡ file_of_image i →
       p ≡ plain_program_of i →
       (IsErrOf {E = BatchFault} (Ok rows) batch.BadCells ↔ Bad) →
       (IsErrOf {E = BatchFault} (Ok rows) batch.BadCount ↔ (¬ Bad × Many)) →
-      AreRows rows → IsJudged p rows t → Judged i cells s (Ok t)
-  judging_tells rows t p e bad many is told =
-      let said : IsJudged (plain_program_of i) rows t = subst (λ q. IsJudged q rows t) e told in
+      AreRows rows → IsJudged file p rows t → Judged i cells s (Ok t)
+  judging_tells rows t file p ef ep bad many is told =
+      let of_file : IsJudged (file_of_image i) p rows t = subst (λ f. IsJudged f p rows t) ef told in
+      let so : IsJudged (file_of_image i) (plain_program_of i) rows t =
+      subst (λ q. IsJudged (file_of_image i) q rows t) ep of_file in
       let good : ¬ Bad = not_refused rows batch.BadCells Bad bad in
-      subst (λ x. Judged i cells s (Ok x)) (sym said.text_is)
-      (Judges rows said.verdicts good (λ m. not_refused rows batch.BadCount (¬ Bad × Many) many (good, m)) is said.are)
+      subst (λ x. Judged i cells s (Ok x)) (sym so.text_is)
+      (Judges rows so.said good (λ m. not_refused rows batch.BadCount (¬ Bad × Many) many (good, m)) is so.are)

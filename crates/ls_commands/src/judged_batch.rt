@@ -1,20 +1,32 @@
-// The command `batch`, with a verdict on each history.
+// The command `batch`, with what there is to say of each history.
 
+ghost use Rattle.std.specs.Prelude.{◌≡◌};
+ghost use Rattle.ls_checked.specs.Plain.{plain_file};
+ghost use Rattle.ls_commands.specs.Compiled.{file_of_image};
 ghost use Rattle.ls_commands.specs.Judged.{Judged, JudgesTo};
 ghost use Rattle.ls_commands.specs.Readable.{RunsAreReadable};
 ghost use Rattle.ls_faults.specs.Given.{GivesText};
 
 use crate::batch::Sampling;
 use ls_batch::laws::seeds_replay;
-use ls_batch::print_judged;
+use ls_checked::tree::File;
 use ls_compiler::compile::compile;
 use ls_faults::fault::ToolFault;
 use ls_image::image::Image;
+use ls_judged_tallies::print_judged;
 use ls_text_laws::compiled_is_readable;
 use std::alloc::{AllocError, Global};
 use std::thread::Threads;
 
-/// The tally of the image's runs under the samples, on a machine with so many cells, with the verdict on each history.
+/// The checked file of an image.
+fn file_in(image: &Image) -> &File
+    ensures { plain_file result.now ≡ file_of_image image.now }
+{
+    image.checked().file()
+}
+
+/// The tally of the image's runs under the samples, on a machine with so many cells, with what there is to say of each
+/// history.
 fn judged(
     rt: &(impl Threads + Sync),
     alloc: Global,
@@ -35,11 +47,12 @@ fn judged(
         sampling.count,
         sampling.drawing,
     )?;
-    Ok(print_judged(alloc, &tally, image.program())?)
+    Ok(print_judged(alloc, &tally, file_in(image), image.program())?)
 }
 
-/// The tally of the compiled program's runs under the samples, with the verdict on each history: whether its calls, if
-/// they are all set calls on one object, have a legal order.
+/// The tally of the compiled program's runs under the samples, with what there is to say of each history: whether its
+/// calls, if they are all set calls on one object, have a legal order; and whether it is linearizable to the serial
+/// runs of its program.
 pub fn judge_batch(
     rt: &(impl Threads + Sync),
     alloc: Global,

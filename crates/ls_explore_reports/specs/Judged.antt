@@ -1,5 +1,5 @@
 -- Rows with a verdict on each.
-use Rattle.std.specs.Prelude.{◌≡◌, ℕ, Bool, true, false, List, All, length, map}
+use Rattle.std.specs.Prelude.{◌≡◌, ◌⊎◌, ℕ, Bool, true, false, List, All, length, map}
 use Rattle.std.specs.List.{filter, list_all}
 use Rattle.ls_checked.specs.CheckedTree.{File}
 use Rattle.ls_checked.specs.CheckedProgram.{Program}
@@ -7,8 +7,10 @@ use Rattle.ls_events.specs.declared.event.Event.{Event}
 use Rattle.ls_explore.specs.Rows.{Told}
 use Rattle.ls_linearizable.specs.Linearizable.{IsLinearizable}
 use Rattle.ls_explore_linearizable.specs.Rows.{RowsExplain}
-use Rattle.ls_explore_reports.specs.declared.judging.Linearity.{Linearity}
-use Rattle.ls_explore_reports.specs.declared.judging.Linearity.TheVariants as linearities
+use Rattle.ls_serial_search.specs.Open.{HasLongCall, HasManyOrders}
+use Rattle.ls_serial_search.specs.Told.{IsMeant, usual}
+use Rattle.ls_serial_search.specs.declared.judging.Linearity.{Linearity}
+use Rattle.ls_serial_search.specs.declared.judging.Linearity.TheVariants as linearities
 use Rattle.ls_verdicts.specs.Verdicts.{IsHistoryOf, IsVerdict}
 use Rattle.ls_verdicts.specs.declared.verdicts.Verdict.{Verdict}
 use Rattle.ls_verdicts.specs.declared.verdicts.Verdict.TheVariants as verdicts
@@ -30,40 +32,36 @@ abbrev pub IsJudged : Program → Judged → Type 0
 IsJudged p j = IsVerdict p j.row.history j.verdict
 
 -- A history is linearizable if one of the rows begins with a serial history that explains it. If none does, it is not
--- linearizable where the rows are complete; else that is not known.
-abbrev pub linearity_of : Bool → Bool → Linearity
-linearity_of complete true = linearities.Linearizable
-linearity_of true false = linearities.NotLinearizable
-linearity_of false false = linearities.NotKnown
+-- linearizable where the rows tell of every schedule. Where they don't, the serial runs of the program say it; or it is
+-- not known, since a call alone doesn't end or there are too many orders.
+abbrev pub IsLinearity : File → Program → Bool → List Told → List Event → Linearity → Type 0
+IsLinearity file program whole rows h linearities.Linearizable = RowsExplain rows h ⊎ IsLinearizable file program h
+IsLinearity file program whole rows h linearities.NotLinearizable =
+    ¬ RowsExplain rows h × ((whole ≡ true) ⊎ (¬ IsLinearizable file program h))
+IsLinearity file program whole rows h linearities.LongCall =
+    ¬ RowsExplain rows h × (whole ≡ false) × HasLongCall file program usual.steps
+IsLinearity file program whole rows h linearities.ManyOrders =
+    ¬ RowsExplain rows h × (whole ≡ false) × HasManyOrders file program usual.orders
 
-abbrev pub IsLinearity : Bool → List Told → List Event → Linearity → Type 0
-IsLinearity complete rows h linearities.Linearizable = RowsExplain rows h
-IsLinearity complete rows h linearities.NotLinearizable = (complete ≡ true) × (RowsExplain rows h → ⊥)
-IsLinearity complete rows h linearities.NotKnown = (complete ≡ false) × (RowsExplain rows h → ⊥)
-
--- the rows say so of the row's history
-abbrev pub IsToldLinear : Bool → List Told → Judged → Type 0
-IsToldLinear complete rows j = IsLinearity complete rows j.row.history j.linearity
-
--- what is said so of a history's linearizability
-abbrev pub IsMeant : File → Program → List Event → Linearity → Type 0
-IsMeant file program h linearities.Linearizable = IsLinearizable file program h
-IsMeant file program h linearities.NotLinearizable = ¬ IsLinearizable file program h
-IsMeant file program h linearities.NotKnown = Unit {0}
+-- it is said so of the row's history
+abbrev pub IsToldLinear : File → Program → Bool → List Told → Judged → Type 0
+IsToldLinear file program whole rows j = IsLinearity file program whole rows j.row.history j.linearity
 
 abbrev pub AreMeant : File → Program → List Judged → Type 0
-AreMeant file program judged = All (λ (j : Judged). IsMeant file program j.row.history j.linearity) judged
+AreMeant file program judged = All (λ (j : Judged). IsMeant file program usual j.row.history j.linearity) judged
 
 abbrev pub is_not_linearizable : Linearity → Bool
 is_not_linearizable linearities.NotLinearizable = true
 is_not_linearizable linearities.Linearizable = false
-is_not_linearizable linearities.NotKnown = false
+is_not_linearizable linearities.LongCall = false
+is_not_linearizable linearities.ManyOrders = false
 
 -- whether it says if it is linearizable
 abbrev pub is_known : Linearity → Bool
 is_known linearities.Linearizable = true
 is_known linearities.NotLinearizable = true
-is_known linearities.NotKnown = false
+is_known linearities.LongCall = false
+is_known linearities.ManyOrders = false
 
 abbrev pub are_known : List Judged → Bool
 are_known judged = list_all (λ j. is_known j.linearity) judged

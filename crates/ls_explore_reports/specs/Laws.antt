@@ -37,8 +37,8 @@ NoneIllegal =
 -- cells is linearizable.
 abbrev pub NoneIsNotLinearizableThatFits : Type 0
 NoneIsNotLinearizableThatFits =
-    (file : File) (program : Program) (k cells : ℕ) (complete : Bool) (judged : List Judged) →
-    All (IsToldLinear complete (rows_of judged)) judged →
+    (file : File) (program : Program) (k cells : ℕ) (whole : Bool) (judged : List Judged) →
+    All (IsToldLinear file program whole (rows_of judged)) judged →
     are_known judged ≡ true → count_not_linearizable judged ≡ 0 → TellTruth file program k (rows_of judged)
     → TellAll file program cells (rows_of judged) → (schedule : List ℕ) → Fits file program cells schedule →
     IsLinearizable file program (source_history file program schedule)
@@ -46,20 +46,19 @@ NoneIsNotLinearizableThatFits =
 -- Where it says `not linearizable 0 complete`, that of each schedule of the program is.
 abbrev pub NoneIsNotLinearizable : Type 0
 NoneIsNotLinearizable =
-    (file : File) (program : Program) (k : ℕ) (complete : Bool) (judged : List Judged) →
-    All (IsToldLinear complete (rows_of judged)) judged →
+    (file : File) (program : Program) (k : ℕ) (whole : Bool) (judged : List Judged) →
+    All (IsToldLinear file program whole (rows_of judged)) judged →
     are_known judged ≡ true → count_not_linearizable judged ≡ 0 → TellTruth file program k (rows_of judged)
     → TellWhole file program (rows_of judged) → (schedule : List ℕ) →
     IsLinearizable file program (source_history file program schedule)
 
--- A row that is said to be linearizable is so. Where the rows are complete, and no schedule runs out of cells, a row that
--- is said not to be linearizable isn't.
+-- A row that is said to be linearizable is so, and one that is said not to be linearizable isn't.
 abbrev pub LinearityIsMeant : Type 0
 LinearityIsMeant =
     (file : File) (program : Program) (k : ℕ) (complete roomy : Bool) (judged : List Judged) →
     TellTruth file program k (rows_of judged) →
     (complete ≡ true → roomy ≡ true → TellWhole file program (rows_of judged)) →
-    All (IsToldLinear (complete && roomy) (rows_of judged)) judged → AreMeant file program judged
+    All (IsToldLinear file program (complete && roomy) (rows_of judged)) judged → AreMeant file program judged
 
 -- Where no thread acts, each thread that asks for an action waits for what another thread owns.
 abbrev pub AllWaitForOthers : Type 0

@@ -12,8 +12,8 @@ use Rattle.ls_explore.specs.declared.rows.Ending.TheVariants as ending
 use Rattle.ls_verdicts.specs.declared.verdicts.Verdict.{Verdict}
 use Rattle.ls_verdicts.specs.declared.verdicts.Verdict.TheVariants as verdicts
 use Rattle.ls_explore_reports.specs.declared.printing.Exploring.{Exploring}
-use Rattle.ls_explore_reports.specs.declared.judging.Linearity.{Linearity}
-use Rattle.ls_explore_reports.specs.declared.judging.Linearity.TheVariants as linearities
+use Rattle.ls_serial_search.specs.declared.judging.Linearity.{Linearity}
+use Rattle.ls_serial_search.specs.declared.judging.Linearity.TheVariants as linearities
 use Rattle.ls_explore_reports.specs.Judged.{Judged, are_decided, are_known, count_illegal, count_not_linearizable}
 use Rattle.ls_explore_reports.specs.Judged.{is_not_linearizable}
 use Rattle.ls_explore_reports.specs.Waiting.{waiting}
@@ -33,7 +33,8 @@ ending_text ending.NotSeen waiting = codes "not seen"
 abbrev pub linearity_part : Linearity → Text
 linearity_part linearities.Linearizable = codes ", linearizable"
 linearity_part linearities.NotLinearizable = codes ", not linearizable"
-linearity_part linearities.NotKnown = []
+linearity_part linearities.LongCall = []
+linearity_part linearities.ManyOrders = []
 
 -- the verdict on set calls
 abbrev pub set_part : Verdict → Text
@@ -46,7 +47,8 @@ set_part verdicts.NotOneSet = []
 abbrev pub beside_part : Linearity → Text
 beside_part linearities.Linearizable = []
 beside_part linearities.NotLinearizable = codes ", not linearizable"
-beside_part linearities.NotKnown = []
+beside_part linearities.LongCall = []
+beside_part linearities.ManyOrders = []
 
 -- of other calls it is said if they are linearizable
 abbrev pub linear_part : Verdict → Linearity → Text

@@ -25,8 +25,7 @@ pub fn none_is_not_linearizable()
     every_schedule_is_linearizable();
 }
 
-/// A row that is said to be linearizable is so. If the rows are complete and roomy, one that is said not to be
-/// linearizable isn't.
+/// A row that is said to be linearizable is so, and one that is said not to be linearizable isn't.
 pub fn linearity_is_meant()
     ensures { LinearityIsMeant }
 {

@@ -18,8 +18,7 @@ ghost use Rattle.ls_explore_reports.specs.Long.{HasLong};
 ghost use Rattle.ls_translation.specs.declared.fault.TranslationFault.TheVariants.{Memory, ResultTooLong};
 
 use crate::judging::{
-    JudgedRow, Linearity, are_decided, are_known, count_illegal, count_not_linearizable,
-    is_not_linearizable,
+    JudgedRow, are_decided, are_known, count_illegal, count_not_linearizable, is_not_linearizable,
 };
 use ls_checked::program::ThreadProgram;
 use ls_events::schedule::{MOST_STEPS, Schedule};
@@ -30,6 +29,7 @@ use ls_labels::threads::push_wait;
 use ls_meaning::step::Asked;
 use ls_report::print_history;
 use ls_schedule::print_schedule;
+use ls_serial_search::judging::Linearity;
 use ls_state::scene::Scene;
 use ls_translation::fault::TranslationFault;
 use ls_verdicts::Verdict;
@@ -153,7 +153,11 @@ fn waiting(
 }
 
 /// What the threads wait for after a schedule.
-fn waiting_after(alloc: Global, names: Names<'_>, schedule: &Schedule) -> Result<String, AllocError>
+pub fn waiting_after(
+    alloc: Global,
+    names: Names<'_>,
+    schedule: &Schedule,
+) -> Result<String, AllocError>
     ensures { IfOk result (λ text. string_bytes text ≡
         waiting (names_of names.entry) (scene_of (names_of names.entry) schedule.now) 0
         (thread_names names.entry.program.now)) }
@@ -191,7 +195,7 @@ fn linearity_part(linearity: Linearity) -> &'static str
     match linearity {
         Linearity::Linearizable => ", linearizable",
         Linearity::NotLinearizable => ", not linearizable",
-        Linearity::NotKnown => "",
+        Linearity::LongCall | Linearity::ManyOrders => "",
     }
 }
 
@@ -212,7 +216,7 @@ fn beside_part(linearity: Linearity) -> &'static str
     ensures { result.now ≡ beside_part linearity }
 {
     match linearity {
-        Linearity::Linearizable | Linearity::NotKnown => "",
+        Linearity::Linearizable | Linearity::LongCall | Linearity::ManyOrders => "",
         Linearity::NotLinearizable => ", not linearizable",
     }
 }

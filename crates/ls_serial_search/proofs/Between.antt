@@ -11,10 +11,8 @@ use Rattle.ls_checked.specs.CheckedTree.{File}
 use Rattle.ls_checked.specs.CheckedProgram.{Program, ProgramCall, ThreadProgram, Making, Calling}
 use Rattle.ls_meaning.specs.declared.sort.Sort.{Sort}
 use Rattle.ls_meaning.specs.Still.{IsActing}
-use Rattle.ls_meaning.specs.Values.{reference_of}
 use Rattle.ls_meaning.specs.Course.{Answers, Evaluated, Asks, Results, Throws}
 use Rattle.ls_meaning.specs.Effect.{Effect, Waits, Does, effect}
-use Rattle.ls_meaning.specs.Methods.{depth_limit}
 use Rattle.ls_meaning.specs.Threads.{Next, Goes, Ended, Trapped, after_call, all_calls, calls_in, next, one_call}
 use Rattle.ls_meaning.specs.Runs.{State, answers_of, event_of, has_started, idle, performed, source_history, source_run}
 use Rattle.ls_meaning.specs.Runs.{start, step, step_of}
@@ -24,25 +22,19 @@ use Rattle.ls_serial_search.proofs.Stepping.{holds_of_all}
 use Rattle.ls_serial_search.proofs.Answering.{between_acts, cases_nat, first_calls, none_between, others_answers}
 use Rattle.ls_serial_search.proofs.Answering.{own_answers}
 use Rattle.ls_serial_search.proofs.SoFar.{EndsWith, last_pair, same_end}
-use Rattle.ls_serial_search.proofs.Further.{Further, IsEnding, announced, asked, invoke_further, null_further}
-use Rattle.ls_serial_search.proofs.Further.{results, with_further}
+use Rattle.ls_serial_search.proofs.Further.{Further, IsLoud, body_of_call}
 
--- ---- a call with more answers
+-- ---- actions that end a call
 
-call_further : (more : Answers) (file : File) (program : Program) (n : ℕ) (c : ProgramCall) (q : Answers) →
-    Further more (one_call file program n c q) (one_call file program n c (q ++ more))
-call_further more file program n (Making name c text values) q =
-    with_further more _ _ _ _ (announced more (act.Call n) q (λ h. h)) (λ u rest.
-    with_further more _ _ _ _ (asked more _ _ rest (λ h. h)) (λ o rest.
-    with_further more _ _ _ _ (invoke_further more file depth_limit _ (o ∷ values) rest) (λ u rest.
-    with_further more _ _ _ _ (announced more (act.WriteName name o) rest (λ h. h)) (λ u rest.
-    results more _ rest))))
-call_further more file program n (Calling name m text result values) q =
-    with_further more _ _ _ _ (announced more (act.Call n) q (λ h. h)) (λ u rest.
-    with_further more _ _ _ _ (asked more _ _ rest (λ h. h)) (λ o rest.
-    null_further more (reference_of o) rest _ _
-    (with_further more _ _ _ _ (invoke_further more file depth_limit m (o ∷ values) rest) (λ v rest.
-    results more _ rest))))
+abbrev IsEnding : Action Value → Type 0
+IsEnding (act.Return n v) = Unit {0}
+IsEnding (act.Trap n kind) = Unit {0}
+IsEnding _ = ⊥
+
+ending_loud : (a : Action Value) → IsEnding a → IsLoud a
+ending_loud (act.Return n v) ends = tt
+ending_loud (act.Trap n kind) ends = tt
+ending_loud _ ends = absurd ends
 
 -- ---- after a return or a trap comes the next call, or nothing
 
@@ -59,7 +51,7 @@ module _ (file : File) (program : Program) (y : Answer Value) where
       Further (y ∷ []) x x' →
       EndsCall (after_call n x (all_calls file program (n + 1) cs)) →
       CallsNext (after_call n x' (all_calls file program (n + 1) cs))
-  by_course n cs (Asks a s) x' on f ends = absurd (f.is ends)
+  by_course n cs (Asks a s) x' on f ends = absurd (f.is (ending_loud a ends))
   by_course n cs (Results v []) x' on f ends = rw f.is (first_calls file program cs (n + 1))
   by_course n cs (Results v (z ∷ rest)) x' on f ends = rw f.is (on rest ends)
   by_course n cs (Throws k []) x' on f ends = rw f.is tt
@@ -69,9 +61,11 @@ module _ (file : File) (program : Program) (y : Answer Value) where
       EndsCall (all_calls file program n cs q) →
       CallsNext (all_calls file program n cs (q ++ y ∷ []))
   then_calls [] n q ends = tt
-  then_calls (c ∷ cs) n q ends =
-      by_course n cs (one_call file program n c q) (one_call file program n c (q ++ y ∷ []))
-      (then_calls cs (n + 1)) (call_further (y ∷ []) file program n c q) ends
+  then_calls (Making name c text values ∷ cs) n [] ends = absurd ends
+  then_calls (Calling name m text result values ∷ cs) n [] ends = absurd ends
+  then_calls (c ∷ cs) n (z ∷ q) ends =
+      by_course n cs (one_call file program n c (z ∷ q)) (one_call file program n c (z ∷ q ++ y ∷ []))
+      (then_calls cs (n + 1)) (body_of_call (y ∷ []) file program n c z q) ends
 
 -- ---- the events of a step
 

@@ -1,9 +1,8 @@
 -- What the runs of schedules tell.
-use Rattle.std.proofs.Common.{◌≡◌, ◌⊎◌, ◌↔◌, inl, inr, ℕ, ◌+◌, ◌<◌, List, [], ◌∷◌, ◌++◌, Contains}
-use Rattle.std.proofs.Common.{length, map, take, slice_index_or, zero, suc, refl, sym, ap, ◌∙◌, subst, arith}
+use Rattle.std.proofs.Common.{◌≡◌, ◌⊎◌, ◌↔◌, inl, inr, ℕ, ◌+◌, ◌<◌, ◌≤◌, List, [], ◌∷◌, Contains}
+use Rattle.std.proofs.Common.{length, map, drop, slice_index_or, zero, suc, refl, sym, ap, ◌∙◌, subst, arith}
 use Rattle.std.proofs.Common.{append-nil}
-use Rattle.std.proofs.lemmas.List.{map-append, take_more}
-use Rattle.std.proofs.lemmas.List.Elements.{Contains-append_left, Contains-push, Contains-push_cases}
+use Rattle.std.proofs.lemmas.List.{drop_all, drop_more}
 use Rattle.ls_events.specs.Beginnings.{IsBeginning}
 use Rattle.ls_events.specs.declared.event.Event.{Event}
 use Rattle.ls_checked.specs.CheckedTree.{File}
@@ -17,23 +16,24 @@ use Rattle.ls_serial_search.proofs.Covering.{known_history}
 
 -- one run more has its beginnings more
 run_more : (runs : List (List Event)) (run g : List Event) →
-    HaveBeginning (runs ++ run ∷ []) g ↔ (HaveBeginning runs g ⊎ IsBeginning g run)
+    HaveBeginning (run ∷ runs) g ↔ (HaveBeginning runs g ⊎ IsBeginning g run)
 run_more runs run g = (to, from)
   where
-    to : HaveBeginning (runs ++ run ∷ []) g → HaveBeginning runs g ⊎ IsBeginning g run
-    to b = by_place (Contains-push_cases runs run b.run b.there)
-      where
-        by_place : Contains runs b.run ⊎ (run ≡ b.run) → HaveBeginning runs g ⊎ IsBeginning g run
-        by_place (inl there) = inl (record { run = b.run; there = there; begins = b.begins })
-        by_place (inr same) = inr (subst (IsBeginning g) (sym same) b.begins)
+    by_place : (b : HaveBeginning (run ∷ runs) g) → Contains (run ∷ runs) b.run →
+        HaveBeginning runs g ⊎ IsBeginning g run
+    by_place b (zero, lt, e) = inr (subst (IsBeginning g) (sym e) b.begins)
+    by_place b (suc k, lt, e) = inl (record { run = b.run; there = (k, omega arith, e); begins = b.begins })
 
-    from : HaveBeginning runs g ⊎ IsBeginning g run → HaveBeginning (runs ++ run ∷ []) g
+    to : HaveBeginning (run ∷ runs) g → HaveBeginning runs g ⊎ IsBeginning g run
+    to b = by_place b b.there
+
+    from : HaveBeginning runs g ⊎ IsBeginning g run → HaveBeginning (run ∷ runs) g
     from (inl b) = record {
       run = b.run;
-      there = Contains-append_left runs (run ∷ []) b.run b.there;
+      there = (suc b.there.0, omega (arith, b.there.1), b.there.2);
       begins = b.begins;
     }
-    from (inr b) = record { run = run; there = Contains-push runs run; begins = b }
+    from (inr b) = record { run = run; there = (zero, omega arith, refl); begins = b }
 
 module _ {A B : Type 0} (f : A → B) where
   map_there : (xs : List A) (x : A) → Contains xs x → Contains (map f xs) (f x)
@@ -54,38 +54,44 @@ module _ (file : File) (program : Program) where
 
   -- ---- runs that are collected
 
-  pub runs_none : (known : List (List ℕ)) → AreRunsOf file program (take 0 known) []
-  runs_none [] g serial = (λ b. b, λ b. b)
-  runs_none (s ∷ known) g serial = (λ b. b, λ b. b)
+  pub runs_none : (known : List (List ℕ)) (i : ℕ) → length known ≤ i → AreRunsOf file program (drop i known) []
+  runs_none known i le g serial =
+      subst (λ ss. HaveBeginning [] g ↔ HaveBeginning (map history ss) g) (sym (drop_all i known le)) (λ b. b, λ b. b)
 
   pub runs_more : (runs more : List (List Event)) (known : List (List ℕ)) (i : ℕ) (s : List ℕ) (h : List Event) →
       i < length known →
       s ≡ slice_index_or known i s →
       h ≡ history s →
-      AreRunsOf file program (take i known) runs →
+      AreRunsOf file program (drop (i + 1) known) runs →
       ((g : List Event) → IsSerial g → HaveBeginning more g ↔ (HaveBeginning runs g ⊎ IsBeginning g h)) →
-      AreRunsOf file program (take (i + 1) known) more
+      AreRunsOf file program (drop i known) more
   runs_more runs more known i s h lt is eh old added g serial = (to, from)
     where
-      one : map history (take (i + 1) known) ≡ map history (take i known) ++ h ∷ []
-      one = ap (map history) (take_more known i s lt ∙ ap (λ x. take i known ++ x ∷ []) (sym is))
-          ∙ map-append history (take i known) (s ∷ []) ∙ ap (λ x. map history (take i known) ++ x ∷ []) (sym eh)
+      later : List (List Event)
+      later = map history (drop (i + 1) known)
 
-      with_old : HaveBeginning runs g ⊎ IsBeginning g h → HaveBeginning (map history (take i known)) g ⊎ IsBeginning g h
+      one : map history (drop i known) ≡ h ∷ later
+      one = ap (map history) (drop_more known i s lt ∙ ap (λ x. x ∷ drop (i + 1) known) (sym is))
+          ∙ ap (λ x. x ∷ later) (sym eh)
+
+      with_old : HaveBeginning runs g ⊎ IsBeginning g h → HaveBeginning later g ⊎ IsBeginning g h
       with_old (inl b) = inl ((old g serial).0 b)
       with_old (inr b) = inr b
 
-      to_old : HaveBeginning (map history (take i known)) g ⊎ IsBeginning g h → HaveBeginning runs g ⊎ IsBeginning g h
+      to_old : HaveBeginning later g ⊎ IsBeginning g h → HaveBeginning runs g ⊎ IsBeginning g h
       to_old (inl b) = inl ((old g serial).1 b)
       to_old (inr b) = inr b
 
-      to : HaveBeginning more g → HaveBeginning (map history (take (i + 1) known)) g
-      to b = subst (λ hs. HaveBeginning hs g) (sym one)
-          ((run_more (map history (take i known)) h g).1 (with_old ((added g serial).0 b)))
+      to : HaveBeginning more g → HaveBeginning (map history (drop i known)) g
+      to b = subst (λ hs. HaveBeginning hs g) (sym one) ((run_more later h g).1 (with_old ((added g serial).0 b)))
 
-      from : HaveBeginning (map history (take (i + 1) known)) g → HaveBeginning more g
-      from b = (added g serial).1
-          (to_old ((run_more (map history (take i known)) h g).0 (subst (λ hs. HaveBeginning hs g) one b)))
+      from : HaveBeginning (map history (drop i known)) g → HaveBeginning more g
+      from b = (added g serial).1 (to_old ((run_more later h g).0 (subst (λ hs. HaveBeginning hs g) one b)))
+
+  pub all_of : (known : List (List ℕ)) (runs : List (List Event)) → AreRunsOf file program (drop 0 known) runs →
+      AreRunsOf file program known runs
+  all_of [] runs are = are
+  all_of (s ∷ known) runs are = are
 
   -- ---- what they tell
 

@@ -12,14 +12,15 @@ use Rattle.ls_meaning.specs.Still.{IsActing, IsStill}
 use Rattle.ls_meaning.specs.Threads.{next}
 use Rattle.ls_meaning.specs.Runs.{State, answers_of, source_history, source_run}
 use Rattle.ls_meaning.specs.Runs.{start, step}
-use Rattle.ls_serial.specs.Serial.{IsEndOf, IsSerial}
+use Rattle.ls_serial.specs.Serial.{IsCall, IsEndOf, IsSerial}
 use Rattle.ls_serial_search.specs.Following.{CallsNext, IsBetween, IsFollowed, called, events_of}
 use Rattle.ls_serial_search.specs.Searched.{IsSearched}
 use Rattle.ls_serial_search.specs.Laws.{HasHistoryOf}
 use Rattle.ls_serial_search.proofs.Stepping.{acts_within, history_more, holds_of_all, state_more, steps_more}
 use Rattle.ls_serial_search.proofs.Answering.{between_acts, cases_nat, others_answers}
 use Rattle.ls_serial_search.proofs.Between.{all_between}
-use Rattle.ls_serial_search.proofs.SoFar.{IsSoFar, pending_not_serial, serial_so_far, so_far_before, then_ends}
+use Rattle.ls_serial_search.proofs.SoFar.{IsSoFar, pending_not_serial, same_end, serial_so_far, so_far_before}
+use Rattle.ls_serial_search.proofs.SoFar.{so_far_call, then_ends}
 
 module _ (file : File) (program : Program) where
   suc_is : (j : ℕ) → suc j ≡ j + 1
@@ -182,3 +183,37 @@ module _ (file : File) (program : Program) where
         by_known (inr w) = absurd (pending_not_serial (source_history file program w.schedule)
             (called w.thread w.followed.call) (searched.serial w.schedule w.there)
             (subst IsSerial (w.history ∙ w.followed.begun.is w.before w.less) serial))
+
+    -- a call that has begun after a serial history is one that was followed
+    pub record IsBegunIn (schedule : List ℕ) (before : List Event) (c : Event) : Type 0 where
+      pub one : List ℕ
+      pub there : Contains known one
+      pub same : before ≡ source_history file program one
+      pub steps : ℕ
+      pub state : source_run file program schedule ≡ source_run file program (one ++ replicate steps c.thread)
+      pub history : source_history file program schedule ≡ source_history file program (one ++ replicate steps c.thread)
+
+    pub begun_in : (schedule : List ℕ) (before : List Event) (c : Event) → IsSerial before → IsCall c →
+        source_history file program schedule ≡ before ++ c ∷ [] →
+        IsBegunIn schedule before c
+    begun_in schedule before c serial call is =
+        by_known (holds_of_all file program Holds kept (λ so. at_start) schedule
+        (subst IsSoFar (sym is) (so_far_call before c serial call)))
+      where
+        by_known : IsKnown (source_run file program schedule) (source_history file program schedule) →
+            IsBegunIn schedule before c
+        by_known (inl at) = absurd (pending_not_serial before c serial
+            (subst IsSerial (sym at.history ∙ is) (searched.serial at.schedule at.there)))
+        by_known (inr w) =
+            let ends = same_end before (source_history file program w.schedule) c (called w.thread w.followed.call)
+            (sym is ∙ w.history ∙ w.followed.begun.is w.before w.less) in
+            let thread : w.thread ≡ c.thread = ap (λ (e : Event). e.thread) (sym ends.1) in
+            record {
+              one = w.schedule;
+              there = w.there;
+              same = ends.0;
+              steps = w.before + 1;
+              state = w.state ∙ ap (λ t. source_run file program (w.schedule ++ replicate (w.before + 1) t)) thread;
+              history = w.history ∙
+                  ap (λ t. source_history file program (w.schedule ++ replicate (w.before + 1) t)) thread;
+            }

@@ -1,12 +1,14 @@
 -- A course with more answers: what has ended ends so, with more answers left. And no call, return or trap of the
--- program stands within a body.
+-- program stands within the body of a call.
 use Rattle.std.proofs.Common.{◌≡◌, ℕ, zero, suc, ◌≤◌, Bool, true, false, cond, List, [], ◌∷◌, ◌++◌, length, Option}
 use Rattle.std.proofs.Common.{Some}
 use Rattle.std.proofs.Common.{None, refl, arith, length-append}
 use Rattle.std.specs.Prelude.{nat_eq, pos, int_lt, slice_get}
 use Rattle.ls_events.specs.declared.kind.Kind.TheVariants.{NullPointer, Arithmetic, NegativeArraySize}
 use Rattle.ls_events.specs.declared.action.Action.{Action}
-use Rattle.ls_events.specs.declared.action.Action.TheVariants.{Turn, Enter, Return as ReturnEvent, Trap as TrapEvent}
+use Rattle.ls_events.specs.declared.action.Action.TheVariants.{Turn, Enter, WriteName, Call as CallEvent}
+use Rattle.ls_events.specs.declared.action.Action.TheVariants.{Return as ReturnEvent, Trap as TrapEvent}
+use Rattle.ls_events.specs.declared.action.Answer.{Answer}
 use Rattle.ls_events.specs.declared.action.Answer.TheVariants.{Done, Gives, Fails}
 use Rattle.ls_events.specs.declared.value.Value.{Value}
 use Rattle.ls_events.specs.declared.value.ValueType.{ValueType}
@@ -21,25 +23,28 @@ use Rattle.ls_checked.specs.CheckedTree.{Expressions, End, More, Statement, Bloc
 use Rattle.ls_checked.specs.CheckedTree.{Evaluate, If, While, Break, Continue, ReturnNothing, ReturnValue, Try}
 use Rattle.ls_checked.specs.CheckedTree.{Statements, Then}
 use Rattle.ls_checked.specs.CheckedTree as checked
+use Rattle.ls_checked.specs.CheckedProgram.{Program, ProgramCall, Making, Calling}
 use Rattle.ls_meaning.specs.declared.sort.Sort.{Sort}
 use Rattle.ls_meaning.specs.declared.sort.Sort.TheVariants.{NoValue}
 use Rattle.ls_meaning.specs.declared.completion.Completion.{Completion}
 use Rattle.ls_meaning.specs.declared.completion.Completion.TheVariants.{Normal, Broke, Continued, Returned, Threw}
-use Rattle.ls_meaning.specs.Values.{truth_of, int_of, divides_by_zero, operated}
+use Rattle.ls_meaning.specs.Values.{truth_of, int_of, divides_by_zero, operated, reference_of}
 use Rattle.ls_meaning.specs.Course.{Answers, Evaluated, Asks, Results, Throws, ask, tell, with_value, unless_null}
 use Rattle.ls_meaning.specs.Expressions.{Calls, evaluate, arguments, call, operate}
 use Rattle.ls_meaning.specs.Statements.{Executed, AsksFor, Completes, on_value, then_do, finally_do, turn_back}
 use Rattle.ls_meaning.specs.Statements.{after_body, one_turn, turns, execute, execute_all}
-use Rattle.ls_meaning.specs.Methods.{leave, run_body, frame, invoke}
+use Rattle.ls_meaning.specs.Methods.{leave, run_body, frame, invoke, depth_limit}
+use Rattle.ls_meaning.specs.Threads.{one_call}
 
--- a return or a trap
-abbrev pub IsEnding : Action Value → Type 0
-IsEnding (ReturnEvent n v) = Unit {0}
-IsEnding (TrapEvent n kind) = Unit {0}
-IsEnding _ = ⊥
+-- a call, a return or a trap
+abbrev pub IsLoud : Action Value → Type 0
+IsLoud (CallEvent n) = Unit {0}
+IsLoud (ReturnEvent n v) = Unit {0}
+IsLoud (TrapEvent n kind) = Unit {0}
+IsLoud _ = ⊥
 
 abbrev pub IsQuiet : Action Value → Type 0
-IsQuiet a = IsEnding a → ⊥
+IsQuiet a = IsLoud a → ⊥
 
 -- answers that come more
 module _ (more : Answers) where
@@ -302,3 +307,16 @@ module _ (more : Answers) where
   invoke_further file zero m vs qs = record { is = refl }
   invoke_further file (suc d) m vs qs = with_further _ _ _ _ (announced (Enter m) qs (λ h. h))
       (λ v rest. body_further file (invoke file d) (invoke_further file d) (slice_get file.methods m) vs rest)
+
+  -- ---- a call after its event
+
+  pub body_of_call : (file : File) (program : Program) (n : ℕ) (c : ProgramCall) (y : Answer Value) (q : Answers) →
+      Further (one_call file program n c (y ∷ q)) (one_call file program n c (y ∷ q ++ more))
+  body_of_call file program n (Making name c text values) y q =
+      with_further _ _ _ _ (asked _ _ q (λ h. h)) (λ o rest.
+      with_further _ _ _ _ (invoke_further file depth_limit _ (o ∷ values) rest) (λ u rest.
+      with_further _ _ _ _ (announced (WriteName name o) rest (λ h. h)) (λ u rest. results _ rest)))
+  body_of_call file program n (Calling name m text result values) y q =
+      with_further _ _ _ _ (asked _ _ q (λ h. h)) (λ o rest.
+      null_further (reference_of o) rest _ _
+      (with_further _ _ _ _ (invoke_further file depth_limit m (o ∷ values) rest) (λ v rest. results _ rest)))

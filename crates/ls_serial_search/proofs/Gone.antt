@@ -1,6 +1,6 @@
 -- Schedules that become more.
-use Rattle.std.proofs.Common.{◌≡◌, ◌⊎◌, inl, inr, ℕ, zero, suc, ◌+◌, ◌<◌, ◌≤◌, Bool, true, List, [], ◌∷◌, ◌++◌, None}
-use Rattle.std.proofs.Common.{Some, Contains}
+use Rattle.std.proofs.Common.{◌≡◌, ◌⊎◌, inl, inr, ℕ, zero, suc, ◌+◌, ◌<◌, ◌≤◌, Bool, true, false, List, [], ◌∷◌, ◌++◌}
+use Rattle.std.proofs.Common.{None, Some, Contains}
 use Rattle.std.proofs.Common.{length, replicate, slice_get, slice_index_or, sym, ap, ◌∙◌, subst, arith, append_assoc}
 use Rattle.std.proofs.Common.{append-nil}
 use Rattle.std.proofs.lemmas.Bool.{cases_lt}
@@ -15,6 +15,11 @@ use Rattle.ls_serial_search.specs.Following.{IsFollowed}
 use Rattle.ls_serial_search.specs.Happened.{EndsIn, StaysIn}
 use Rattle.ls_serial_search.specs.Searched.{AreSerial, IsSearched}
 use Rattle.ls_serial_search.specs.Told.{AreMore}
+
+-- what follows from one of two
+pub one_or_other : (a b : Bool) (P : Type 0) → (a ≡ false) ⊎ (b ≡ false) → (a ≡ false → P) → (b ≡ false → P) → P
+one_or_other a b P (inl e) first second = first e
+one_or_other a b P (inr e) first second = second e
 
 module _ (file : File) (program : Program) where
   -- the same schedules
@@ -149,6 +154,21 @@ module _ (file : File) (program : Program) where
   }
 
   -- ---- the search so far
+
+  -- the schedule that is gone on from is one of those
+  pub gone_at : (a : List (List ℕ)) (s x : List ℕ) (n : ℕ) →
+      n < length a →
+      x ≡ slice_index_or a n x →
+      s ≡ x →
+      slice_get a n ≡ Some s
+  gone_at a s x n lt is same = is_get a n x lt ∙ ap Some (sym is) ∙ ap Some (sym same)
+
+  pub gone_there : (a : List (List ℕ)) (s x : List ℕ) (n : ℕ) →
+      n < length a →
+      x ≡ slice_index_or a n x →
+      s ≡ x →
+      Contains a s
+  gone_there a s x n lt is same = get_contains a n s (gone_at a s x n lt is same)
 
   -- what is known when so many schedules were gone on from
   pub record IsGone (known : List (List ℕ)) (n : ℕ) (complete : Bool) : Type 0 where

@@ -1,10 +1,14 @@
 mod SoFar
-mod Stepping
-mod Answering
-mod Further
+pub mod Stepping
+pub mod Answering
+pub mod Further
 mod Between
 pub mod Covering
+pub mod Open
+pub mod Apart
 pub mod Along
 pub mod Gone
 pub mod Collected
 pub mod Kept
+pub mod Stalls
+pub mod Stuck

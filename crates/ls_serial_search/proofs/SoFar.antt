@@ -26,6 +26,11 @@ then_ends [] c e s so = so.1
 then_ends (x ∷ []) c e s so = absurd s
 then_ends (x ∷ y ∷ rest) c e s so = then_ends rest c e s.2 so.2
 
+pub so_far_call : (h : List Event) (c : Event) → IsSerial h → IsCall c → IsSoFar (h ++ c ∷ [])
+so_far_call [] c s call = call
+so_far_call (x ∷ []) c s call = absurd s
+so_far_call (x ∷ y ∷ rest) c s call = (s.0, s.1, so_far_call rest c s.2 call)
+
 pub pending_not_serial : (h : List Event) (c : Event) → IsSerial h → IsSerial (h ++ c ∷ []) → ⊥
 pending_not_serial [] c s so = so
 pending_not_serial (x ∷ []) c s so = s

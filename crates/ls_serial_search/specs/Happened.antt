@@ -1,10 +1,10 @@
 -- What a step does to its thread's call, and what comes of a call.
-use Rattle.std.specs.Prelude.{◌≡◌, ℕ, ◌+◌, List, [], ◌∷◌, ◌++◌, replicate}
+use Rattle.std.specs.Prelude.{◌≡◌, ℕ, ◌+◌, ◌≤◌, List, [], ◌∷◌, ◌++◌, replicate}
 use Rattle.ls_events.specs.declared.event.Event.{Event}
 use Rattle.ls_checked.specs.CheckedTree.{File}
 use Rattle.ls_checked.specs.CheckedProgram.{Program}
 use Rattle.ls_meaning.specs.declared.step.Did.{Did}
-use Rattle.ls_meaning.specs.Still.{IsStill}
+use Rattle.ls_meaning.specs.Still.{IsActing, IsStill}
 use Rattle.ls_meaning.specs.Runs.{source_history, source_run, step}
 use Rattle.ls_serial.specs.Serial.{IsEndOf, IsSerial}
 use Rattle.ls_serial_search.specs.declared.following.Happened.{Happened}
@@ -12,6 +12,7 @@ use Rattle.ls_serial_search.specs.declared.following.Happened.TheVariants as hap
 use Rattle.ls_serial_search.specs.declared.following.Followed.{Followed}
 use Rattle.ls_serial_search.specs.declared.following.Followed.TheVariants as followed
 use Rattle.ls_serial_search.specs.Following.{IsBegun, called, events_of}
+use Rattle.ls_serial_search.specs.Open.{HasEnded, IsOpen}
 
 -- the event of a step is the end of a call
 pub record IsLast (thread call : ℕ) (events : List Event) : Type 0 where
@@ -28,7 +29,7 @@ EventsSay thread events (happened.Ends call) = IsLast thread call events
 
 abbrev pub HasHappened : ℕ → Did → Happened → Type 0
 HasHappened thread did happened.Stays = IsStill did
-HasHappened thread did happened.GoesOn = events_of thread did ≡ []
+HasHappened thread did happened.GoesOn = IsActing did × (events_of thread did ≡ [])
 HasHappened thread did (happened.Begins call) = events_of thread did ≡ called thread call ∷ []
 HasHappened thread did (happened.Ends call) = IsLast thread call (events_of thread did)
 
@@ -48,7 +49,10 @@ pub record EndsIn (file : File) (program : Program) (schedule : List ℕ) (threa
   pub serial : IsSerial (source_history file program schedule) →
       IsSerial (source_history file program (schedule ++ replicate steps thread))
 
-abbrev pub HasFollowed : File → Program → List ℕ → ℕ → Followed → Type 0
-HasFollowed file program schedule thread followed.Stays = StaysIn file program schedule thread
-HasFollowed file program schedule thread (followed.Ends steps) = EndsIn file program schedule thread steps
-HasFollowed file program schedule thread followed.Unknown = Unit {0}
+-- what comes of the call within so many steps
+abbrev pub HasFollowed : File → Program → List ℕ → ℕ → ℕ → Followed → Type 0
+HasFollowed file program schedule thread most followed.Stays = StaysIn file program schedule thread
+HasFollowed file program schedule thread most (followed.Ends steps) =
+    EndsIn file program schedule thread steps × (steps ≤ most) × HasEnded file program schedule thread steps
+HasFollowed file program schedule thread most followed.GoesOn =
+    IsSerial (source_history file program schedule) → IsOpen file program schedule thread most

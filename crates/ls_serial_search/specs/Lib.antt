@@ -1,7 +1,10 @@
 pub mod Following
 pub mod Searched
+pub mod Tree
+pub mod Open
 pub mod Laws
 pub mod Orders
 pub mod Happened
 pub mod Told
 pub mod Histories
+pub mod Waiting

@@ -1,12 +1,16 @@
 -- What the serial runs tell.
-use Rattle.std.specs.Prelude.{◌≡◌, ◌↔◌, ℕ, Bool, map, true, false, List, ◌++◌, Option, Some, None}
+use Rattle.std.specs.Prelude.{◌≡◌, ◌↔◌, ℕ, map, true, false, List, ◌++◌}
 use Rattle.ls_events.specs.declared.event.Event.{Event}
 use Rattle.ls_checked.specs.CheckedTree.{File}
 use Rattle.ls_checked.specs.CheckedProgram.{Program}
 use Rattle.ls_meaning.specs.Runs.{source_history}
 use Rattle.ls_serial.specs.Serial.{HaveBeginning, IsSerial}
 use Rattle.ls_linearizable.specs.Linearizable.{IsLinearizable, TellSerial}
+use Rattle.ls_serial_search.specs.Open.{HasLongCall, HasManyOrders}
 use Rattle.ls_serial_search.specs.Searched.{AreSerial, TellTruth}
+use Rattle.ls_serial_search.specs.declared.telling.Bounds.{Bounds}
+use Rattle.ls_serial_search.specs.declared.judging.Linearity.{Linearity}
+use Rattle.ls_serial_search.specs.declared.judging.Linearity.TheVariants as linearities
 use Rattle.ls_serial_search.specs.declared.telling.SerialSearch.{SerialSearch}
 
 -- some schedules are known, and then more
@@ -21,13 +25,21 @@ AreRunsOf file program known runs = (g : List Event) → IsSerial g →
     HaveBeginning runs g ↔ HaveBeginning (map (source_history file program) known) g
 
 -- The runs begin with serial histories of schedules alone. If the search is complete, they begin with each serial
--- history of a schedule, of any length.
-pub record Tells (file : File) (program : Program) (s : SerialSearch) : Type 0 where
+-- history of a schedule, of any length. If it isn't, a call alone didn't end within the bound, or there are too many
+-- orders.
+pub record Tells (file : File) (program : Program) (bounds : Bounds) (s : SerialSearch) : Type 0 where
   pub truth : TellTruth file program s.runs
   pub serial : s.complete ≡ true → TellSerial file program s.runs
+  pub long : s.complete ≡ false → s.many ≡ false → HasLongCall file program bounds.steps
+  pub many : s.many ≡ true → HasManyOrders file program bounds.orders
 
--- what is said of a history is so; nothing is said only where the search isn't complete
-abbrev pub IsSaid : File → Program → List Event → Bool → Option Bool → Type 0
-IsSaid file program h complete (Some true) = IsLinearizable file program h
-IsSaid file program h complete (Some false) = IsLinearizable file program h → ⊥
-IsSaid file program h complete None = complete ≡ false
+-- what is said of a history is so; and if it isn't known, there is the reason that is said
+abbrev pub IsMeant : File → Program → Bounds → List Event → Linearity → Type 0
+IsMeant file program bounds h linearities.Linearizable = IsLinearizable file program h
+IsMeant file program bounds h linearities.NotLinearizable = ¬ IsLinearizable file program h
+IsMeant file program bounds h linearities.LongCall = HasLongCall file program bounds.steps
+IsMeant file program bounds h linearities.ManyOrders = HasManyOrders file program bounds.orders
+
+-- the bounds by which commands search
+abbrev pub usual : Bounds
+usual = record { steps = 10000; orders = 10000 }

@@ -33,8 +33,8 @@ pub(crate) enum Followed {
     Stays,
     /// It ends with the last of so many steps.
     Ends(usize),
-    /// It goes on past the bound.
-    Unknown,
+    /// It doesn't end within the bound.
+    GoesOn,
 }
 
 /// A program of a file, and the most steps in which a call is followed.
@@ -58,7 +58,7 @@ fn happened_by(thread: usize, action: &Action<Value>) -> Happened
 }
 
 /// What a step of a thread did to its call.
-fn what_happened(thread: usize, did: &Did) -> Happened
+pub(crate) fn what_happened(thread: usize, did: &Did) -> Happened
     ensures { HasHappened thread did.now result }
 {
     match did {
@@ -68,36 +68,38 @@ fn what_happened(thread: usize, did: &Did) -> Happened
     }
 }
 
-/// Follows a thread's next call after a schedule. The only refusal is that memory ran out.
+/// Follows a thread's next call after a schedule, for at most so many steps. The only refusal is that memory ran out.
 pub(crate) fn follow(
     alloc: Global,
     task: &Task,
     schedule: &Schedule,
     thread: u8,
+    most: usize,
 ) -> Result<Followed, AllocError>
-    ensures { IfOk result
-        (λ f. HasFollowed (plain_file task.now.file.now) (plain_program task.now.program.now) schedule.now thread f) }
+    ensures { IfOk result (λ f. HasFollowed (plain_file task.now.file.now) (plain_program task.now.program.now)
+        schedule.now thread most f) }
 {
     let mut run = played(alloc, task.file, task.program, schedule)?;
     let first = run.step(alloc, thread as usize)?;
     let call = match what_happened(thread as usize, &first) {
         Happened::Begins(call) => call,
         Happened::Stays => return Ok(Followed::Stays),
-        Happened::GoesOn | Happened::Ends(_) => return Ok(Followed::Unknown),
+        Happened::GoesOn => return Ok(Followed::GoesOn),
+        Happened::Ends(_) => return Ok(Followed::GoesOn),
     };
-    for steps in 1..task.most_steps {
+    for steps in 1..most {
         let did = run.step(alloc, thread as usize)?;
         match what_happened(thread as usize, &did) {
             Happened::GoesOn => {}
             Happened::Stays => return Ok(Followed::Stays),
-            Happened::Begins(_) => return Ok(Followed::Unknown),
+            Happened::Begins(_) => return Ok(Followed::GoesOn),
             Happened::Ends(ended) => {
                 if ended == call {
                     return Ok(Followed::Ends(steps + 1));
                 }
-                return Ok(Followed::Unknown);
+                return Ok(Followed::GoesOn);
             }
         }
     }
-    Ok(Followed::Unknown)
+    Ok(Followed::GoesOn)
 }

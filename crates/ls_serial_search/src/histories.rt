@@ -52,7 +52,7 @@ fn has_beginning(histories: &[Vec<Event>], first: &[Event]) -> bool
 }
 
 /// The same events.
-fn copied(alloc: Global, events: &[Event]) -> Result<Vec<Event>, AllocError>
+pub(crate) fn copied(alloc: Global, events: &[Event]) -> Result<Vec<Event>, AllocError>
     ensures { IfOk result (λ v. v.items ≡ events.now) }
 {
     let copy = events.iter().copied().collect(alloc)?;

@@ -8,3 +8,4 @@ pub mod laws;
 mod playing;
 mod searching;
 pub mod telling;
+pub mod waiting;

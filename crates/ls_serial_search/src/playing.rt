@@ -1,6 +1,7 @@
 // Schedules and their runs.
 
-ghost use Rattle.std.specs.Prelude.{◌≡◌, ◌++◌, IfOk, IfSome, replicate};
+ghost use Rattle.std.specs.Prelude.{◌≡◌, ◌++◌, ◌+◌, ◌≤◌, IfOk, length, replicate};
+ghost use Rattle.ls_events.specs.Limits.{most_steps};
 ghost use Rattle.ls_checked.specs.Plain.{plain_file};
 ghost use Rattle.ls_checked.specs.PlainProgram.{plain_program};
 ghost use Rattle.ls_source.specs.Shown.{progress_of};
@@ -8,7 +9,7 @@ ghost use Rattle.ls_serial_search.specs.Orders.{progress_at};
 
 use ls_checked::program::Program;
 use ls_checked::tree::File;
-use ls_events::schedule::{MOST_STEPS, Schedule};
+use ls_events::schedule::Schedule;
 use ls_source::run::SourceRun;
 use std::alloc::{AllocError, Global};
 
@@ -30,21 +31,17 @@ pub(crate) fn played<'a>(
     Ok(run)
 }
 
-/// The schedule with so many steps more of a thread; none if no schedule has so many. The only refusal is that memory
-/// ran out.
+/// The schedule with so many steps more of a thread. The only refusal is that memory ran out.
 pub(crate) fn with_steps(
     alloc: Global,
     schedule: &Schedule,
     thread: u8,
     count: usize,
-) -> Result<Option<Schedule>, AllocError>
-    ensures { IfOk result (λ longer. IfSome longer (λ s. s ≡ schedule.now ++ replicate count thread)) }
+) -> Result<Schedule, AllocError>
+    requires { length schedule.now + count ≤ most_steps }
+    ensures { IfOk result (λ longer. longer ≡ schedule.now ++ replicate count thread) }
 {
-    schedule.fits();
-    if count > MOST_STEPS - schedule.len() {
-        return Ok(None);
-    }
     let mut longer = schedule.copied(alloc)?;
     longer.push_run(thread, count)?;
-    Ok(Some(longer))
+    Ok(longer)
 }

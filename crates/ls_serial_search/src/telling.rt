@@ -1,11 +1,11 @@
 // The serial runs of a program.
 
-ghost use Rattle.std.specs.Prelude.{◌≡◌, ◌<◌, true, Contains, IfOk, List};
+ghost use Rattle.std.specs.Prelude.{◌≡◌, ◌<◌, true, false, Contains, IfOk, List};
 ghost use Rattle.ls_events.specs.declared.event.Event.{Event as EventValue};
 ghost use Rattle.ls_checked.specs.Plain.{plain_file};
 ghost use Rattle.ls_checked.specs.PlainProgram.{plain_program};
 ghost use Rattle.ls_serial.specs.Serial.{HaveBeginning, IsSerial};
-ghost use Rattle.ls_serial_search.specs.Told.{AreRunsOf, Tells};
+ghost use Rattle.ls_serial_search.specs.Told.{AreRunsOf, Tells, usual};
 
 use crate::following::Task;
 use crate::playing::played;
@@ -22,8 +22,20 @@ use std::alloc::{AllocError, Global};
 pub struct Bounds {
     /// The most steps in which a call is followed.
     pub steps: usize,
-    /// The most orders of calls after which the next calls are followed.
+    /// The most orders of calls: if there are more, the next calls are no longer followed.
     pub orders: usize,
+}
+
+impl Bounds {
+    /// The bounds by which commands search: 10,000 steps of a call, and 10,000 orders.
+    pub fn usual() -> Bounds
+        ensures { result ≡ usual }
+    {
+        Bounds {
+            steps: 10_000,
+            orders: 10_000,
+        }
+    }
 }
 
 /// The serial runs of a program.
@@ -32,9 +44,25 @@ pub struct SerialSearch {
     pub runs: SerialRuns,
     /// Whether no bound was met. Then the runs begin with each serial history of a schedule, of any length.
     pub complete: bool,
+    /// Whether there are too many orders. If there aren't, and it isn't complete, a call alone didn't end.
+    pub many: bool,
 }
 
-/// The serial runs of these schedules of a program of a file. The only refusal is that memory ran out.
+impl SerialSearch {
+    /// What stands for a search where none is needed.
+    pub fn nothing(alloc: Global) -> SerialSearch
+        ensures { result.complete ≡ false }
+    {
+        SerialSearch {
+            runs: SerialRuns::new(alloc),
+            complete: false,
+            many: false,
+        }
+    }
+}
+
+/// The serial runs of these schedules of a program of a file. The last is added first: a run with which one of those
+/// begins isn't kept. The only refusal is that memory ran out.
 fn runs_of(
     alloc: Global,
     file: &File,
@@ -45,7 +73,9 @@ fn runs_of(
         (λ runs. AreRunsOf (plain_file file.now) (plain_program program.now) schedules.now runs) }
 {
     let mut runs = SerialRuns::new(alloc);
-    for at in 0..schedules.len() {
+    let mut at = schedules.len();
+    while at > 0 {
+        at -= 1;
         let run = played(alloc, file, program, &schedules[at])?;
         runs.add(alloc, run.history())?;
     }
@@ -62,7 +92,7 @@ pub fn serial_runs(
     program: &Program,
     bounds: &Bounds,
 ) -> Result<SerialSearch, AllocError>
-    ensures { IfOk result (λ s. Tells (plain_file file.now) (plain_program program.now) s) }
+    ensures { IfOk result (λ s. Tells (plain_file file.now) (plain_program program.now) bounds.now s) }
 {
     let task = Task {
         file,
@@ -75,5 +105,6 @@ pub fn serial_runs(
     Ok(SerialSearch {
         runs,
         complete: known.complete,
+        many: known.many,
     })
 }

@@ -1,9 +1,9 @@
 -- The verdict on the history of a run.
-use Rattle.std.specs.Prelude.{◌≡◌, true, List, Some, None, codes, map}
+use Rattle.std.specs.Prelude.{◌≡◌, true, List, Some, None, map}
 use Rattle.ls_events.specs.declared.event.Event.{Event as RunEvent}
 use Rattle.ls_checked.specs.CheckedProgram.{Program}
 use Rattle.ls_report.specs.Discipline.{is_history}
-use Rattle.ls_report.specs.Events.{Event, Text}
+use Rattle.ls_report.specs.Events.{Event}
 use Rattle.ls_report.specs.Printing.{named}
 use Rattle.ls_orders.specs.SetCalls.{first_foreign, set_calls}
 use Rattle.ls_order_search.specs.Answers.{HasOrder, IsDecided, NoneIsLegal}
@@ -34,9 +34,3 @@ pub record IsVerdict (p : Program) (run : List RunEvent) (v : Verdict) : Type 0 
   pub events : List Event
   pub named : IsNamed p run events
   pub verdict : IsVerdictOn events v
-
-abbrev pub verdict_text : Verdict → Text
-verdict_text verdicts.Legal = codes "legal"
-verdict_text verdicts.Illegal = codes "illegal"
-verdict_text verdicts.NotOneSet = codes "no set"
-verdict_text verdicts.TooManyTrapped = codes "not judged"

@@ -4,4 +4,4 @@
 mod naming;
 mod verdicts;
 
-pub use verdicts::{Verdict, verdict_on, verdict_word};
+pub use verdicts::{Verdict, verdict_on};

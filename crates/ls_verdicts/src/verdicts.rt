@@ -3,7 +3,7 @@
 ghost use Rattle.std.specs.Prelude.{◌≡◌, IfOk};
 ghost use Rattle.ls_checked.specs.PlainProgram.{plain_program};
 ghost use Rattle.ls_verdicts.specs.Outcomes.{verdict_of};
-ghost use Rattle.ls_verdicts.specs.Verdicts.{IsHistoryOf, IsVerdict, verdict_text};
+ghost use Rattle.ls_verdicts.specs.Verdicts.{IsHistoryOf, IsVerdict};
 
 use crate::naming::named_events;
 use ls_checked::program::Program;
@@ -55,17 +55,4 @@ pub fn verdict_on(
     let events = named_events(alloc, history, program)?;
     let outcome = judge(alloc, events.as_slice())?;
     Ok(verdict_of(&outcome))
-}
-
-/// The verdict in a word or two: `legal`, `illegal`, `no set` or `not judged`. It is `no set` if a call isn't a set
-/// call on the same object as the others. It is `not judged` if an item has over 12 trapped calls.
-pub fn verdict_word(verdict: Verdict) -> &'static str
-    ensures { result.now ≡ verdict_text verdict }
-{
-    match verdict {
-        Verdict::Legal => "legal",
-        Verdict::Illegal => "illegal",
-        Verdict::NotOneSet => "no set",
-        Verdict::TooManyTrapped => "not judged",
-    }
 }

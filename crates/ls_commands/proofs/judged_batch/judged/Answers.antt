@@ -1,7 +1,7 @@
 use Rattle.std.proofs.Common.{ap, subst, sym}
 use Rattle.std.proofs.lemmas.Result.{err_from_is_err_and}
 use Rattle.ls_checked.specs.PlainProgram.{plain_program}
-use Rattle.ls_batch.specs.Judged.{AreHistoriesOf}
+use Rattle.ls_judged_tallies.specs.Judged.{AreHistoriesOf}
 use Rattle.ls_commands.proofs.JudgedLemmas.{judging_fails, judging_tells, rows_named}
 use Rattle.ls_commands.proofs.judged_batch.judged.Goals as goal
 
@@ -21,6 +21,6 @@ print_judged-requires g c =
 pub returns : goal.returns
 returns g c =
     let ok = c.in_ok-tally.ensures in
-    judging_tells c.args.image.now c.args.cells c.args.sampling c.in_ok-tally.tally _ _
+    judging_tells c.args.image.now c.args.cells c.args.sampling c.in_ok-tally.tally _ _ _ c.file_in.ensures
     (ap plain_program c.program.ensures) ok.bad_cells ok.bad_count ok.tally
     c.in_ok-print_judged.ensures

@@ -1,8 +1,14 @@
-use Rattle.std.proofs.Common.{take}
+use Rattle.std.proofs.Common.{◌≤◌, drop, length}
 use Rattle.ls_checked.specs.Plain.{plain_file}
 use Rattle.ls_checked.specs.PlainProgram.{plain_program}
 use Rattle.ls_serial_search.specs.Told.{AreRunsOf}
 use Rattle.ls_serial_search.proofs.telling.runs_of.Given as goal
 
 abbrev pub invariant-loop-at : goal.invariant-loop-at
-invariant-loop-at l = AreRunsOf (plain_file l.file) (plain_program l.program) (take l.at l.schedules) l.runs
+invariant-loop-at l = record {
+  within : l.at ≤ length l.schedules;
+  are : AreRunsOf (plain_file l.file) (plain_program l.program) (drop l.at l.schedules) l.runs;
+}
+
+abbrev pub decreases-loop-at : goal.decreases-loop-at
+decreases-loop-at l = l.at

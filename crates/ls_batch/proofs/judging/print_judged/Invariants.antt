@@ -1,9 +1,0 @@
-use Rattle.std.proofs.Common.{drop, map, string_bytes}
-use Rattle.ls_checked.specs.PlainProgram.{plain_program}
-use Rattle.ls_batch_tally.specs.Rows.{entry_row}
-use Rattle.ls_batch.proofs.Judged.{Begins}
-use Rattle.ls_batch.proofs.judging.print_judged.Given as goal
-
-abbrev pub invariant-loop-entry : goal.invariant-loop-entry
-invariant-loop-entry l = Begins (plain_program l.program) l.tally (map entry_row (drop l.entry-index l.entry-items))
-    (string_bytes l.out)
