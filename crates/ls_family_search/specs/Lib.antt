@@ -1,2 +1,4 @@
 pub mod Judged
 pub mod Searched
+pub mod Watching
+pub mod Windows

@@ -1,5 +1,5 @@
 -- What a search of a family says of the numbers of a range.
-use Rattle.std.specs.Prelude.{◌≡◌, ◌+◌, ℕ, List, Option, Some, None, length, slice_get}
+use Rattle.std.specs.Prelude.{◌≡◌, ◌+◌, ℕ, Option, Some, None, length, slice_get}
 use Rattle.ls_families.specs.Families.{Plan, plans}
 use Rattle.ls_family_search.specs.Judged.{IsHalted, IsPassed, Programs, Text}
 use Rattle.ls_family_search.specs.declared.judging.Halted.{Halted}

@@ -19,7 +19,7 @@ pub enum Judgement<H> {
 /// Who judges programs by their texts.
 pub trait Judge {
     /// Why the search ends with a program.
-    type Why: Drop;
+    type Why: Drop + Send;
 
     // What is so of a program's text where it is good, where it is cut, and where the search ends with it.
     ghost IsGood: { Self → List ℕ → Type 0 };

@@ -4,7 +4,10 @@
 mod judging;
 mod programs;
 mod searching;
+mod watching;
+mod windows;
 
 pub use judging::{Halted, Judge, Judgement, Passed};
 pub use programs::Programs;
-pub use searching::{Finding, search};
+pub use searching::{Finding, Numbers, search};
+pub use watching::SearchWatch;

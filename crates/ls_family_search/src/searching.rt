@@ -1,14 +1,16 @@
-// The search, number by number.
+// The search, window by window.
 
-ghost use Rattle.std.specs.Prelude.{◌≡◌, ◌<◌, ◌≤◌, IfOk, Some, length, slice_get};
+ghost use Rattle.std.specs.Prelude.{◌≡◌, ◌<◌, ◌≤◌, IfOk, length};
 ghost use Rattle.ls_families.specs.Families.{plans};
-ghost use Rattle.ls_family_search.specs.Judged.{IsOutcome};
 ghost use Rattle.ls_family_search.specs.Searched.{IsFinding};
+ghost use Rattle.ls_family_search.specs.Watching.{GoesOn};
 
-use crate::judging::{Halted, Judge, Judgement, Outcome, Passed};
+use crate::judging::{Halted, Judge, Passed};
 use crate::programs::Programs;
-use ls_families::{Family, Plan, is_double, print_plan};
+use crate::watching::SearchWatch;
+use crate::windows::{join, outcomes_of};
 use std::alloc::{AllocError, Global};
+use std::thread::Threads;
 
 /// What a search says of the numbers of a range: how those are passed that come before its end, from the first on, and
 /// the program with which it ends.
@@ -19,64 +21,64 @@ pub struct Finding<H> {
     pub halted: Option<Halted<H>>,
 }
 
-/// The program of a number.
-fn plan_at<'a>(alloc: Global, family: &'a Family, number: u64) -> Result<Plan<'a>, AllocError>
-    requires { number < length (plans family.now) }
-    ensures { IfOk result (λ plan. slice_get (plans family.entry.now) number ≡ Some plan) }
-{
-    match family.plan(alloc, number)? {
-        Some(plan) => Ok(plan),
-        None => unreachable!(),
+/// A range of numbers: from the first up to the one before the last.
+#[derive(Copy)]
+pub struct Numbers {
+    pub from: u64,
+    pub to: u64,
+}
+
+impl Clone for Numbers {
+    fn clone(&self) -> Result<Numbers, AllocError> {
+        Ok(*self)
     }
 }
 
-/// Whether the search goes on after a program: it does so without a judgement if that is a double.
-fn outcome_of<J: Judge>(
-    judge: &J,
-    alloc: Global,
-    programs: &Programs<'_>,
-    plan: &Plan<'_>,
-) -> Result<Outcome<J::Why>, AllocError>
-    ensures { IfOk result (IsOutcome programs.now (J.IsGood judge.now) (J.IsCut judge.now) (J.Halts judge.now)
-        plan.now) }
+/// How many programs the first window has. Each window has twice as many as the one before it, up to a most. So a search
+/// that ends soon judges few programs past its end.
+const FIRST_WINDOW: u64 = 16;
+
+const MOST_IN_WINDOW: u64 = 1_024;
+
+fn grown(size: u64) -> u64
+    ensures { 0 < result }
 {
-    if is_double(plan) {
-        return Ok(Outcome::Passes(Passed::Double));
-    }
-    let program = print_plan(alloc, programs.making(), programs.calls(), plan)?;
-    match judge.judge(alloc, program.as_str())? {
-        Judgement::Good => Ok(Outcome::Passes(Passed::Good)),
-        Judgement::Cut => Ok(Outcome::Passes(Passed::Cut)),
-        Judgement::Halt(halt) => Ok(Outcome::Ends(Halted { program, halt })),
-    }
+    size.saturating_mul(2).min(MOST_IN_WINDOW).max(1)
 }
 
-/// Goes through the programs of a range of numbers, from the first up to the one before the last, until the judge ends
-/// it. The only refusal is that memory ran out.
-pub fn search<J: Judge>(
+/// Goes through the programs of a range of numbers, until the judge ends it. The programs of a window are judged side by
+/// side, and windows one after another. The answer is the one of a search by one thread. The only refusal is that memory
+/// ran out.
+pub fn search<J: Judge + Sync, W: SearchWatch>(
+    rt: &(impl Threads + Sync),
     judge: &J,
     alloc: Global,
     programs: &Programs<'_>,
-    from: u64,
-    to: u64,
+    numbers: Numbers,
+    watch: &mut W,
 ) -> Result<Finding<J::Why>, AllocError>
-    requires order { from ≤ to }
-    requires there { to ≤ length (plans programs.now.family) }
-    ensures { IfOk result (IsFinding programs.now (J.IsGood judge.now) (J.IsCut judge.now) (J.Halts judge.now)
-        from to) }
+    requires order { numbers.from ≤ numbers.to }
+    requires there { numbers.to ≤ length (plans programs.now.family) }
+    ensures finding { IfOk result (IsFinding programs.now (J.IsGood judge.now) (J.IsCut judge.now) (J.Halts judge.now)
+        numbers.from numbers.to) }
+    ensures watched { GoesOn W.Since watch.old watch.new }
 {
+    let Numbers { from, to } = numbers;
     let mut passed = Vec::new(alloc);
-    for number in from..to {
-        let plan = plan_at(alloc, programs.family(), number)?;
-        match outcome_of(judge, alloc, programs, &plan)? {
-            Outcome::Passes(said) => passed.push(said)?,
-            Outcome::Ends(halted) => {
-                return Ok(Finding {
-                    passed,
-                    halted: Some(halted),
-                });
-            }
+    let mut next = from;
+    let mut size = FIRST_WINDOW;
+    while next < to {
+        let last = to.min(next.saturating_add(size));
+        let outcomes = outcomes_of(rt, judge, alloc, programs, next, last)?;
+        if let Some(halted) = join(&mut passed, outcomes)? {
+            return Ok(Finding {
+                passed,
+                halted: Some(halted),
+            });
         }
+        next = last;
+        size = grown(size);
+        watch.note_programs(next - from, to - from);
     }
     Ok(Finding {
         passed,

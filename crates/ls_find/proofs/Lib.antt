@@ -1,3 +1,5 @@
 pub mod Flags
 pub mod Shown
+pub mod Waits
 pub mod Wholes
+pub mod Goodness

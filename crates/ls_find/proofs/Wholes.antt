@@ -1,6 +1,6 @@
 -- What a search that has gone through a whole family says of each program.
 use Rattle.std.proofs.Common.{◌≡◌, ◌∙◌, ◌+◌, ◌<◌, ◌⊎◌, inl, inr, ℕ, Some, get_or, length, ap, sym, subst}
-use Rattle.std.proofs.Common.{true}
+use Rattle.std.proofs.Common.{Bool, true}
 use Rattle.std.proofs.Common.{arith}
 use Rattle.std.specs.Prelude.{slice_get, slice_index_or}
 use Rattle.std.proofs.lemmas.Option.{slice_get-get_or}
@@ -18,17 +18,17 @@ use Rattle.ls_find.specs.declared.explorer.Why.{Why}
 some_is : {X : Type 0} {x y : X} → Some x ≡ Some y → x ≡ y
 some_is e = cc
 
-passed_so : (classes : Text) (p : Programs) (f : Finding Why) (k : ℕ) (plan : Plan) → IsWhole classes p f →
-    (said : Passed) → slice_get f.passed.items k ≡ Some said → IsPassed p (IsSound classes) (IsCut classes) plan said →
-    (is_double plan ≡ true) ⊎ IsSound classes (text_of p plan)
-passed_so classes p f k plan whole Double at is = inl is
-passed_so classes p f k plan whole Good at is = inr is
-passed_so classes p f k plan whole Cut at is = absurd (whole.uncut k at)
+passed_so : (waiting : Bool) (classes : Text) (p : Programs) (f : Finding Why) (k : ℕ) (plan : Plan) → IsWhole waiting classes p f →
+    (said : Passed) → slice_get f.passed.items k ≡ Some said → IsPassed p (IsSound waiting classes) (IsCut classes) plan said →
+    (is_double plan ≡ true) ⊎ IsSound waiting classes (text_of p plan)
+passed_so waiting classes p f k plan whole Double at is = inl is
+passed_so waiting classes p f k plan whole Good at is = inr is
+passed_so waiting classes p f k plan whole Cut at is = absurd (whole.uncut k at)
 
-pub sound_at : (classes : Text) (p : Programs) (f : Finding Why) (k : ℕ) (plan : Plan) → IsWhole classes p f →
+pub sound_at : (waiting : Bool) (classes : Text) (p : Programs) (f : Finding Why) (k : ℕ) (plan : Plan) → IsWhole waiting classes p f →
     k < length (plans p.family) → slice_index_or (plans p.family) k plan ≡ plan →
-    (is_double plan ≡ true) ⊎ IsSound classes (text_of p plan)
-sound_at classes p f k plan whole within is =
+    (is_double plan ≡ true) ⊎ IsSound waiting classes (text_of p plan)
+sound_at waiting classes p f k plan whole within is =
     let many : 0 + length f.passed.items ≡ length (plans p.family) =
     subst (EndsSo p (IsWhy classes) (0 + length f.passed.items) (length (plans p.family))) whole.none
     whole.found.ends in
@@ -41,5 +41,5 @@ sound_at classes p f k plan whole within is =
     slice_get-get_or (plans p.family) k plan within ∙ ap (λ (q : Plan). Some q) is in
     let same : passes.0 ≡ plan =
     some_is (sym passes.1 ∙ ap (slice_get (plans p.family)) zero_more ∙ there) in
-    passed_so classes p f k plan whole (get_or f.passed.items k Cut) at
-    (subst (λ (q : Plan). IsPassed p (IsSound classes) (IsCut classes) q (get_or f.passed.items k Cut)) same passes.2)
+    passed_so waiting classes p f k plan whole (get_or f.passed.items k Cut) at
+    (subst (λ (q : Plan). IsPassed p (IsSound waiting classes) (IsCut classes) q (get_or f.passed.items k Cut)) same passes.2)

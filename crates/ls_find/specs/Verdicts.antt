@@ -1,30 +1,65 @@
 -- What an exploration says of a program.
-use Rattle.std.specs.Prelude.{◌≡◌, ℕ, List, Some, slice_get}
+use Rattle.std.specs.Prelude.{◌≡◌, ℕ, Bool, true, List, Some, Contains, slice_get}
 use Rattle.ls_checked.specs.CheckedTree.{File}
 use Rattle.ls_checked.specs.CheckedProgram.{Program}
+use Rattle.ls_events.specs.declared.event.Event.{Event}
 use Rattle.ls_meaning.specs.Runs.{source_history}
-use Rattle.ls_explore.specs.Rows.{Told}
+use Rattle.ls_explore.specs.Rows.{IsEnd, Told}
 use Rattle.ls_explore_images.specs.Tellings.{schedule_of}
+use Rattle.ls_find.specs.declared.verdict.Reason.{Reason}
+use Rattle.ls_find.specs.declared.verdict.Reason.TheVariants as reasons
 use Rattle.ls_find.specs.declared.verdict.Verdict.{Verdict}
 use Rattle.ls_find.specs.declared.verdict.Verdict.TheVariants as verdicts
-use Rattle.ls_linearizable.specs.Linearizable.{IsLinearizable}
+pub use Rattle.ls_source_judge.specs.Judged.{AllLinearizable, IsNotLinearizable}
+use Rattle.ls_waiting.specs.Laws.{NoneWaitsForEver, WaitsForEver}
+use Rattle.ls_waiting.specs.Waits.{AreExcused, IsUnexcused}
 
--- the history of each schedule, of any length, is linearizable
-abbrev pub AllLinearizable : File → Program → Type 0
-AllLinearizable file program = (schedule : List ℕ) → IsLinearizable file program (source_history file program schedule)
+-- a call waits for ever after this schedule
+abbrev pub HasWaiting : File → Program → List ℕ → Type 0
+HasWaiting file program schedule = (c : Event) × WaitsForEver file program schedule c
 
--- that of this schedule isn't
-abbrev pub IsNotLinearizable : File → Program → List ℕ → Type 0
-IsNotLinearizable file program schedule = IsLinearizable file program (source_history file program schedule) → ⊥
+-- all histories are linearizable; and if waiting is looked for, no thread waits for ever
+pub record IsGood (waiting : Bool) (file : File) (program : Program) : Type 0 where
+  pub linearizable : AllLinearizable file program
+  pub waits : waiting ≡ true → NoneWaitsForEver file program
 
-abbrev pub IsVerdict : File → Program → Verdict → Type 0
-IsVerdict file program verdicts.Linearizable = AllLinearizable file program
-IsVerdict file program verdicts.Unknown = Unit {0}
-IsVerdict file program (verdicts.NotLinearizable schedule) = IsNotLinearizable file program schedule
+-- why a schedule is bad
+abbrev pub IsBad : Reason → File → Program → List ℕ → Type 0
+IsBad reasons.NotLinearizable file program schedule = IsNotLinearizable file program schedule
+IsBad reasons.Waits file program schedule = HasWaiting file program schedule
 
--- It shows the schedule of the row at a place, after so many steps of the setup, or nothing.
-abbrev pub ShowsRow : ℕ → List Told → ℕ → Verdict → Type 0
-ShowsRow setup rows at verdicts.Linearizable = ⊥
-ShowsRow setup rows at verdicts.Unknown = Unit {0}
-ShowsRow setup rows at (verdicts.NotLinearizable schedule) =
-    (r : Told) × (slice_get rows at ≡ Some r) × (schedule ≡ schedule_of setup r)
+abbrev pub IsVerdict : Bool → File → Program → Verdict → Type 0
+IsVerdict waiting file program verdicts.Good = IsGood waiting file program
+IsVerdict waiting file program verdicts.Unknown = Unit {0}
+IsVerdict waiting file program (verdicts.Bad reason schedule) = IsBad reason file program schedule
+
+-- For a reason it shows the schedule of the row at a place, after so many steps of the setup, or nothing.
+abbrev pub ShowsRow : Reason → ℕ → List Told → ℕ → Verdict → Type 0
+ShowsRow reason setup rows at verdicts.Good = ⊥
+ShowsRow reason setup rows at verdicts.Unknown = Unit {0}
+ShowsRow reason setup rows at (verdicts.Bad said schedule) =
+    (r : Told) × (slice_get rows at ≡ Some r) × (schedule ≡ schedule_of setup r) × (said ≡ reason)
+
+-- ---- waiting
+
+-- each call that is pending where a row ends is the last of one of the runs
+abbrev pub AllExcused : List (List Event) → List Told → Type 0
+AllExcused runs rows = (r : Told) → Contains rows r → IsEnd r.ending → AreExcused runs r.history
+
+-- at the end of a row a call is pending that isn't
+pub record HasUnexcused (runs : List (List Event)) (row : Told) : Type 0 where
+  pub ends : IsEnd row.ending
+  pub place : ℕ
+  pub unexcused : IsUnexcused runs row.history place
+
+-- so at the end of the row at this place
+pub record WaitsAt (runs : List (List Event)) (rows : List Told) (at : ℕ) : Type 0 where
+  pub row : Told
+  pub is : slice_get rows at ≡ Some row
+  pub waits : HasUnexcused runs row
+
+-- no call waits for ever, or one does after the schedule that is shown
+abbrev pub IsWaitingVerdict : File → Program → Verdict → Type 0
+IsWaitingVerdict file program verdicts.Good = NoneWaitsForEver file program
+IsWaitingVerdict file program verdicts.Unknown = Unit {0}
+IsWaitingVerdict file program (verdicts.Bad reason schedule) = IsBad reason file program schedule

@@ -1,9 +1,12 @@
-//! What is found of the programs of a class: the first that isn't linearizable, and its schedule.
+//! What is found of the programs of a class: the first that isn't linearizable or has threads that wait for ever, and its
+//! schedule.
 #![tactic(auto)]
 
 mod explorer;
 pub mod laws;
+mod states;
 mod verdict;
+mod waiting;
 
 pub use explorer::{Explorer, Why};
-pub use verdict::{Verdict, verdict_on};
+pub use verdict::{Reason, Verdict, verdict_on};

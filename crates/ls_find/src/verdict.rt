@@ -5,6 +5,8 @@ ghost use Rattle.ls_explore_images.specs.Tellings.{TellTruth, TellWhole, schedul
 ghost use Rattle.ls_find.specs.Verdicts.{IsVerdict, ShowsRow};
 ghost use Rattle.ls_translation.specs.Texts.{file_of, program_of};
 
+use crate::states::verdict_by_states;
+use crate::waiting::waiting_verdict;
 use ls_events::schedule::{MOST_STEPS, Schedule};
 use ls_explore::{Nobody, Row};
 use ls_explore_images::{ExploreFault, explore_image};
@@ -13,15 +15,30 @@ use ls_explore_linearizable::laws::none_is_unexplained;
 use ls_image::image::Image;
 use std::alloc::{AllocError, Global};
 
+/// Why a schedule is bad.
+#[derive(Copy)]
+pub enum Reason {
+    /// Its history isn't linearizable.
+    NotLinearizable,
+    /// After it a thread waits for ever.
+    Waits,
+}
+
+impl Clone for Reason {
+    fn clone(&self) -> Result<Reason, AllocError> {
+        Ok(*self)
+    }
+}
+
 /// What an exploration says of a program.
 #[derive(Drop)]
 pub enum Verdict {
-    /// The history of each schedule is linearizable.
-    Linearizable,
+    /// The history of each schedule is linearizable, and no thread waits for ever if that was looked for.
+    Good,
     /// The exploration isn't whole, or the schedule is too long to be shown.
     Unknown,
-    /// The history of this schedule isn't.
-    NotLinearizable(Schedule),
+    /// This schedule is bad for a reason.
+    Bad(Reason, Schedule),
 }
 
 /// The place of the first row that isn't explained.
@@ -44,20 +61,21 @@ fn schedule_of(alloc: Global, setup: usize, row: &Row) -> Result<Option<Schedule
     Ok(Some(Schedule::of(steps)))
 }
 
-/// That the row at a place isn't linearizable, with its schedule. Unknown if there is no such row, or it is too long.
-fn not_linearizable(
+/// That the row at a place is bad for a reason, with its schedule. Unknown if there is no such row, or it is too long.
+pub(crate) fn bad_row(
     alloc: Global,
+    reason: Reason,
     setup: usize,
     rows: &[Row],
     at: usize,
 ) -> Result<Verdict, AllocError>
-    ensures { IfOk result (ShowsRow setup rows.now at) }
+    ensures { IfOk result (ShowsRow reason setup rows.now at) }
 {
     let Some(row) = rows.get(at) else {
         return Ok(Verdict::Unknown);
     };
     match schedule_of(alloc, setup, row)? {
-        Some(schedule) => Ok(Verdict::NotLinearizable(schedule)),
+        Some(schedule) => Ok(Verdict::Bad(reason, schedule)),
         None => Ok(Verdict::Unknown),
     }
 }
@@ -68,22 +86,52 @@ fn whole_verdict(
     image: &Image,
     setup: usize,
     rows: &[Row],
+    waiting: bool,
 ) -> Result<Verdict, AllocError>
     requires truth { TellTruth (file_of image.now) (program_of image.now) setup rows.now }
     requires whole { TellWhole (file_of image.now) (program_of image.now) rows.now }
-    ensures { IfOk result (IsVerdict (file_of image.now) (program_of image.now)) }
+    ensures { IfOk result (IsVerdict waiting (file_of image.now) (program_of image.now)) }
 {
     none_is_unexplained();
     let flags = explained_rows(alloc, rows)?;
     match first_unexplained(flags.as_slice()) {
-        None => Ok(Verdict::Linearizable),
-        Some(at) => not_linearizable(alloc, setup, rows, at),
+        None => {
+            if waiting {
+                return waiting_verdict(alloc, image, setup, rows);
+            }
+            Ok(Verdict::Good)
+        }
+        Some(at) => bad_row(alloc, Reason::NotLinearizable, setup, rows, at),
     }
 }
 
-/// Explores the program of an image on so many cells, and keeps at most so many states. It says whether the history of
-/// each schedule is linearizable. If it isn't, it shows a schedule. Unknown comes if not all schedules are explored: if
-/// more states are needed, or more cells, or the setup is too long.
+/// Explores the program of an image on so many cells, and keeps at most so many states of the machine.
+fn explored_verdict(
+    alloc: Global,
+    image: &Image,
+    cells: usize,
+    states: usize,
+    waiting: bool,
+) -> Result<Verdict, AllocError>
+    ensures { IfOk result (IsVerdict waiting (file_of image.now) (program_of image.now)) }
+{
+    match explore_image(alloc, image, cells, states, &mut Nobody) {
+        Ok(found) => {
+            if !found.complete || !found.roomy {
+                return Ok(Verdict::Unknown);
+            }
+            whole_verdict(alloc, image, found.setup, found.rows.as_slice(), waiting)
+        }
+        Err(ExploreFault::Memory) => Err(AllocError),
+        Err(_) => Ok(Verdict::Unknown),
+    }
+}
+
+/// Says of the program of an image whether the history of each schedule is linearizable; and if that is asked for, whether
+/// no thread waits for ever. If not, it shows a schedule. The states of the source are searched first. If they don't say
+/// that all is well, the machine is explored on so many cells. Of each at most so many states are kept. Unknown comes if
+/// neither decides: if more states are needed, or more cells, or the setup is too long. It also comes if a thread waits
+/// for ever, and too many calls that run one at a time may wait so.
 ///
 /// The only refusal is that memory ran out.
 pub fn verdict_on(
@@ -91,17 +139,17 @@ pub fn verdict_on(
     image: &Image,
     cells: usize,
     states: usize,
+    waiting: bool,
 ) -> Result<Verdict, AllocError>
-    ensures { IfOk result (IsVerdict (file_of image.now) (program_of image.now)) }
+    ensures { IfOk result (IsVerdict waiting (file_of image.now) (program_of image.now)) }
 {
-    match explore_image(alloc, image, cells, states, &mut Nobody) {
-        Ok(found) => {
-            if !found.complete || !found.roomy {
-                return Ok(Verdict::Unknown);
-            }
-            whole_verdict(alloc, image, found.setup, found.rows.as_slice())
-        }
-        Err(ExploreFault::Memory) => Err(AllocError),
-        Err(_) => Ok(Verdict::Unknown),
+    let searched = verdict_by_states(alloc, image, states, waiting)?;
+    if let Verdict::Good = searched {
+        return Ok(searched);
+    }
+    match explored_verdict(alloc, image, cells, states, waiting)? {
+        Verdict::Unknown => Ok(searched),
+        Verdict::Good => Ok(Verdict::Good),
+        Verdict::Bad(reason, schedule) => Ok(Verdict::Bad(reason, schedule)),
     }
 }

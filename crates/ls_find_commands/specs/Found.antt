@@ -1,5 +1,6 @@
 -- What the command `find` says.
-use Rattle.std.specs.Prelude.{◌≡◌, ◌-◌, ◌<◌, ◌⊎◌, ℕ, List, Option, None, Some, Result, Ok, Err, length, min, slice_get}
+use Rattle.std.specs.Prelude.{◌≡◌, ◌-◌, ◌<◌, ◌⊎◌, ℕ, List, Option, None, Some, Result, Ok, Err, codes, length, min}
+use Rattle.std.specs.Prelude.{slice_get}
 use Rattle.std.specs.Prelude.{string_bytes}
 use Rattle.ls_class_programs.specs.ClassPrograms.{AreProgramsOf, IsClassFault}
 use Rattle.ls_class_programs.specs.declared.choosing.Choosing.{Choosing}
@@ -17,21 +18,24 @@ use Rattle.ls_faults.specs.declared.fault.ToolFault.TheVariants as faults
 use Rattle.ls_find.specs.Family.{IsFound}
 use Rattle.ls_find.specs.declared.explorer.Why.{Why}
 use Rattle.ls_find.specs.declared.explorer.Why.TheVariants as whys
+use Rattle.ls_find.specs.declared.verdict.Reason.{Reason}
+use Rattle.ls_find.specs.declared.verdict.Reason.TheVariants as reasons
 use Rattle.ls_find_reports.specs.Printing.{found_text, none_text}
-use Rattle.ls_image.specs.Images.{program_of_image}
 use Rattle.ls_report.specs.Events.{Text}
-use Rattle.ls_schedule.specs.Printing.{schedule_text}
-use Rattle.ls_schedule.specs.Reading.{thread_names}
 use Rattle.ls_find_commands.specs.declared.command.Range.{Range}
 
 -- no program, of so many, has the first number, or the last comes before it
 abbrev pub IsBadRange : Range → ℕ → Type 0
 IsBadRange r count = (r.from ≡ 0) ⊎ (r.to < r.from) ⊎ (count < r.from)
 
+abbrev pub reason_text : Reason → Text
+reason_text reasons.NotLinearizable = codes "not linearizable"
+reason_text reasons.Waits = codes "threads wait for ever"
+
 -- the text of the program with which a search ends, from a number on and of so many; or its fault
 abbrev pub why_answer : ℕ → ℕ → List Passed → Text → Why → Result Text ToolFault
-why_answer from count ps program (whys.NotLinearizable i schedule) =
-    Ok (found_text from count ps program (schedule_text (thread_names (program_of_image i)) schedule))
+why_answer from count ps program (whys.Bad reason schedule) =
+    Ok (found_text from count ps (reason_text reason) program (string_bytes schedule))
 why_answer from count ps program (whys.NotCompiled fault) = Err (lifted_compile fault)
 
 abbrev pub halted_answer : ℕ → ℕ → List Passed → Option (Halted Why) → Result Text ToolFault
@@ -43,7 +47,7 @@ pub data FindsIn (classes : Text) (p : Programs) (r : Range) : Result Text ToolF
   NoNumbers : IsBadRange r (length (plans p.family)) → FindsIn classes p r (Err faults.BadNumbers)
   Searched : (f : Finding Why) →
       ¬ IsBadRange r (length (plans p.family)) →
-      IsFound classes p (r.from - 1) (min r.to (length (plans p.family))) f →
+      IsFound r.waiting classes p (r.from - 1) (min r.to (length (plans p.family))) f →
       FindsIn classes p r (halted_answer (r.from - 1) (length (plans p.family)) f.passed.items f.halted)
 
 -- What is found among those of a class text, or why there are none.

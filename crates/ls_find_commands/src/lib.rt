@@ -2,6 +2,7 @@
 #![tactic(auto)]
 
 mod command;
+mod noting;
 
 pub use command::{Range, find, print_program};
 pub use ls_class_programs::Choosing;

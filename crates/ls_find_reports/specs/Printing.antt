@@ -1,5 +1,5 @@
 -- The text of what is found.
-use Rattle.std.specs.Prelude.{ℕ, ◌+◌, Bool, true, false, List, [], ◌++◌, Option, Some, None, codes, count_by, length}
+use Rattle.std.specs.Prelude.{ℕ, zero, suc, ◌+◌, Bool, true, false, List, [], ◌++◌, Option, Some, None, codes, count_by, length}
 use Rattle.std.specs.Prelude.{position}
 use Rattle.std.specs.Fmt.{decimal}
 use Rattle.ls_family_search.specs.Judged.{Text}
@@ -27,18 +27,24 @@ passed_text from ps =
     codes "// " ++ (decimal (count_by is_double ps) ++ (codes " doubles, " ++ (decimal (count_by is_cut ps)
     ++ (codes " cut" ++ (first_text from (position is_cut ps) ++ codes "\n")))))
 
--- as `// number 14 of 84: not linearizable`
-unfoldable pub head_text : ℕ → ℕ → Text
-head_text number count =
-    codes "// number " ++ (decimal number ++ (codes " of " ++ (decimal count ++ codes ": not linearizable\n")))
+-- as `// number 14 of 84: not linearizable`, with the reason
+unfoldable pub head_text : ℕ → ℕ → Text → Text
+head_text number count reason =
+    codes "// number " ++ (decimal number ++ (codes " of " ++ (decimal count ++ (codes ": " ++ (reason ++ codes "\n")))))
 
--- The number of the program among all, those that were passed before it, the program, and the schedule as another part.
-abbrev pub found_text : ℕ → ℕ → List Passed → Text → Text → Text
-found_text from count ps program schedule =
-    head_text (from + length ps + 1) count ++ (passed_text from ps ++ (program ++ (codes "%%\n" ++ schedule)))
+-- The number of the program among all, and why it is shown; those that were passed before it, the program, and the
+-- schedule as another part.
+abbrev pub found_text : ℕ → ℕ → List Passed → Text → Text → Text → Text
+found_text from count ps reason program schedule =
+    head_text (from + length ps + 1) count reason ++ (passed_text from ps ++ (program ++ (codes "%%\n" ++ schedule)))
+
+-- none is found; if some are cut, that is said only of what was explored
+abbrev pub none_words : ℕ → Text
+none_words zero = codes "// none in numbers "
+none_words (suc cut) = codes "// none in what was explored of numbers "
 
 -- none of the numbers from one on, among all
 abbrev pub none_text : ℕ → ℕ → List Passed → Text
 none_text from count ps =
-    codes "// none in numbers " ++ (decimal (from + 1) ++ (codes " to " ++ (decimal (from + length ps)
+    none_words (count_by is_cut ps) ++ (decimal (from + 1) ++ (codes " to " ++ (decimal (from + length ps)
     ++ (codes " of " ++ (decimal count ++ (codes "\n" ++ passed_text from ps))))))

@@ -3,6 +3,7 @@
 ghost use Rattle.std.specs.Prelude.{◌≡◌, ◌+◌, ◌<◌, ◌^◌, ◌++◌, IfOk, IfSome, OnOk, count_by, length, position};
 ghost use Rattle.std.specs.Prelude.{string_bytes};
 ghost use Rattle.ls_find_reports.specs.Printing.{first_text, found_text, head_text, is_cut, is_double, none_text};
+ghost use Rattle.ls_find_reports.specs.Printing.{none_words};
 ghost use Rattle.ls_find_reports.specs.Printing.{passed_text};
 
 use ls_family_search::Passed;
@@ -61,12 +62,12 @@ fn push_first(out: &mut String, from: u64, first: Option<usize>) -> Result<(), A
     Ok(())
 }
 
-/// Adds the number of a program among so many.
+/// Adds the number of a program among so many, and why it is shown.
 #[tactic(auto, unfolding(crate::specs::Printing::head_text))]
-fn push_head(out: &mut String, number: u64, count: u64) -> Result<(), AllocError>
-    ensures { OnOk result (string_bytes out.new ≡ string_bytes out.old ++ head_text number count) }
+fn push_head(out: &mut String, number: u64, count: u64, reason: &str) -> Result<(), AllocError>
+    ensures { OnOk result (string_bytes out.new ≡ string_bytes out.old ++ head_text number count reason.now) }
 {
-    write!(out, "// number {number} of {count}: not linearizable\n")?;
+    write!(out, "// number {number} of {count}: {reason}\n")?;
     Ok(())
 }
 
@@ -83,27 +84,51 @@ fn push_passed(out: &mut String, from: u64, passed: &[Passed]) -> Result<(), All
     out.push_str("\n")
 }
 
-/// The text of a program that isn't linearizable: its number among so many, how the numbers before it were passed, the
-/// program, and its schedule as another part.
+/// A program that is shown: why, its text, and a schedule.
+#[derive(Copy)]
+pub struct Shown<'a> {
+    pub reason: &'a str,
+    pub program: &'a str,
+    pub schedule: &'a str,
+}
+
+impl<'a> Clone for Shown<'a> {
+    fn clone(&self) -> Result<Shown<'a>, AllocError> {
+        Ok(*self)
+    }
+}
+
+/// The text of a program that is shown: its number among so many, and why, how the numbers before it were passed, the
+/// program, and the schedule as another part.
 pub fn print_found(
     alloc: Global,
     from: u64,
     count: u64,
     passed: &[Passed],
-    program: &str,
-    schedule: &str,
+    shown: Shown<'_>,
 ) -> Result<String, AllocError>
     requires { from + length passed.now + 1 < 2 ^ 64 }
-    ensures { IfOk result (λ text. string_bytes text ≡ found_text from count passed.now program.now schedule.now) }
+    ensures { IfOk result (λ text. string_bytes text ≡
+        found_text from count passed.now shown.entry.reason.now shown.entry.program.now shown.entry.schedule.now) }
 {
     let number = from + passed.len() as u64 + 1;
     let mut out = String::new(alloc);
-    push_head(&mut out, number, count)?;
+    push_head(&mut out, number, count, shown.reason)?;
     push_passed(&mut out, from, passed)?;
-    out.push_str(program)?;
+    out.push_str(shown.program)?;
     out.push_str("%%\n")?;
-    out.push_str(schedule)?;
+    out.push_str(shown.schedule)?;
     Ok(out)
+}
+
+/// How a text begins that says that none is found.
+fn none_words(cut: usize) -> &'static str
+    ensures { result.now ≡ none_words cut }
+{
+    if cut == 0 {
+        return "// none in numbers ";
+    }
+    "// none in what was explored of numbers "
 }
 
 /// The text that there is none from a number on, and how the programs were passed.
@@ -119,8 +144,9 @@ pub fn print_none(
 {
     let first = from + 1;
     let last = from + passed.len() as u64;
+    let words = none_words(count_cut(passed));
     let mut out = String::new(alloc);
-    write!(out, "// none in numbers {first} to {last} of {count}\n")?;
+    write!(out, "{words}{first} to {last} of {count}\n")?;
     push_passed(&mut out, from, passed)?;
     Ok(out)
 }

@@ -1,12 +1,24 @@
-use Rattle.std.proofs.Common.{subst}
+use Rattle.std.proofs.Common.{◌∙◌, ap, subst}
+use Rattle.ls_schedule.specs.Printing.{schedule_text}
+use Rattle.ls_schedule.specs.Reading.{thread_names}
 use Rattle.ls_translation.specs.Texts.{file_of, program_of}
 use Rattle.ls_find.specs.Verdicts.{IsVerdict}
 use Rattle.ls_find.proofs.explorer.judged.Goals as goal
 
-pub returns-in-Linearizable : goal.returns-in-Linearizable
-returns-in-Linearizable c = λ classes program compiles. (
-  c.args.image,
+pub returns-in-Good : goal.returns-in-Good
+returns-in-Good c = λ classes program compiles. (
+  c.args.image.now,
   compiles,
-  subst (IsVerdict (file_of c.args.image) (program_of c.args.image)) c.in-Linearizable.is
+  subst (IsVerdict c.args.waiting (file_of c.args.image.now) (program_of c.args.image.now)) c.in-Good.is
       c.in_ok-verdict_on.ensures,
 )
+
+pub returns-in_ok-schedule-in-Bad : goal.returns-in_ok-schedule-in-Bad
+returns-in_ok-schedule-in-Bad c = λ classes program compiles. record {
+  image = c.args.image.now;
+  compiles = compiles;
+  schedule = c.in-Bad.steps;
+  bad = subst (IsVerdict c.args.waiting (file_of c.args.image.now) (program_of c.args.image.now)) c.in-Bad.is
+      c.in_ok-verdict_on.ensures;
+  said = c.in_ok-schedule-in-Bad.ensures ∙ ap (λ p. schedule_text (thread_names p) c.in-Bad.steps) c.program.ensures;
+}

@@ -7,33 +7,33 @@ use Rattle.ls_find_commands.specs.Found.{FindsIn, IsBadRange, NoNumbers, Searche
 use Rattle.ls_find_commands.proofs.Ranges.{last_within, next_under, not_both}
 use Rattle.ls_find_commands.proofs.command.found.Goals as goal
 
-pub returns-then-is_bad_range : goal.returns-then-is_bad_range
-returns-then-is_bad_range c =
+pub returns-then-is_bad_range-clause-gives : goal.returns-then-is_bad_range-clause-gives
+returns-then-is_bad_range-clause-gives g c =
     let many = c.count-count.ensures ∙ ap (λ (f : Family). length (plans f)) c.family.ensures in
     NoNumbers (subst (IsBadRange c.args.range) many (c.is_bad_range.ensures.bad.0 c.if-is_bad_range.true))
 
 pub finding_text-requires-clause-last : goal.finding_text-requires-clause-last
-finding_text-requires-clause-last c =
+finding_text-requires-clause-last g c =
     let many = c.count-count.ensures ∙ ap (λ (f : Family). length (plans f)) c.family.ensures in
     let within : c.min-to.result ≤ length (plans c.args.programs.now.family) = omega (arith, many) in
-    let last = last_within c.args.classes.now c.args.programs.now (c.args.range.from - 1) c.min-to.result
-    c.in_ok-finding.finding c.in_ok-finding.ensures within in
+    let last = last_within c.args.range.waiting c.args.classes.now c.args.programs.now (c.args.range.from - 1) c.min-to.result
+    c.in_ok-finding.finding c.in_ok-finding.ensures.finding within in
     omega (arith, last, many, c.count-count.type_inv)
 
 pub finding_text-requires-clause-next : goal.finding_text-requires-clause-next
-finding_text-requires-clause-next c =
+finding_text-requires-clause-next g c =
     let many = c.count-count.ensures ∙ ap (λ (f : Family). length (plans f)) c.family.ensures in
-    next_under c.args.classes.now c.args.programs.now (c.args.range.from - 1) c.min-to.result
-    c.in_ok-finding.finding c.in_ok-finding.ensures (omega (arith, many, c.count-count.type_inv))
+    next_under c.args.range.waiting c.args.classes.now c.args.programs.now (c.args.range.from - 1) c.min-to.result
+    c.in_ok-finding.finding c.in_ok-finding.ensures.finding (omega (arith, many, c.count-count.type_inv))
 
-pub returns : goal.returns
-returns c =
+pub returns-clause-gives : goal.returns-clause-gives
+returns-clause-gives g c =
     let r = c.args.range in
     let p = c.args.programs.now in
     let f = c.in_ok-finding.finding in
     let many = c.count-count.ensures ∙ ap (λ (g : Family). length (plans g)) c.family.ensures in
     let to : c.min-to.result ≡ min r.to (length (plans p.family)) = c.min-to.ensures ∙ ap (min r.to) many in
-    let found = subst (λ n. IsFound c.args.classes.now p (r.from - 1) n f) to c.in_ok-finding.ensures in
+    let found = subst (λ n. IsFound c.args.range.waiting c.args.classes.now p (r.from - 1) n f) to c.in_ok-finding.ensures.finding in
     let good : ¬ IsBadRange r (length (plans p.family)) =
     λ bad. not_both (c.is_bad_range.ensures.bad.1 (subst (IsBadRange r) (sym many) bad)) c.if-is_bad_range.false in
     wider (λ a. a ≡ halted_answer (r.from - 1) c.count-count.result f.passed.items f.halted)

@@ -1,0 +1,5 @@
+pub mod Places
+pub mod Runs
+mod Splits
+mod Inside
+mod Pending

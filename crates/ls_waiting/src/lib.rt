@@ -1,0 +1,8 @@
+//! Which calls wait in a history so that none waits so in calls that run one at a time.
+#![tactic(auto)]
+
+mod explaining;
+pub mod laws;
+mod waiting;
+
+pub use waiting::first_unexcused;
