@@ -1,5 +1,5 @@
 -- What the command line may be, and what it asks for.
-use Rattle.std.specs.Prelude.{◌≡◌, ◌||◌, ℕ, Bool, true, false, is_some, List, [], ◌∷◌, map, codes, Option, Some, None}
+use Rattle.std.specs.Prelude.{◌≡◌, ◌||◌, ℕ, Bool, true, false, not, is_some, List, [], ◌∷◌, map, codes, Option, Some, None}
 use Rattle.std.specs.Prelude.{Result, Ok, Err, bytes_eq, if◌then◌else◌}
 use Rattle.std.specs.Option.{option_map_or}
 use Rattle.std.specs.Str.Parse.{digits_value, without_leading_plus}
@@ -122,11 +122,13 @@ explore_line =
     (with_rule
     (with_rule
     (with_rule
+    (with_rule
     (with_rule (with_explain (codes "explore")) cells_rule)
     (number_rule false (codes "states")))
     (flag_rule (codes "illegal")))
     (flag_rule (codes "first")))
-    (flag_rule (codes "progress"))
+    (flag_rule (codes "progress")))
+    (flag_rule (codes "verdict"))
 
 abbrev pub bounds_line : App
 bounds_line =
@@ -138,8 +140,8 @@ bounds_line =
     (number_rule false (codes "setup")))
     (number_rule false (codes "values"))
 
-abbrev pub find_line : App
-find_line =
+abbrev pub numbers_line : App
+numbers_line =
     with_rule
     (with_rule
     (with_rule
@@ -149,6 +151,14 @@ find_line =
     (number_rule false (codes "from")))
     (number_rule false (codes "to")))
     (number_rule false (codes "print"))
+
+abbrev pub find_line : App
+find_line =
+    with_rule
+    (with_rule
+    (with_rule numbers_line (flag_rule (codes "no-waiting")))
+    (flag_rule (codes "check")))
+    (flag_rule (codes "progress"))
 
 abbrev pub merge_line : App
 merge_line = with_rule (with_explain (codes "merge")) (number_rule false (codes "count"))
@@ -250,6 +260,9 @@ asked_find rows = record {
   from = number_of (codes "from") 1 rows;
   to = number_of (codes "to") 1000000 rows;
   print = number_asked (codes "print") rows;
+  waiting = not (flag_of (codes "no-waiting") rows);
+  check = flag_of (codes "check") rows;
+  progress = flag_of (codes "progress") rows;
 }
 
 -- what a command of this name with these options asks for
@@ -277,7 +290,7 @@ asked name rows =
     (cells_of rows)
     else (if bytes_eq name (codes "explore")
     then requests.Explore (cells_of rows) (number_of (codes "states") 1000000 rows) (flag_of (codes "illegal") rows)
-    (flag_of (codes "first") rows) (flag_of (codes "progress") rows)
+    (flag_of (codes "first") rows) (flag_of (codes "progress") rows) (flag_of (codes "verdict") rows)
     else (if bytes_eq name (codes "find") then requests.Find (asked_find rows)
     else (if bytes_eq name (codes "merge") then requests.Merge (number_asked (codes "count") rows)
     else requests.Check))))))))))))))

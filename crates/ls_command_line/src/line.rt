@@ -229,7 +229,7 @@ fn batch_command<'a>(alloc: Global) -> Result<Command<'a>, AllocError>
     let judge = flag_option(
         alloc,
         "judge",
-        "says of each history whether a legal order of its set calls exists",
+        "says of each history whether it is linearizable, or has a legal order of set calls",
     );
     with_option(command, judge)
 }

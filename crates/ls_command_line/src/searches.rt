@@ -3,7 +3,7 @@
 ghost use Rattle.std.specs.Prelude.{◌≡◌, IfOk, false};
 ghost use Rattle.clap.specs.Words.{app_of};
 ghost use Rattle.clap.specs.declared.builder.command.Command.TheViews.{out-Command};
-ghost use Rattle.ls_command_line.specs.Words.{bounds_line, explore_line, find_line};
+ghost use Rattle.ls_command_line.specs.Words.{bounds_line, explore_line, find_line, numbers_line};
 
 use crate::line::{cells_option, flag_option, number_option, plain_command, with_option};
 use clap::Command;
@@ -30,7 +30,7 @@ pub(crate) fn explore_command<'a>(alloc: Global) -> Result<Command<'a>, AllocErr
     let illegal = flag_option(
         alloc,
         "illegal",
-        "prints only histories of which no order is legal",
+        "prints only histories without a legal order and those not linearizable",
     );
     let command = with_option(command, illegal);
     let first = flag_option(alloc, "first", "prints only the first of the histories");
@@ -40,7 +40,13 @@ pub(crate) fn explore_command<'a>(alloc: Global) -> Result<Command<'a>, AllocErr
         "progress",
         "tells on standard error of each 65536 states that are kept",
     );
-    with_option(command, progress)
+    let command = with_option(command, progress);
+    let verdict = flag_option(
+        alloc,
+        "verdict",
+        "prints one wrong run alone, or that there is none; no cells are needed, and fewer states",
+    );
+    with_option(command, verdict)
 }
 
 /// The command with the bounds of the programs that it looks through.
@@ -51,7 +57,7 @@ fn bounds_command<'a>(alloc: Global) -> Result<Command<'a>, AllocError>
     let command = plain_command(
         alloc,
         "find",
-        "Finds the first small program of a class that has a history that isn't linearizable",
+        "Finds the first small program of a class with a history that isn't linearizable, or threads that wait for ever",
         "Standard input is a class text:\n  \
          printf 'class C { int n; int next() { n = n + 1; return n; } }' | listset find",
     );
@@ -85,8 +91,9 @@ fn bounds_command<'a>(alloc: Global) -> Result<Command<'a>, AllocError>
     with_option(command, values)
 }
 
-pub(crate) fn find_command<'a>(alloc: Global) -> Result<Command<'a>, AllocError>
-    ensures shape { IfOk result (λ c. app_of c ≡ find_line) }
+/// The command with these bounds, and the numbers of the programs that it looks through.
+fn numbers_command<'a>(alloc: Global) -> Result<Command<'a>, AllocError>
+    ensures shape { IfOk result (λ c. app_of c ≡ numbers_line) }
     ensures local { IfOk result (λ c. (out-Command c).has_globals ≡ false) }
 {
     let command = bounds_command(alloc);
@@ -125,4 +132,29 @@ pub(crate) fn find_command<'a>(alloc: Global) -> Result<Command<'a>, AllocError>
         "prints the program of this number alone",
     );
     with_option(command, print)
+}
+
+pub(crate) fn find_command<'a>(alloc: Global) -> Result<Command<'a>, AllocError>
+    ensures shape { IfOk result (λ c. app_of c ≡ find_line) }
+    ensures local { IfOk result (λ c. (out-Command c).has_globals ≡ false) }
+{
+    let command = numbers_command(alloc);
+    let waiting = flag_option(
+        alloc,
+        "no-waiting",
+        "looks for no threads that wait for ever",
+    );
+    let command = with_option(command, waiting);
+    let check = flag_option(
+        alloc,
+        "check",
+        "ends with status 3 if a program is found, and 4 if none is but some were cut",
+    );
+    let command = with_option(command, check);
+    let progress = flag_option(
+        alloc,
+        "progress",
+        "tells on standard error how many programs are done",
+    );
+    with_option(command, progress)
 }

@@ -41,6 +41,12 @@ pub struct Seeking {
     pub to: u64,
     /// The number of the one program that is printed, if that is all.
     pub print: Option<u64>,
+    /// Whether threads that wait for ever are looked for.
+    pub waiting: bool,
+    /// Whether the exit status says what is found.
+    pub check: bool,
+    /// Whether it tells on standard error how many programs are done.
+    pub progress: bool,
 }
 
 impl Clone for Seeking {
@@ -113,12 +119,14 @@ pub enum Request {
     Explore {
         cells: u64,
         states: u64,
-        /// Only those of which no order is legal.
+        /// Only those without a legal order, or not linearizable.
         illegal: bool,
         /// Only the first of them.
         first: bool,
         /// Whether it tells on standard error how many states it keeps.
         progress: bool,
+        /// Whether the states of the source are searched, and a wrong run is printed alone.
+        verdict: bool,
     },
     /// The first program of a class whose histories aren't all linearizable.
     Find(Seeking),
@@ -294,6 +302,9 @@ fn asked_find(options: &ArgMatches<'_>) -> Seeking
         from: number(options, "from", 1),
         to: number(options, "to", LAST_PROGRAM),
         print: number_asked(options, "print"),
+        waiting: !flag(options, "no-waiting"),
+        check: flag(options, "check"),
+        progress: flag(options, "progress"),
     }
 }
 
@@ -347,6 +358,7 @@ fn asked(name: &str, options: &ArgMatches<'_>) -> Request
             illegal: flag(options, "illegal"),
             first: flag(options, "first"),
             progress: flag(options, "progress"),
+            verdict: flag(options, "verdict"),
         },
         "find" => Request::Find(asked_find(options)),
         "merge" => Request::Merge {

@@ -4,7 +4,10 @@ use Rattle.std.proofs.Common.{Result, Ok, Err, refl, sym, subst, arith}
 use Rattle.std.specs.Prelude.{All, IsErrOf, IsSorted, slice_index_or, length}
 use Rattle.ls_machine.specs.Room.{AreBadCells}
 use Rattle.ls_meaning.specs.Runs.{source_history}
-use Rattle.ls_image.specs.Images.{code_of_image}
+use Rattle.ls_checked.specs.CheckedTree.{File}
+use Rattle.ls_checked.specs.PlainProgram.{plain_program}
+use Rattle.ls_checked.specs.declared.program.Program.{Program as CodeProgram}
+use Rattle.ls_image.specs.Images.{code_of_image, program_of_image}
 use Rattle.ls_image.specs.declared.image.Image.{Image}
 use Rattle.ls_translation.specs.Texts.{file_of, program_of}
 use Rattle.ls_explore.specs.Rows.{AreApart, TellStates, Told, row_order}
@@ -40,7 +43,7 @@ pub judged_so : LinearityIsMeant → NoneIllegal → NoneIsNotLinearizable → (
     (complete ≡ true → TellAll (file_of i) (program_of i) cells rows) →
     (complete ≡ true → roomy ≡ true → TellWhole (file_of i) (program_of i) rows) → AreApart rows →
     IsSorted row_order rows → All (IsJudged (program_of i)) judged →
-    All (IsToldLinear (complete && roomy) rows) judged →
+    All (IsToldLinear (file_of i) (program_of i) (complete && roomy) rows) judged →
     IsExploration i cells limit k judged kept complete roomy
 judged_so meant legal linearizable i cells limit k rows judged kept complete roomy e truth states cut all whole apart
     order verdicts linear =
@@ -48,8 +51,8 @@ judged_so meant legal linearizable i cells limit k rows judged kept complete roo
     subst (TellTruth (file_of i) (program_of i) k) (sym e) truth in
     let each : complete ≡ true → roomy ≡ true → TellWhole (file_of i) (program_of i) (rows_of judged) =
     λ yes room. subst (TellWhole (file_of i) (program_of i)) (sym e) (whole yes room) in
-    let told : All (IsToldLinear (complete && roomy) (rows_of judged)) judged =
-    subst (λ rs. All (IsToldLinear (complete && roomy) rs) judged) (sym e) linear in
+    let told : All (IsToldLinear (file_of i) (program_of i) (complete && roomy) (rows_of judged)) judged =
+    subst (λ rs. All (IsToldLinear (file_of i) (program_of i) (complete && roomy) rs) judged) (sym e) linear in
     record {
       truth = so;
       states = subst (λ rs. TellStates (file_of i) (program_of i) k rs kept) (sym e) states;
@@ -66,6 +69,21 @@ judged_so meant legal linearizable i cells limit k rows judged kept complete roo
       all_linearizable = λ yes room known none.
           linearizable (file_of i) (program_of i) k (complete && roomy) judged told known none so (each yes room);
     }
+
+-- what is said of linearizability, of the file and the program of an image
+pub linear_so : (i : Image) (file : File) (program : CodeProgram) (complete roomy whole : Bool) (slice rows : List Told)
+    (judged : List Judged) →
+    file ≡ file_of i →
+    program ≡ program_of_image i →
+    whole ≡ (complete && roomy) →
+    slice ≡ rows →
+    All (IsToldLinear file (plain_program program) whole slice) judged →
+    All (IsToldLinear (file_of i) (program_of i) (complete && roomy) rows) judged
+linear_so i file program complete roomy whole slice rows judged of_file of_program of_whole of_rows linear =
+    subst (λ rs. All (IsToldLinear (file_of i) (program_of i) (complete && roomy) rs) judged) of_rows
+    (subst (λ w. All (IsToldLinear (file_of i) (program_of i) w slice) judged) of_whole
+    (subst (λ (p : CodeProgram). All (IsToldLinear (file_of i) (plain_program p) whole slice) judged) of_program
+    (subst (λ f. All (IsToldLinear f (plain_program program) whole slice) judged) of_file linear)))
 
 any_default : (xs : List Told) (n : ℕ) (d e : Told) → n < length xs → slice_index_or xs n d ≡ slice_index_or xs n e
 any_default [] n d e h = absurd (omega arith)

@@ -36,7 +36,7 @@ names_in i = record {
 }
 
 -- Rows that tell the truth, the shortest schedule first, no two with one history, each with its verdict, and with what
--- the rows say of its linearizability. Each of so many states has a row. Where they are complete they tell of all
+-- the rows and the serial runs say of its linearizability. Each of so many states has a row. Where they are complete they tell of all
 -- schedules that fit the cells; and where no schedule runs out of cells, of all. Where they are cut, so many states
 -- were kept as may be.
 pub record IsExploration (i : Image) (cells limit k : ℕ) (judged : List Judged) (kept : ℕ) (complete roomy : Bool) :
@@ -49,7 +49,7 @@ pub record IsExploration (i : Image) (cells limit k : ℕ) (judged : List Judged
   pub apart : AreApart (rows_of judged)
   pub order : IsSorted row_order (rows_of judged)
   pub verdicts : All (IsJudged (program_of i)) judged
-  pub linear : All (IsToldLinear (complete && roomy) (rows_of judged)) judged
+  pub linear : All (IsToldLinear (file_of i) (program_of i) (complete && roomy) (rows_of judged)) judged
   pub meant : AreMeant (file_of i) (program_of i) judged
   -- what `illegal 0` and `not linearizable 0` say beside `complete`
   pub none_illegal : complete ≡ true → roomy ≡ true → are_decided judged ≡ true → count_illegal judged ≡ 0 →

@@ -20,7 +20,7 @@ use ls_text_laws::source_is_readable;
 use std::alloc::Global;
 
 /// The names of an image's classes and program.
-fn names_in(image: &Image) -> Names<'_>
+pub(crate) fn names_in(image: &Image) -> Names<'_>
     ensures names { names_of result ≡ names_in image.now }
     ensures program { result.program.now ≡ program_of_image image.now }
 {
@@ -53,7 +53,8 @@ fn explored<W: Watch>(
 {
     let found = explore_image(alloc, image, exploring.cells, exploring.states, watch)?;
     let whole = is_whole(found.complete, found.roomy);
-    let judged = judge_rows(alloc, found.rows.as_slice(), image.program(), whole)?;
+    let file = image.checked().file();
+    let judged = judge_rows(alloc, found.rows.as_slice(), file, image.program(), whole)?;
     linearity_is_meant();
     none_is_illegal();
     none_is_not_linearizable();

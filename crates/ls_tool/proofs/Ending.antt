@@ -1,6 +1,6 @@
 -- From what a layer answers to what a run does.
-use Rattle.std.specs.Prelude.{IfSome, MatchBool, String, string_bytes}
-use Rattle.std.proofs.Common.{◌≡◌, ◌∙◌, ◌⊎◌, inl, inr, ap, sym, List, [], Bool, true, false, refl, subst, Option, Some, None}
+use Rattle.std.specs.Prelude.{IfSome, String, string_bytes}
+use Rattle.std.proofs.Common.{ℕ, ◌≡◌, ◌∙◌, ◌⊎◌, inl, inr, ap, sym, List, [], Bool, true, false, refl, subst, Option, Some, None}
 use Rattle.std.proofs.Common.{Result, Ok, Err}
 use Rattle.std.specs.Global.{Global}
 use Rattle.std.specs.Io.KnownBytes.{Appends, Keeps}
@@ -19,10 +19,14 @@ use Rattle.ls_faults.specs.declared.fault.ToolFault.TheVariants as fault
 use Rattle.ls_tool.specs.declared.refusal.Refusal.{Refusal}
 use Rattle.ls_tool.specs.declared.refusal.Refusal.TheVariants as refusal
 use Rattle.ls_faults.specs.Given.{GivesText}
-use Rattle.ls_tool.specs.Output.{Answered, AnswersText, AsAsked, BadLine, Closes, Decided, Decides, Ends, HasLines}
+use Rattle.ls_tool.specs.Output.{Answered, AnswersText, AsAsked, BadLine, Closes, Decided, Decides, Ends, HasToldAs}
+use Rattle.ls_tool.specs.Output.{programs_text, progress_of, status_for}
+use Rattle.ls_tool.specs.declared.said.Said.{Said}
+use Rattle.ls_tool.specs.declared.said.Telling.{Telling}
+use Rattle.ls_tool.specs.declared.said.Telling.TheVariants as tellings
 use Rattle.ls_tool.specs.Output.{IsEnding, IsTaken, Left, OfInput, OutOfMemory, Prints, Progressed, Progresses}
 use Rattle.ls_tool.specs.Output.{ReaderFailed, ReadsAfterWords, RefusesAs, Responds, Silent, Tells, TellsFirst}
-use Rattle.ls_tool.specs.Output.{Unreadable, Usage, WriterFailed, left, progress_text, refused_words, tells_progress, told}
+use Rattle.ls_tool.specs.Output.{Unreadable, Usage, WriterFailed, left, progress_text, refused_words, told}
 
 -- what follows of an input's answer
 pub if_known : (o : Option Text) (P Q : Text → Type 0) → ((x : Text) → P x → Q x) → OfInput o P → OfInput o Q
@@ -42,9 +46,12 @@ pub of_bytes : (o : Option Text) (bytes : Text) (Q : Text → Type 0) →
 of_bytes None bytes Q e h = (bytes, h)
 of_bytes (Some x) bytes Q e h = subst Q e h
 
-pub decide_ok : (words : List Text) (input : Text) (l : CommandLine) (text : String Global) → AsksFor words (Some l)
-    → GivesText (AnswersText l.request input) (Ok text) → Decides words input (Ok text)
-decide_ok words input l text e h = Answered l (Ok (string_bytes text)) e h
+pub decide_ok : (words : List Text) (input : Text) (l : CommandLine) (text : String Global) (status : ℕ) →
+    AsksFor words (Some l) → status ≡ status_for l.request (string_bytes text)
+    → GivesText (AnswersText l.request input) (Ok text) →
+    Decides words input (Ok (record { text = text; status = status }))
+decide_ok words input l text status e is h = subst (λ n. IsEnding words input (Prints n (string_bytes text))) (sym is)
+    (Answered l (Ok (string_bytes text)) e h)
 
 -- a fault other than want of memory is one that may be given
 given : (May : Result Text ToolFault → Type 0) (f : ToolFault) →
@@ -155,8 +162,8 @@ is_unread reader word_fault.Memory = tt
 is_unread reader (word_fault.BadLine e) = refl
 
 -- once the words are taken, the reader is read
-pub is_read : {R : Type 0} (old new : R) (r : Result (String Global) Refusal) → IsTaken r → ReadsAfterWords old new r
-is_read old new (Ok text) h = tt
+pub is_read : {R : Type 0} (old new : R) (r : Result Said Refusal) → IsTaken r → ReadsAfterWords old new r
+is_read old new (Ok said) h = h
 is_read old new (Err (refusal.BadLine e)) h = absurd h
 is_read old new (Err (refusal.Fault f)) h = tt
 is_read old new (Err (refusal.Explained x)) h = tt
@@ -180,7 +187,7 @@ unreadable words input l f e (inr h) = subst (λ g. Responds words input (Err (r
     (Unreadable l e)
 
 -- what isn't that the reader failed is decided
-pub is_decided : (words : List Text) (input : Text) {r : Result (String Global) Refusal} →
+pub is_decided : (words : List Text) (input : Text) {r : Result Said Refusal} →
     ¬ (r ≡ Err (refusal.Fault fault.ReadFailed)) →
     Responds words input r →
     Decides words input r
@@ -220,7 +227,7 @@ tells words input fault.WriteFailed exit out err s k t d = AsAsked (Tells (fault
 
 -- the same, or the reader failed
 pub tells_fault : (words : List Text) (input : Text) (f : ToolFault) (exit : Exit) (out err : Left)
-    {r : Result (String Global) Refusal} →
+    {r : Result Said Refusal} →
     r ≡ Err (refusal.Fault f) →
     exit.status ≡ 1 →
     Keeps out.old out.new →
@@ -244,22 +251,22 @@ pub explains : (words : List Text) (input told : Text) (exit : Exit) (out err : 
     Closes words input exit out err
 explains words input told exit out err s k t d = AsAsked (Tells told) d (s, k, t)
 
-pub done : (words : List Text) (input : Text) (text : String Global) (exit : Exit) (out err : Left) →
-    exit.status ≡ 0 →
+pub done : (words : List Text) (input : Text) (said : Said) (exit : Exit) (out err : Left) →
+    exit.status ≡ said.status →
     Keeps err.old err.new →
-    Appends out.old out.new (string_bytes text) →
-    Responds words input (Ok text) →
+    Appends out.old out.new (string_bytes said.text) →
+    Responds words input (Ok said) →
     Closes words input exit out err
-done words input text exit out err s k a d = AsAsked (Prints (string_bytes text))
+done words input said exit out err s k a d = AsAsked (Prints said.status (string_bytes said.text))
     (is_decided words input (λ e. absurd (cc)) d) (s, a, k)
 
-pub cut_short : (words : List Text) (input : Text) (text : String Global) (exit : Exit) (out err : Left) →
+pub cut_short : (words : List Text) (input : Text) (said : Said) (exit : Exit) (out err : Left) →
     exit.status ≡ 1 →
-    Begins out.old out.new (string_bytes text) × (out.has_failed ≡ true) →
+    Begins out.old out.new (string_bytes said.text) × (out.has_failed ≡ true) →
     IsWritten (fault_line fault.WriteFailed) exit.is_told err.old err.new err.has_failed →
-    Responds words input (Ok text) →
+    Responds words input (Ok said) →
     Closes words input exit out err
-cut_short words input text exit out err s b t d = WriterFailed (string_bytes text)
+cut_short words input said exit out err s b t d = WriterFailed said.status (string_bytes said.text)
     (is_decided words input (λ e. absurd (cc)) d) (s, b.0, b.1, t)
 
 pub bad_line : (words : List Text) (input : Text) (e : Error) (exit : Exit) (out err : Left) →
@@ -287,17 +294,22 @@ later : (r : Request) (a b : Option Text) (before after : Bool) →
     (before ≡ true → after ≡ true) →
     Progresses r a b before →
     Progresses r a b after
-later r a b before after kept = on (tells_progress r)
+later r a b before after kept = on (progress_of r)
   where
     written : (text : Text) (is_whole : Bool) → IsWritten text is_whole a b before → IsWritten text is_whole a b after
     written text true h = h
     written text false h = (h.0, kept h.1)
 
-    on : (asks : Bool) →
-        MatchBool asks (HasLines a b before) (b ≡ a) →
-        MatchBool asks (HasLines a b after) (b ≡ a)
-    on true h = (h.0, h.1, written (progress_text 0 h.0) h.1 h.2)
-    on false h = h
+    on : (t : Telling) → HasToldAs t a b before → HasToldAs t a b after
+    on tellings.Nothing h = h
+    on tellings.States h = (h.0, h.1, written (progress_text 0 h.0) h.1 h.2)
+    on tellings.Programs h = (
+      h.0,
+      record {
+        notes = h.1.notes;
+        added = written (programs_text h.1.notes) h.0 h.1.added;
+      },
+    )
 
 later_first : (words : List Text) (err between : Option Text) (before after : Bool) →
     (before ≡ true → after ≡ true) →

@@ -29,6 +29,6 @@ on_parts (requests.Translate to cells) input answer other h = h
 on_parts (requests.Live cells limit) input answer other h = h
 on_parts (requests.Batch seed count steps switch cells judge) input answer other h = h
 on_parts (requests.Sample seed steps switch cells) input answer other h = h
-on_parts (requests.Explore cells states illegal first progress) input answer other h = h
+on_parts (requests.Explore cells states illegal first progress verdict) input answer other h = h
 on_parts (requests.Find seeking) input answer other h = h
 on_parts (requests.Merge count) input answer other h = absurd (other count refl)

@@ -1,3 +1,4 @@
 pub mod Ending
 pub mod Inputs
+pub mod Statuses
 pub mod Telling

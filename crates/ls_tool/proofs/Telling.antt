@@ -1,12 +1,14 @@
 -- What lines of progress add to a writer, one after another.
 use Rattle.std.proofs.Common.{◌≡◌, ◌∙◌, ◌+◌, ◌≤◌, ℕ, suc, List, [], ◌∷◌, ◌++◌, take, length, refl, sym, ap, subst}
-use Rattle.std.proofs.Common.{append_assoc, arith, MatchBool, Bool, true, false, Option, length-append}
+use Rattle.std.proofs.Common.{append_assoc, arith, Bool, true, false, Option, length-append}
 use Rattle.std.proofs.KnownBytes.{Appends-nil, Appends-trans}
 use Rattle.std.specs.Io.KnownBytes.{Appends}
 use Rattle.ls_outlets.specs.Written.{IsWritten}
 use Rattle.ls_report.specs.Events.{Text}
 use Rattle.ls_command_line.specs.declared.words.Request.{Request}
-use Rattle.ls_tool.specs.Output.{HasLines, HasTold, Progresses, progress_line, progress_text, tells_progress}
+use Rattle.ls_tool.specs.Output.{HasTold, HasToldAs, HasToldPrograms, Progresses, programs_line, programs_text}
+use Rattle.ls_tool.specs.Output.{progress_line, progress_of, progress_text}
+use Rattle.ls_tool.specs.declared.said.Telling.TheVariants.{Nothing, Programs, States}
 
 append-nil-text : (xs : Text) → xs ++ [] ≡ xs
 append-nil-text [] = refl
@@ -70,7 +72,7 @@ has_told_none before is_open o has_failed e = record {
 
 -- the same of writers, before and after
 pub progresses : {X : Type 0} (contents : X → Option Text) (failed : X → Bool) (r : Request) (a a' b b' : X)
-    (before after : ℕ) (is_open : Bool) → tells_progress r ≡ true → before ≡ 0 → a ≡ a' → b' ≡ b →
+    (before after : ℕ) (is_open : Bool) → progress_of r ≡ States → before ≡ 0 → a ≡ a' → b' ≡ b →
     HasTold before after is_open (contents a) (contents b) (failed b) →
     Progresses r (contents a') (contents b') (failed b')
 progresses contents failed r a a' b b' before after is_open asks none from to h =
@@ -79,12 +81,49 @@ progresses contents failed r a a' b b' before after is_open asks none from to h 
     let there : IsWritten (progress_text 0 h.depths) is_open (contents a') (contents b') (failed b') =
     subst (λ x. IsWritten (progress_text 0 h.depths) is_open (contents x) (contents b') (failed b')) from
     (subst (λ y. IsWritten (progress_text 0 h.depths) is_open (contents a) (contents y) (failed y)) (sym to) told) in
-    subst (λ b. MatchBool b (HasLines (contents a') (contents b') (failed b')) (contents b' ≡ contents a')) (sym asks)
-    (h.depths, is_open, there)
+    subst (λ t. HasToldAs t (contents a') (contents b') (failed b')) (sym asks) (h.depths, is_open, there)
 
 -- a command that doesn't tell of it writes nothing
 pub progresses_not : (r : Request) (o : Option Text) (has_failed : Bool) →
-    tells_progress r ≡ false →
+    progress_of r ≡ Nothing →
     Progresses r o o has_failed
-progresses_not r o has_failed not =
-    subst (λ b. MatchBool b (HasLines o o has_failed) (o ≡ o)) (sym not) refl
+progresses_not r o has_failed not = subst (λ t. HasToldAs t o o has_failed) (sym not) refl
+
+-- ---- programs
+
+one_more : (notes : List (ℕ × ℕ)) (n : ℕ × ℕ) →
+    programs_text (notes ++ n ∷ []) ≡ programs_text notes ++ programs_line n
+one_more [] n = append-nil-text (programs_line n)
+one_more (m ∷ notes) n = ap (λ t. programs_line m ++ t) (one_more notes n)
+    ∙ sym (append_assoc (programs_line m) (programs_text notes) (programs_line n))
+
+-- one line more after lines that were all told
+pub has_programs_more : (n : ℕ × ℕ) (is_told : Bool) (a b c : Option Text) (had_failed has_failed : Bool) →
+    HasToldPrograms true a b had_failed →
+    IsWritten (programs_line n) is_told b c has_failed →
+    HasToldPrograms is_told a c has_failed
+has_programs_more n is_told a b c had_failed has_failed h k = record {
+  notes = h.notes ++ n ∷ [];
+  added = subst (λ t. IsWritten t is_told a c has_failed) (sym (one_more h.notes n))
+      (written_then a b c (programs_text h.notes) (programs_line n) is_told has_failed h.added k);
+}
+
+-- nothing yet
+pub has_programs_none : (is_open : Bool) (o : Option Text) (has_failed : Bool) →
+    is_open ≡ true →
+    HasToldPrograms is_open o o has_failed
+has_programs_none is_open o has_failed e = record {
+  notes = [];
+  added = subst (λ b. IsWritten [] b o o has_failed) (sym e) (Appends-nil o);
+}
+
+-- the same of writers, before and after
+pub programs_told : {X : Type 0} (contents : X → Option Text) (failed : X → Bool) (r : Request) (a a' b b' : X)
+    (is_open : Bool) → progress_of r ≡ Programs → a ≡ a' → b' ≡ b →
+    HasToldPrograms is_open (contents a) (contents b) (failed b) →
+    Progresses r (contents a') (contents b') (failed b')
+programs_told contents failed r a a' b b' is_open asks from to h =
+    let there : HasToldPrograms is_open (contents a') (contents b') (failed b') =
+    subst (λ x. HasToldPrograms is_open (contents x) (contents b') (failed b')) from
+    (subst (λ y. HasToldPrograms is_open (contents a) (contents y) (failed y)) (sym to) h) in
+    subst (λ t. HasToldAs t (contents a') (contents b') (failed b')) (sym asks) (is_open, there)

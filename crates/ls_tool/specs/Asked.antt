@@ -17,9 +17,9 @@ choosing_of s = record {
 
 -- the numbers of the programs that are looked through
 abbrev pub range_of : Seeking → Range
-range_of s = record { states = s.states; from = s.from; to = s.to }
+range_of s = record { states = s.states; waiting = s.waiting; from = s.from; to = s.to }
 
--- one program is printed, or the first is found that has a history that isn't linearizable
+-- one program is printed, or the first is found that is bad
 abbrev pub asked_for : Seeking → Option ℕ → Text → Result Text ToolFault → Type 0
 asked_for s None classes answer = FindsTo (choosing_of s) (range_of s) classes answer
 asked_for s (Some n) classes answer = PrintsTo (choosing_of s) n classes answer

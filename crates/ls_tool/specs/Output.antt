@@ -3,6 +3,7 @@ use Rattle.std.specs.Prelude.{◌≡◌, ◌≢◌, ◌+◌, ◌*◌, ℕ, List,
 use Rattle.std.specs.Prelude.{true, false, Option, Some, None, Result, Ok, Err, String, string_bytes, if◌then◌else◌}
 use Rattle.std.specs.Global.{Global}
 use Rattle.std.specs.Fmt.{decimal}
+use Rattle.std.specs.List.{flat_map}
 use Rattle.std.specs.Io.KnownBytes.{Appends, Keeps}
 use Rattle.ls_report.specs.Events.{Text}
 use Rattle.ls_views.specs.Aimed.{AimsTo}
@@ -17,6 +18,7 @@ use Rattle.ls_commands.specs.Translated.{TranslatesTo}
 use Rattle.ls_merging.specs.Merging.{MergesTo}
 use Rattle.ls_explore_commands.specs.Explored.{ExploresTo}
 use Rattle.ls_explore_reports.specs.declared.printing.Exploring.{Exploring}
+use Rattle.ls_explore_commands.specs.Verdicts.{VerdictsTo}
 use Rattle.ls_paging.specs.Paged.{PagesTo, PagesWithOrderTo}
 use Rattle.ls_views.specs.Viewed.{ViewsTo}
 use Rattle.ls_views.specs.declared.view.View.{View}
@@ -34,7 +36,11 @@ use Rattle.ls_command_line.specs.declared.words.WordsFault.TheVariants as word_f
 use Rattle.ls_faults.specs.declared.fault.ToolFault.{ToolFault}
 use Rattle.ls_faults.specs.declared.fault.ToolFault.TheVariants as faults
 use Rattle.ls_tool.specs.Asked.{OnClass}
+use Rattle.ls_find_reports.specs.Statuses.{status_of}
 use Rattle.ls_tool.specs.declared.running.Exit.{Exit}
+use Rattle.ls_tool.specs.declared.said.Said.{Said}
+use Rattle.ls_tool.specs.declared.said.Telling.{Telling}
+use Rattle.ls_tool.specs.declared.said.Telling.TheVariants as tellings
 use Rattle.ls_tool.specs.declared.refusal.Refusal.{Refusal}
 use Rattle.ls_tool.specs.declared.refusal.Refusal.TheVariants as refusals
 
@@ -66,8 +72,10 @@ OnTwo (requests.Batch seed count steps switch cells judge) classes program answe
     (requests.Batch seed count steps switch cells judge) classes program answer
 OnTwo (requests.Sample seed steps switch cells) classes program answer = OnSamples
     (requests.Sample seed steps switch cells) classes program answer
-OnTwo (requests.Explore cells states illegal first progress) classes program answer = ExploresTo
+OnTwo (requests.Explore cells states illegal first progress false) classes program answer = ExploresTo
     (exploring cells states illegal first) classes program answer
+OnTwo (requests.Explore cells states illegal first progress true) classes program answer = VerdictsTo states classes
+    program answer
 OnTwo other first second answer = answer ≡ Err faults.WrongParts
 
 -- what is shown of a run
@@ -133,15 +141,20 @@ abbrev pub told : Bool → ToolFault → Text → Text
 told true f input = fault_line f ++ note f (texts_of f input)
 told false f input = fault_line f
 
--- what a run ends with: a text, what is told of a fault, or no more than the command line's own text
+-- the status of a command that prints a text: what `find --check` found, and else 0
+abbrev pub status_for : Request → Text → ℕ
+status_for (requests.Find seeking) text = if seeking.check then status_of text else 0
+status_for other text = 0
+
+-- What a run ends with: a text and a status, what is told of a fault, or no more than the command line's own text.
 pub data Ending : Type 0 where
-  Prints : (text : Text) → Ending
+  Prints : (status : ℕ) → (text : Text) → Ending
   Tells : (told : Text) → Ending
   Usage : Ending
 
-abbrev pub ending_of : Bool → Text → Result Text ToolFault → Ending
-ending_of explain input (Ok text) = Prints text
-ending_of explain input (Err f) = Tells (told explain f input)
+abbrev pub ending_of : CommandLine → Text → Result Text ToolFault → Ending
+ending_of l input (Ok text) = Prints (status_for l.request text) text
+ending_of l input (Err f) = Tells (told l.explain f input)
 
 -- what the words and the input ask for
 pub data IsEnding (words : List Text) (input : Text) : Ending → Type 0 where
@@ -149,7 +162,7 @@ pub data IsEnding (words : List Text) (input : Text) : Ending → Type 0 where
   Answered : (l : CommandLine) (answer : Result Text ToolFault) →
       AsksFor words (Some l) →
       AnswersText l.request input answer
-      → IsEnding words input (ending_of l.explain input answer)
+      → IsEnding words input (ending_of l input answer)
 
 -- ---- what the code answers
 
@@ -166,22 +179,23 @@ abbrev pub refused_words : WordsFault → Refusal
 refused_words word_faults.Memory = refusals.Fault faults.Memory
 refused_words (word_faults.BadLine e) = refusals.BadLine e
 
--- it isn't said that the words ask for nothing
-abbrev pub IsTaken : Result (String Global) Refusal → Type 0
+-- it isn't said that the words ask for nothing, nor by the status 2
+abbrev pub IsTaken : Result Said Refusal → Type 0
+IsTaken (Ok said) = said.status ≢ 2
 IsTaken (Err (refusals.BadLine e)) = ⊥
 IsTaken other = Unit {0}
 
 -- it is an ending of the words and the input, or memory ran out
-abbrev pub Decides : List Text → Text → Result (String Global) Refusal → Type 0
-Decides words input (Ok text) = IsEnding words input (Prints (string_bytes text))
+abbrev pub Decides : List Text → Text → Result Said Refusal → Type 0
+Decides words input (Ok said) = IsEnding words input (Prints said.status (string_bytes said.text))
 Decides words input (Err (refusals.BadLine e)) = IsEnding words input Usage
 Decides words input (Err (refusals.Fault faults.Memory)) = Unit {0}
 Decides words input (Err (refusals.Fault f)) = IsEnding words input (Tells (fault_line f))
 Decides words input (Err (refusals.Explained bytes)) = IsEnding words input (Tells bytes.items)
 
 -- the same over a reader, which may fail once the command line is taken
-pub data Responds (words : List Text) (input : Text) : Result (String Global) Refusal → Type 0 where
-  Decided : (answer : Result (String Global) Refusal) → Decides words input answer → Responds words input answer
+pub data Responds (words : List Text) (input : Text) : Result Said Refusal → Type 0 where
+  Decided : (answer : Result Said Refusal) → Decides words input answer → Responds words input answer
   Unreadable : (l : CommandLine) →
       AsksFor words (Some l) →
       Responds words input (Err (refusals.Fault faults.ReadFailed))
@@ -191,8 +205,9 @@ abbrev pub OfInput : Option Text → (Text → Type 0) → Type 0
 OfInput None May = (input : Text) × May input
 OfInput (Some input) May = May input
 
--- where the words ask for nothing, the reader is as it was
-abbrev pub ReadsAfterWords : {R : Type 0} → R → R → Result (String Global) Refusal → Type 0
+-- where the words ask for nothing, the reader is as it was; no text has the status 2
+abbrev pub ReadsAfterWords : {R : Type 0} → R → R → Result Said Refusal → Type 0
+ReadsAfterWords old new (Ok said) = said.status ≢ 2
 ReadsAfterWords old new (Err (refusals.BadLine e)) = new ≡ old
 ReadsAfterWords old new other = Unit {0}
 
@@ -214,19 +229,44 @@ pub record HasTold (before after : ℕ) (is_open : Bool) (err err' : Option Text
   pub lines : is_open ≡ true → after ≡ before + length depths
   pub added : IsWritten (progress_text before depths) is_open err err' has_failed
 
--- whether a command tells of its progress
-abbrev pub tells_progress : Request → Bool
-tells_progress (requests.Explore cells states illegal first progress) = progress
-tells_progress other = false
+-- as `find: 48 of 84 programs`, of so many and all
+abbrev pub programs_line : ℕ × ℕ → Text
+programs_line n = codes "find: " ++ (decimal n.0 ++ (codes " of " ++ (decimal n.1 ++ codes " programs\n")))
+
+abbrev pub programs_text : List (ℕ × ℕ) → Text
+programs_text notes = flat_map programs_line notes
+
+-- these lines are added; or a beginning of them is, and the writer has failed
+pub record HasToldPrograms (is_open : Bool) (err err' : Option Text) (has_failed : Bool) : Type 0 where
+  pub notes : List (ℕ × ℕ)
+  pub added : IsWritten (programs_text notes) is_open err err' has_failed
+
+-- what a command tells of its progress
+abbrev pub telling_if : Bool → Telling → Telling
+telling_if true telling = telling
+telling_if false telling = tellings.Nothing
+
+abbrev pub progress_of : Request → Telling
+progress_of (requests.Explore cells states illegal first progress verdict) = telling_if progress tellings.States
+progress_of (requests.Find seeking) = telling_if seeking.progress tellings.Programs
+progress_of other = tellings.Nothing
 
 -- whole lines of progress, or a beginning of them, and the writer has failed
 abbrev pub HasLines : Option Text → Option Text → Bool → Type 0
 HasLines err err' has_failed = (depths : List ℕ) × (is_whole : Bool) × IsWritten (progress_text 0 depths) is_whole err
     err' has_failed
 
--- lines of progress went to the writer, if the command tells of it, and else nothing
+abbrev pub HasProgramLines : Option Text → Option Text → Bool → Type 0
+HasProgramLines err err' has_failed = (is_whole : Bool) × HasToldPrograms is_whole err err' has_failed
+
+-- the lines of progress went to the writer that a command tells, and else nothing
+abbrev pub HasToldAs : Telling → Option Text → Option Text → Bool → Type 0
+HasToldAs tellings.Nothing err err' has_failed = err' ≡ err
+HasToldAs tellings.States err err' has_failed = HasLines err err' has_failed
+HasToldAs tellings.Programs err err' has_failed = HasProgramLines err err' has_failed
+
 abbrev pub Progresses : Request → Option Text → Option Text → Bool → Type 0
-Progresses r err err' has_failed = MatchBool (tells_progress r) (HasLines err err' has_failed) (err' ≡ err)
+Progresses r err err' has_failed = HasToldAs (progress_of r) err err' has_failed
 
 -- nothing went to the writer, or what does so for a command of these words
 pub data TellsFirst (words : List Text) (err : Option Text) (has_failed : Bool) : Option Text → Type 0 where
@@ -245,9 +285,9 @@ pub record Left : Type 0 where
 abbrev pub left : Option Text → Option Text → Bool → Left
 left old new has_failed = record { old = old; new = new; has_failed = has_failed }
 
--- status 0 with the whole text, 1 with what is told of a fault, 2 for a bad command line
+-- its own status with the whole text, 1 with what is told of a fault, 2 for a bad command line
 abbrev pub Shows : Ending → Exit → Left → Left → Type 0
-Shows (Prints text) exit out err = (exit.status ≡ 0) × Appends out.old out.new text × Keeps err.old err.new
+Shows (Prints status text) exit out err = (exit.status ≡ status) × Appends out.old out.new text × Keeps err.old err.new
 Shows (Tells told) exit out err = (exit.status ≡ 1) × Keeps out.old out.new ×
     IsWritten told exit.is_told err.old err.new err.has_failed
 Shows Usage exit out err = (exit.status ≡ 2) × Keeps out.old out.new
@@ -269,8 +309,8 @@ pub data Closes (words : List Text) (input : Text) (exit : Exit) (out err : Left
       AsksFor words (Some l) →
       Shows (Tells (fault_line faults.ReadFailed)) exit out err →
       Closes words input exit out err
-  WriterFailed : (text : Text) →
-      IsEnding words input (Prints text) →
+  WriterFailed : (status : ℕ) (text : Text) →
+      IsEnding words input (Prints status text) →
       CutShort text exit out err →
       Closes words input exit out err
 

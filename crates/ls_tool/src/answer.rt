@@ -13,6 +13,7 @@ ghost use Rattle.ls_tool.specs.Output.{OnSamples, OnThree, OnTwo};
 
 use crate::explained::refusal_of;
 use crate::refusal::Refusal;
+use crate::said::{Said, status_for};
 use crate::views::{state_view, states_view, trace_view};
 use ls_command_line::{CommandLine, Request, Seeking, read_words};
 use ls_commands::batch::{Drawing, Sampling, batch};
@@ -22,7 +23,7 @@ use ls_commands::replay::{count, replay};
 use ls_commands::sample::sample;
 use ls_commands::translate::translate;
 use ls_explore::{Nobody, Watch};
-use ls_explore_commands::{Exploring, explore};
+use ls_explore_commands::{Exploring, explore, verdict};
 use ls_faults::fault::ToolFault;
 use ls_find_commands::{Bounds, Choosing, Range, find, print_program};
 use ls_merging::merge;
@@ -38,14 +39,21 @@ use std::sync::Wait;
 use std::thread::Threads;
 
 /// What `find` answers on a class text.
-fn on_class(alloc: Global, seeking: Seeking, classes: &str) -> Result<String, ToolFault>
-    ensures { GivesText (OnClass seeking classes.now) result }
+fn on_class<R: Threads + Sync, W: Watch>(
+    rt: &R,
+    alloc: Global,
+    seeking: Seeking,
+    classes: &str,
+    watch: &mut W,
+) -> Result<String, ToolFault>
+    ensures gives { GivesText (OnClass seeking classes.now) result }
+    ensures watched { GoesOn W.Since watch.old watch.new }
 {
     let choosing = choosing_of(seeking);
     if let Some(number) = seeking.print {
         return print_program(alloc, choosing, number, classes);
     }
-    find(alloc, choosing, range_of(seeking), classes)
+    find(rt, alloc, choosing, range_of(seeking), classes, watch)
 }
 
 /// Which class of the text is chosen, and what its programs may be.
@@ -69,18 +77,26 @@ fn range_of(seeking: Seeking) -> Range
 {
     Range {
         states: seeking.states as usize,
+        waiting: seeking.waiting,
         from: seeking.from,
         to: seeking.to,
     }
 }
 
 /// What the command answers on one text.
-fn on_one(alloc: Global, request: Request, text: &str) -> Result<String, ToolFault>
-    ensures { GivesText (OnOne request text.now) result }
+fn on_one<R: Threads + Sync, W: Watch>(
+    rt: &R,
+    alloc: Global,
+    request: Request,
+    text: &str,
+    watch: &mut W,
+) -> Result<String, ToolFault>
+    ensures gives { GivesText (OnOne request text.now) result }
+    ensures watched { GoesOn W.Since watch.old watch.new }
 {
     match request {
         Request::Order => order(alloc, text),
-        Request::Find(seeking) => on_class(alloc, seeking, text),
+        Request::Find(seeking) => on_class(rt, alloc, seeking, text, watch),
         Request::Check
         | Request::Compile
         | Request::Replay { .. }
@@ -178,7 +194,11 @@ fn on_two<R: Threads + Wait + Sync, W: Watch>(
             illegal,
             first: one,
             progress: _,
+            verdict: only,
         } => {
+            if only {
+                return verdict(alloc, states as usize, first, second);
+            }
             let exploring = Exploring {
                 cells: cells as usize,
                 states: states as usize,
@@ -302,7 +322,7 @@ fn decide<R: Threads + Wait + Sync, W: Watch>(
     ensures watched { GoesOn W.Since watch.old watch.new }
 {
     match parts {
-        [text] => on_one(alloc, request, text),
+        [text] => on_one(rt, alloc, request, text, watch),
         [first, second] => on_two(rt, alloc, request, first, second, watch),
         [classes, program, schedule] => on_three(rt, alloc, request, classes, program, schedule),
         [classes, program, schedule, order] => {
@@ -353,25 +373,28 @@ pub(crate) fn answer_line<R: Threads + Wait + Sync, W: Watch>(
     line: CommandLine,
     input: &[u8],
     watch: &mut W,
-) -> Result<String, Refusal>
+) -> Result<Said, Refusal>
     ensures decides { (words : List Text) → AsksFor words (Some line) → Decides words input.now result }
     ensures taken { IsTaken result }
     ensures watched { GoesOn W.Since watch.old watch.new }
 {
     match answer_of(rt, alloc, line.request, input, watch) {
-        Ok(text) => Ok(text),
+        Ok(text) => {
+            let status = status_for(line.request, text.as_str());
+            Ok(Said { text, status })
+        }
         Err(fault) => Err(refusal_of(alloc, line.explain, fault, input)),
     }
 }
 
-/// The whole output for the words of a command line and the bytes of an input, or why there is none. The first word
+/// The whole output for the words of a command line and the bytes of an input, with its status, or why there is none. The first word
 /// is the program's own name. It is the program without its streams.
 pub fn answer<'a, R: Threads + Wait + Sync>(
     rt: &R,
     alloc: Global,
     words: &'a [String],
     input: &[u8],
-) -> Result<String, Refusal>
+) -> Result<Said, Refusal>
     ensures { Decides (map string_bytes words.entry.now) input.now result }
 {
     let line = read_words(alloc, words)?;

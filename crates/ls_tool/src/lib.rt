@@ -3,9 +3,11 @@
 
 pub mod answer;
 mod explained;
+mod programs;
 mod progress;
 mod refusal;
 mod running;
+mod said;
 mod streams;
 mod views;
 
@@ -13,3 +15,4 @@ pub use ls_command_line::Request;
 pub use ls_faults::fault::ToolFault;
 pub use refusal::Refusal;
 pub use running::{Exit, run};
+pub use said::Said;

@@ -6,13 +6,15 @@ ghost use Rattle.ls_command_line.specs.Words.{AsksFor};
 ghost use Rattle.ls_outlets.specs.Written.{IsWritten};
 ghost use Rattle.ls_report.specs.Events.{Text};
 ghost use Rattle.ls_tool.specs.Output.{Decides, Ends, IsTaken, OfInput, Progresses, ReadsAfterWords, Responds};
-ghost use Rattle.ls_tool.specs.Output.{TellsFirst, left, tells_progress};
+ghost use Rattle.ls_tool.specs.Output.{TellsFirst, left};
 
 use crate::answer::answer_line;
+use crate::programs::Programs;
 use crate::progress::Progress;
 use crate::refusal::Refusal;
+use crate::said::{Said, Telling, progress_of};
 use crate::streams::read_whole;
-use ls_command_line::{CommandLine, Request, read_words};
+use ls_command_line::{CommandLine, read_words};
 use ls_explore::Nobody;
 use ls_faults::fault::ToolFault;
 use ls_faults::line::fault_line;
@@ -59,22 +61,6 @@ fn tell_line<E: Outlet>(err: &mut E, fault: ToolFault) -> Exit
     tell(err, line.as_bytes())
 }
 
-/// Whether a command tells of its progress.
-fn tells_progress(request: Request) -> bool
-    ensures { result ≡ tells_progress request }
-{
-    match request {
-        Request::Explore {
-            cells: _,
-            states: _,
-            illegal: _,
-            first: _,
-            progress,
-        } => progress,
-        _ => false,
-    }
-}
-
 /// What a command line asks for of an input, with lines of progress where it asks for these.
 fn answer_telling<H: Threads + Wait + Sync, E: Outlet>(
     rt: &H,
@@ -82,16 +68,22 @@ fn answer_telling<H: Threads + Wait + Sync, E: Outlet>(
     line: CommandLine,
     input: &[u8],
     err: &mut E,
-) -> Result<String, Refusal>
+) -> Result<Said, Refusal>
     ensures decides { (words : List Text) → AsksFor words (Some line) → Decides words input.now result }
     ensures taken { IsTaken result }
     ensures progress { Progresses line.request (E.contents err.old) (E.contents err.new) (E.has_failed err.new) }
 {
-    if !tells_progress(line.request) {
-        return answer_line(rt, alloc, line, input, &mut Nobody);
+    match progress_of(line.request) {
+        Telling::Nothing => answer_line(rt, alloc, line, input, &mut Nobody),
+        Telling::States => {
+            let mut progress = Progress::new(err);
+            answer_line(rt, alloc, line, input, &mut progress)
+        }
+        Telling::Programs => {
+            let mut programs = Programs::new(err);
+            answer_line(rt, alloc, line, input, &mut programs)
+        }
     }
-    let mut progress = Progress::new(err);
-    answer_line(rt, alloc, line, input, &mut progress)
 }
 
 /// The answer to the words and to what the reader has left. Words that ask for nothing are answered before anything is
@@ -102,7 +94,7 @@ fn respond<'a, H: Threads + Wait + Sync, R: Read, E: Outlet>(
     words: &'a [String],
     reader: &mut R,
     err: &mut E,
-) -> Result<String, Refusal>
+) -> Result<Said, Refusal>
     ensures responds { OfInput (R.remaining reader.old)
         (λ input. Responds (map string_bytes words.entry.now) input result) }
     ensures unread { ReadsAfterWords reader.old reader.new result }
@@ -116,8 +108,8 @@ fn respond<'a, H: Threads + Wait + Sync, R: Read, E: Outlet>(
 
 /// Does what the words ask for: reads the input, answers it as `answer` does, and writes. Answers the exit status; with
 /// status 2 nothing is read. If it isn't known what the reader has left, as it isn't of standard input, the run ends as
-/// for some input. All is written that is to be, unless the writer has failed. Threads are started by `live`, `batch`
-/// and `replay --live` alone. `explore --progress` alone tells of its progress.
+/// for some input. All is written that is to be, unless the writer has failed. Threads are started by `live`, `batch`,
+/// `find` and `replay --live` alone. `explore --progress` and `find --progress` alone tell of their progress.
 pub fn run<'a, H: Threads + Wait + Sync, R: Read, W: Outlet, E: Outlet>(
     rt: &H,
     alloc: Global,
@@ -132,12 +124,12 @@ pub fn run<'a, H: Threads + Wait + Sync, R: Read, W: Outlet, E: Outlet>(
     ensures unread { result.status ≡ 2 → reader.new ≡ reader.old }
 {
     match respond(rt, alloc, words, reader, err) {
-        Ok(text) => {
-            if !write_out(out, text.as_bytes()) {
+        Ok(said) => {
+            if !write_out(out, said.text.as_bytes()) {
                 return tell_line(err, ToolFault::WriteFailed);
             }
             Exit {
-                status: 0,
+                status: said.status,
                 is_told: true,
             }
         }

@@ -1,15 +1,18 @@
-use Rattle.std.proofs.Common.{◌&&◌, ◌≡◌, ◌∙◌, subst, sym}
+use Rattle.std.proofs.Common.{◌≡◌, ◌∙◌, ap, subst, sym}
 use Rattle.std.proofs.lemmas.Result.{err_from_is_err_and}
 use Rattle.std.specs.Prelude.{All, string_bytes}
+use Rattle.ls_checked.specs.Plain.{plain_file}
 use Rattle.ls_checked.specs.PlainProgram.{plain_program}
 use Rattle.ls_checked.specs.declared.program.Program.{Program}
 use Rattle.ls_image.specs.Images.{program_of_image}
 use Rattle.ls_labels.specs.Names.{Names}
 use Rattle.ls_schedule.specs.Reading.{thread_names}
-use Rattle.ls_explore_reports.specs.Judged.{AreHistories, IsJudged, IsToldLinear}
+use Rattle.ls_types.specs.CheckedFile.{outcome_of}
+use Rattle.ls_explore_reports.specs.Judged.{AreHistories, IsJudged}
 use Rattle.ls_explore_reports.specs.Printing.{explored_text}
 use Rattle.ls_explore_commands.specs.Explored.{names_in}
-use Rattle.ls_explore_commands.proofs.ExploredLemmas.{explore_fails, explore_tells, judged_so, long_fails, rows_named}
+use Rattle.ls_explore_commands.proofs.ExploredLemmas.{explore_fails, explore_tells, judged_so, linear_so, long_fails}
+use Rattle.ls_explore_commands.proofs.ExploredLemmas.{rows_named}
 use Rattle.ls_explore_commands.proofs.command.explored.Goals as goal
 
 pub returns-in_err-found-clause-gives : goal.returns-in_err-found-clause-gives
@@ -35,9 +38,10 @@ returns-in_err-text-clause-gives g c =
     let of_rows = c.in_ok-judged.ensures.rows ∙ c.as_slice.ensures.value in
     let verdicts = subst (λ (q : Program). All (IsJudged (plain_program q)) judged) c.program.ensures
     c.in_ok-judged.ensures.verdicts in
-    let linear = subst (λ rows. All (IsToldLinear (found.complete && found.roomy) rows) judged) c.as_slice.ensures.value
-    (subst (λ w. All (IsToldLinear w c.as_slice.result.now) judged) c.is_whole-whole.ensures
-    c.in_ok-judged.ensures.linear) in
+    let linear = linear_so i (plain_file c.file-file.result.now) c.program.result.now found.complete found.roomy
+    c.is_whole-whole.result c.as_slice.result.now found.rows.items judged (ap plain_file c.file-file.ensures
+    ∙ ap (λ k. (outcome_of k).file) c.checked.ensures) c.program.ensures c.is_whole-whole.ensures
+    c.as_slice.ensures.value c.in_ok-judged.ensures.linear in
     let so =
     judged_so c.linearity_is_meant.ensures c.none_is_illegal.ensures.whole c.none_is_not_linearizable.ensures.whole i
     c.args.exploring.cells c.args.exploring.states found.setup found.rows.items judged found.states
@@ -61,9 +65,10 @@ returns-clause-gives g c =
     let of_rows = c.in_ok-judged.ensures.rows ∙ c.as_slice.ensures.value in
     let verdicts = subst (λ (q : Program). All (IsJudged (plain_program q)) judged) c.program.ensures
     c.in_ok-judged.ensures.verdicts in
-    let linear = subst (λ rows. All (IsToldLinear (found.complete && found.roomy) rows) judged) c.as_slice.ensures.value
-    (subst (λ w. All (IsToldLinear w c.as_slice.result.now) judged) c.is_whole-whole.ensures
-    c.in_ok-judged.ensures.linear) in
+    let linear = linear_so i (plain_file c.file-file.result.now) c.program.result.now found.complete found.roomy
+    c.is_whole-whole.result c.as_slice.result.now found.rows.items judged (ap plain_file c.file-file.ensures
+    ∙ ap (λ k. (outcome_of k).file) c.checked.ensures) c.program.ensures c.is_whole-whole.ensures
+    c.as_slice.ensures.value c.in_ok-judged.ensures.linear in
     let first = subst (λ (ns : Names). t ≡ explored_text ns (thread_names c.names_in.result.program.now) found.setup
     c.as_slice-2.result.now found.states found.complete found.roomy e) c.names_in.ensures.names
     c.in_ok-text.ensures.text in

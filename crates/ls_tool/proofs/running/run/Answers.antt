@@ -16,13 +16,13 @@ returns-then-not-write_out-clause-ends g c =
     let between = g.E.Write.contents c.respond.new.err in
     let err = g.E.Write.contents c.tell_line.new.err in
     let err_failed = g.E.Outlet.has_failed c.tell_line.new.err in
-    let part = part_written (string_bytes c.in-Ok.text) c.write_out.result old new failed c.if-not-write_out.true
+    let part = part_written (string_bytes c.in-Ok.said.text) c.write_out.result old new failed c.if-not-write_out.true
     (subst (λ z. IsWritten z c.write_out.result old new failed) c.as_bytes.ensures.value c.write_out.ensures.written) in
     if_known (g.R.Read.remaining c.args.reader.now) _ _ (λ input d.
     ends_so words input c.tell_line.result (left old new failed)
     (left (g.E.Write.contents c.args.err.now) err err_failed) between (g.E.Outlet.has_failed c.respond.new.err)
     c.tell_line.ensures.kept c.in-Ok.ensures.progress
-    (cut_short words input c.in-Ok.text c.tell_line.result (left old new failed) (left between err err_failed)
+    (cut_short words input c.in-Ok.said c.tell_line.result (left old new failed) (left between err err_failed)
     c.tell_line.ensures.status part c.tell_line.ensures.told d)) c.in-Ok.ensures.responds
 
 pub returns-else-not-write_out-clause-ends : goal.returns-else-not-write_out-clause-ends
@@ -33,12 +33,12 @@ returns-else-not-write_out-clause-ends g c =
     let failed = g.W.Outlet.has_failed c.write_out.new.writer in
     let between = g.E.Write.contents c.respond.new.err in
     let err_failed = g.E.Outlet.has_failed c.respond.new.err in
-    let whole = all_written (string_bytes c.in-Ok.text) c.write_out.result old new failed c.if-not-write_out.false
+    let whole = all_written (string_bytes c.in-Ok.said.text) c.write_out.result old new failed c.if-not-write_out.false
     (subst (λ z. IsWritten z c.write_out.result old new failed) c.as_bytes.ensures.value c.write_out.ensures.written) in
     if_known (g.R.Read.remaining c.args.reader.now) _ _ (λ input d.
-    ends_so words input (record { status = 0; is_told = true }) (left old new failed)
+    ends_so words input (record { status = c.in-Ok.said.status; is_told = true }) (left old new failed)
     (left (g.E.Write.contents c.args.err.now) between err_failed) between err_failed (λ e. e) c.in-Ok.ensures.progress
-    (done words input c.in-Ok.text (record { status = 0; is_told = true }) (left old new failed)
+    (done words input c.in-Ok.said (record { status = c.in-Ok.said.status; is_told = true }) (left old new failed)
     (left between between err_failed) refl (Keeps-refl between) whole d)) c.in-Ok.ensures.responds
 
 pub returns-in-Err-Fault-clause-ends : goal.returns-in-Err-Fault-clause-ends
@@ -89,3 +89,6 @@ returns-in-Err-BadLine-clause-ends g c =
 
 pub returns-in-Err-BadLine-clause-unread : goal.returns-in-Err-BadLine-clause-unread
 returns-in-Err-BadLine-clause-unread g c = λ e. rw c.in-Err-BadLine.field-0-is at c.in-Err-BadLine.ensures.unread
+
+pub returns-else-not-write_out-clause-unread : goal.returns-else-not-write_out-clause-unread
+returns-else-not-write_out-clause-unread g c = λ two. absurd (c.in-Ok.ensures.unread two)

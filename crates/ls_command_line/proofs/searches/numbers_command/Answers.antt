@@ -1,0 +1,10 @@
+use Rattle.ls_command_line.proofs.searches.numbers_command.Goals as goal
+
+pub returns-clause-shape : goal.returns-clause-shape
+returns-clause-shape c =
+    let one = c.with_option-command.ensures.shape _ _ c.bounds_command-command.ensures.shape
+    c.number_option-class.ensures.rule in
+    let two = c.with_option-command-2.ensures.shape _ _ one c.number_option-states.ensures.rule in
+    let three = c.with_option-command-3.ensures.shape _ _ two c.number_option-from.ensures.rule in
+    let four = c.with_option-command-4.ensures.shape _ _ three c.number_option-to.ensures.rule in
+    c.with_option.ensures.shape _ _ four c.number_option-print.ensures.rule

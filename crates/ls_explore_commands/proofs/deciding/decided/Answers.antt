@@ -1,0 +1,48 @@
+use Rattle.std.proofs.Common.{◌≡◌, ◌++◌, replicate, subst, sym}
+use Rattle.std.specs.Prelude.{IfNone, IfSome}
+use Rattle.ls_explore_images.specs.Faults.{AreBadStates}
+use Rattle.ls_source_judge.specs.Judged.{AllLinearizable, IsNotLinearizable}
+use Rattle.ls_state_space.specs.Verdicts.{LeavesStuck, NeverStuck}
+use Rattle.ls_translation.specs.Texts.{file_of, program_of}
+use Rattle.ls_explore_commands.specs.Verdicts.{NoStates}
+use Rattle.ls_explore_commands.proofs.Decisions.{not_both}
+use Rattle.ls_explore_commands.proofs.deciding.decided.Goals as goal
+
+pub returns-then-are_bad_states : goal.returns-then-are_bad_states
+returns-then-are_bad_states c = NoStates (c.are_bad_states.ensures.0 c.if-are_bad_states.true)
+
+pub returns-in-Some : goal.returns-in-Some
+returns-in-Some c =
+    let i = c.args.image.now in
+    let j = c.in_ok-judged.judged in
+    let good : ¬ AreBadStates c.args.states =
+    λ bad. not_both (c.are_bad_states.ensures.1 bad) c.if-are_bad_states.false in
+    c.wrong_answer.ensures c.args.states good c.in_ok-judged.ensures.extent
+    (λ known. subst (λ s. IsNotLinearizable (file_of i) (program_of i) (replicate j.setup 0 ++ s))
+    (sym c.as_slice.ensures.value)
+    (subst (λ o. IfSome o (λ path. IsNotLinearizable (file_of i) (program_of i) (replicate j.setup 0 ++ path.items)))
+    c.in-Some.is (c.in_ok-judged.ensures.bad known)))
+
+pub returns-in-Some-stuck : goal.returns-in-Some-stuck
+returns-in-Some-stuck c =
+    let i = c.args.image.now in
+    let j = c.in_ok-judged.judged in
+    let good : ¬ AreBadStates c.args.states =
+    λ bad. not_both (c.are_bad_states.ensures.1 bad) c.if-are_bad_states.false in
+    c.stuck_answer.ensures c.args.states good c.in_ok-judged.ensures.extent
+    (subst (λ s. LeavesStuck (file_of i) (program_of i) (replicate j.setup 0 ++ s)) (sym c.as_slice-in-Some-stuck.ensures.value)
+    (subst (λ o. IfSome o (λ path. LeavesStuck (file_of i) (program_of i) (replicate j.setup 0 ++ path.items)))
+    c.in-Some-stuck.is c.in_ok-judged.ensures.stuck))
+    (λ complete. subst (λ o. IfNone o (AllLinearizable (file_of i) (program_of i))) c.in-None.is
+    (c.in_ok-judged.ensures.good complete))
+
+pub returns : goal.returns
+returns c =
+    let i = c.args.image.now in
+    let good : ¬ AreBadStates c.args.states =
+    λ bad. not_both (c.are_bad_states.ensures.1 bad) c.if-are_bad_states.false in
+    c.free_answer.ensures c.args.states good c.in_ok-judged.ensures.extent
+    (λ complete. subst (λ o. IfNone o (AllLinearizable (file_of i) (program_of i))) c.in-None.is
+    (c.in_ok-judged.ensures.good complete))
+    (λ complete. subst (λ o. IfNone o (NeverStuck (file_of i) (program_of i))) c.in-None-stuck.is
+    (c.in_ok-judged.ensures.free complete))

@@ -1,0 +1,53 @@
+-- What `explore --verdict` says.
+use Rattle.std.specs.Prelude.{◌≡◌, ◌≤◌, ℕ, Bool, true, false, List, Result, Ok, Err}
+use Rattle.ls_image.specs.declared.image.Image.{Image}
+use Rattle.ls_translation.specs.Texts.{file_of, program_of}
+use Rattle.ls_translation.specs.declared.fault.TranslationFault.TheVariants as translation
+use Rattle.ls_explore_images.specs.Faults.{AreBadStates}
+use Rattle.ls_explore_images.specs.declared.fault.ExploreFault.TheVariants as explore
+use Rattle.ls_report.specs.Events.{Text}
+use Rattle.ls_faults.specs.declared.fault.ToolFault.{ToolFault}
+use Rattle.ls_faults.specs.declared.fault.ToolFault.TheVariants as faults
+use Rattle.ls_commands.specs.Compiled.{AnswersOn, names_of_image}
+use Rattle.ls_source_judge.specs.Judged.{AllLinearizable, IsNotLinearizable}
+use Rattle.ls_state_space.specs.Verdicts.{LeavesStuck, NeverStuck}
+use Rattle.ls_explore_commands.specs.Explored.{names_in}
+use Rattle.ls_explore_commands.specs.Reports.{bad_text, doubtful_text, free_text, stuck_text}
+
+-- at most so many states were kept; and if these aren't all, so many
+pub record IsExtent (limit states : ℕ) (complete : Bool) : Type 0 where
+  pub within : states ≤ limit
+  pub cut : complete ≡ false → states ≡ limit
+
+-- The text of a verdict, or why there is none. If all states were kept, it is said of each schedule, of any length.
+pub data Decided (i : Image) (limit : ℕ) : Result Text ToolFault → Type 0 where
+  NoStates : AreBadStates limit → Decided i limit (Err (faults.Explore explore.BadStates))
+  -- the history of this schedule isn't linearizable
+  IsBad : (schedule : List ℕ) (states : ℕ) (complete : Bool) →
+      ¬ AreBadStates limit →
+      IsExtent limit states complete →
+      IsNotLinearizable (file_of i) (program_of i) schedule →
+      Decided i limit (Ok (bad_text (names_in i) (names_of_image i) schedule states complete))
+  -- no serial history that was found explains it, and some may not have been found
+  IsDoubtful : (schedule : List ℕ) (states : ℕ) (complete : Bool) →
+      ¬ AreBadStates limit →
+      IsExtent limit states complete →
+      Decided i limit (Ok (doubtful_text (names_in i) (names_of_image i) schedule states complete))
+  -- after this schedule no thread acts, and one waits for a lock
+  IsStuck : (schedule : List ℕ) (states : ℕ) (complete : Bool) →
+      ¬ AreBadStates limit →
+      IsExtent limit states complete →
+      LeavesStuck (file_of i) (program_of i) schedule →
+      (complete ≡ true → AllLinearizable (file_of i) (program_of i)) →
+      Decided i limit (Ok (stuck_text (names_in i) (names_of_image i) schedule states complete))
+  IsFree : (states : ℕ) (complete : Bool) →
+      ¬ AreBadStates limit →
+      IsExtent limit states complete →
+      (complete ≡ true → AllLinearizable (file_of i) (program_of i)) →
+      (complete ≡ true → NeverStuck (file_of i) (program_of i)) →
+      Decided i limit (Ok (free_text states complete))
+  -- the schedule that was found has more steps than a schedule may have
+  TooLong : ¬ AreBadStates limit → Decided i limit (Err (faults.Translation translation.ResultTooLong))
+
+abbrev pub VerdictsTo : ℕ → Text → Text → Result Text ToolFault → Type 0
+VerdictsTo limit classes program answer = AnswersOn classes program (λ i. Decided i limit) answer

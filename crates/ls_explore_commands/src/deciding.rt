@@ -1,0 +1,195 @@
+// What `explore --verdict` says.
+
+ghost use Rattle.std.specs.Prelude.{◌≡◌, ◌++◌, ◌∷◌, [], ◌↔◌, ◌⊎◌, ℕ, IfErr, IfNone, IfOk, IfSome, IsTrue, OnOk, replicate};
+ghost use Rattle.ls_explore_images.specs.Faults.{AreBadStates};
+ghost use Rattle.ls_faults.specs.Given.{GivesText};
+ghost use Rattle.ls_explore_commands.specs.Verdicts.{Decided, IsExtent, VerdictsTo};
+ghost use Rattle.ls_source_judge.specs.Judged.{AllLinearizable, IsNotLinearizable};
+ghost use Rattle.ls_state_space.specs.Verdicts.{LeavesStuck, NeverStuck};
+ghost use Rattle.ls_translation.specs.Texts.{file_of, program_of};
+ghost use Rattle.ls_translation.specs.declared.fault.TranslationFault.TheVariants.{Memory, ResultTooLong};
+
+use crate::command::names_in;
+use crate::reporting::{Extent, print_bad, print_doubtful, print_free, print_stuck};
+use ls_compiler::compile::compile;
+use ls_events::schedule::{MOST_STEPS, Schedule};
+use ls_explore_images::{ExploreFault, MOST_STATES};
+use ls_faults::fault::ToolFault;
+use ls_image::image::Image;
+use ls_source_judge::{Judged, judge_schedules};
+use ls_translation::fault::TranslationFault;
+use std::alloc::{AllocError, Global};
+
+/// Whether no states may be kept, or too many.
+fn are_bad_states(states: usize) -> bool
+    ensures { IsTrue result ↔ AreBadStates states }
+{
+    states == 0 || states > MOST_STATES
+}
+
+/// Adds a step.
+fn push_step(schedule: &mut Schedule, thread: u8) -> Result<(), TranslationFault>
+    ensures steps { OnOk result (schedule.new ≡ schedule.old ++ thread ∷ []) }
+    ensures only { IfErr result (λ e. (e ≡ Memory) ⊎ (e ≡ ResultTooLong)) }
+{
+    if schedule.len() >= MOST_STEPS {
+        return Err(TranslationFault::ResultTooLong);
+    }
+    schedule.push(thread)?;
+    Ok(())
+}
+
+/// So many steps of the setup, and then one of each thread of a path.
+fn schedule_of(alloc: Global, setup: usize, path: &[u8]) -> Result<Schedule, TranslationFault>
+    ensures steps { IfOk result (λ s. s ≡ replicate setup 0 ++ path.now) }
+    ensures only { IfErr result (λ e. (e ≡ Memory) ⊎ (e ≡ ResultTooLong)) }
+{
+    let mut schedule = Schedule::new(alloc);
+    for _ in 0..setup {
+        push_step(&mut schedule, 0)?;
+    }
+    for thread in path {
+        push_step(&mut schedule, *thread)?;
+    }
+    Ok(schedule)
+}
+
+/// How many states were kept, and whether these are all.
+fn extent_of(judged: &Judged) -> Extent
+    ensures states { result.states ≡ judged.now.states }
+    ensures complete { result.complete ≡ judged.now.complete }
+{
+    Extent {
+        states: judged.states,
+        complete: judged.complete,
+    }
+}
+
+/// The text of a path to a history that isn't linearizable.
+fn bad_answer(
+    alloc: Global,
+    image: &Image,
+    judged: &Judged,
+    path: &[u8],
+) -> Result<String, ToolFault>
+    ensures { (limit : ℕ) → ¬ AreBadStates limit → IsExtent limit judged.now.states judged.now.complete →
+        IsNotLinearizable (file_of image.now) (program_of image.now) (replicate judged.now.setup 0 ++ path.now) →
+        GivesText (Decided image.now limit) result }
+{
+    let schedule = schedule_of(alloc, judged.setup, path)?;
+    let text = print_bad(alloc, names_in(image), &schedule, extent_of(judged))?;
+    Ok(text)
+}
+
+/// The text of a path to a history that no serial history explains that was found.
+fn doubtful_answer(
+    alloc: Global,
+    image: &Image,
+    judged: &Judged,
+    path: &[u8],
+) -> Result<String, ToolFault>
+    ensures { (limit : ℕ) → ¬ AreBadStates limit → IsExtent limit judged.now.states judged.now.complete →
+        GivesText (Decided image.now limit) result }
+{
+    let schedule = schedule_of(alloc, judged.setup, path)?;
+    let text = print_doubtful(alloc, names_in(image), &schedule, extent_of(judged))?;
+    Ok(text)
+}
+
+/// The text of a path to a state in which no thread acts and one waits.
+fn stuck_answer(
+    alloc: Global,
+    image: &Image,
+    judged: &Judged,
+    path: &[u8],
+) -> Result<String, ToolFault>
+    ensures { (limit : ℕ) → ¬ AreBadStates limit → IsExtent limit judged.now.states judged.now.complete →
+        LeavesStuck (file_of image.now) (program_of image.now) (replicate judged.now.setup 0 ++ path.now) →
+        (IsTrue judged.now.complete → AllLinearizable (file_of image.now) (program_of image.now)) →
+        GivesText (Decided image.now limit) result }
+{
+    let schedule = schedule_of(alloc, judged.setup, path)?;
+    let text = print_stuck(alloc, names_in(image), &schedule, extent_of(judged))?;
+    Ok(text)
+}
+
+/// The text that no run is wrong.
+fn free_answer(alloc: Global, image: &Image, judged: &Judged) -> Result<String, ToolFault>
+    ensures { (limit : ℕ) → ¬ AreBadStates limit → IsExtent limit judged.now.states judged.now.complete →
+        (IsTrue judged.now.complete → AllLinearizable (file_of image.now) (program_of image.now)) →
+        (IsTrue judged.now.complete → NeverStuck (file_of image.now) (program_of image.now)) →
+        GivesText (Decided image.now limit) result }
+{
+    let text = print_free(alloc, extent_of(judged))?;
+    Ok(text)
+}
+
+/// What all schedules of an image's program tell, of which at most so many states are kept.
+fn judged_of(alloc: Global, image: &Image, states: usize) -> Result<Judged, AllocError>
+    ensures good { IfOk result (λ j. IsTrue j.complete → IfNone j.bad
+        (AllLinearizable (file_of image.now) (program_of image.now))) }
+    ensures bad { IfOk result (λ j. IsTrue j.known → IfSome j.bad (λ path.
+        IsNotLinearizable (file_of image.now) (program_of image.now) (replicate j.setup 0 ++ path.items))) }
+    ensures free { IfOk result (λ j. IsTrue j.complete → IfNone j.stuck
+        (NeverStuck (file_of image.now) (program_of image.now))) }
+    ensures stuck { IfOk result (λ j. IfSome j.stuck (λ path.
+        LeavesStuck (file_of image.now) (program_of image.now) (replicate j.setup 0 ++ path.items))) }
+    ensures extent { IfOk result (λ j. IsExtent states j.states j.complete) }
+{
+    let judged = judge_schedules(alloc, image.checked().file(), image.program(), states)?;
+    Ok(judged)
+}
+
+/// The text of a path to a history that no serial history explains that was found.
+fn wrong_answer(
+    alloc: Global,
+    image: &Image,
+    judged: &Judged,
+    path: &[u8],
+) -> Result<String, ToolFault>
+    ensures { (limit : ℕ) → ¬ AreBadStates limit → IsExtent limit judged.now.states judged.now.complete →
+        (IsTrue judged.now.known →
+        IsNotLinearizable (file_of image.now) (program_of image.now) (replicate judged.now.setup 0 ++ path.now)) →
+        GivesText (Decided image.now limit) result }
+{
+    if judged.known {
+        return bad_answer(alloc, image, judged, path);
+    }
+    doubtful_answer(alloc, image, judged, path)
+}
+
+/// The text of what all schedules of an image's program tell.
+fn decided(alloc: Global, image: &Image, states: usize) -> Result<String, ToolFault>
+    ensures { GivesText (Decided image.now states) result }
+{
+    if are_bad_states(states) {
+        return Err(ToolFault::Explore(ExploreFault::BadStates));
+    }
+    let judged = judged_of(alloc, image, states)?;
+    match &judged.bad {
+        Some(path) => wrong_answer(alloc, image, &judged, path.as_slice()),
+        None => match &judged.stuck {
+            Some(path) => stuck_answer(alloc, image, &judged, path.as_slice()),
+            None => free_answer(alloc, image, &judged),
+        },
+    }
+}
+
+/// A wrong run of the compiled program, over all schedules of source steps, where at most so many states of the source
+/// are kept: its schedule and its history. A run is wrong if its history isn't linearizable, or else if no
+/// thread acts after it and one waits. Or that there is none. The last line has how many states were kept, and whether
+/// these are all.
+///
+/// Refused as `compile` is; else with 61 if no states may be kept, or more than 16,777,216; and as a schedule of over
+/// 1,000,000 steps is.
+pub fn verdict(
+    alloc: Global,
+    states: usize,
+    classes: &str,
+    program: &str,
+) -> Result<String, ToolFault>
+    ensures { GivesText (VerdictsTo states classes.now program.now) result }
+{
+    let image = compile(alloc, classes, program)?;
+    decided(alloc, &image, states)
+}

@@ -1,0 +1,139 @@
+// The text of a verdict.
+
+ghost use Rattle.std.specs.Prelude.{◌≡◌, ◌++◌, IfOk, OnOk, string_bytes};
+ghost use Rattle.ls_labels.specs.Names.{names_of};
+ghost use Rattle.ls_meaning.specs.Runs.{source_history};
+ghost use Rattle.ls_report.specs.Printing.{run_text};
+ghost use Rattle.ls_schedule.specs.Reading.{thread_names};
+ghost use Rattle.ls_explore_commands.specs.Reports.{bad_text, doubtful_text, end_text, free_text, last_text, run_report};
+ghost use Rattle.ls_explore_commands.specs.Reports.{stuck_text};
+
+use ls_events::schedule::Schedule;
+use ls_explore_reports::waiting_after;
+use ls_labels::names::Names;
+use ls_report::print_history;
+use ls_schedule::print_schedule;
+use ls_state::scene::Scene;
+use std::alloc::{AllocError, Global};
+use std::fmt::Write;
+
+/// How many states were kept, and whether these are all.
+#[derive(Copy)]
+pub(crate) struct Extent {
+    pub states: usize,
+    pub complete: bool,
+}
+
+impl Clone for Extent {
+    fn clone(&self) -> Result<Extent, AllocError> {
+        Ok(*self)
+    }
+}
+
+fn end_words(complete: bool) -> &'static str
+    ensures { result.now ≡ end_text complete }
+{
+    if complete { " complete\n" } else { " cut\n" }
+}
+
+/// Adds how many states were kept, and whether these are all.
+fn push_last(out: &mut String, extent: Extent) -> Result<(), AllocError>
+    ensures { OnOk result (string_bytes out.new ≡ string_bytes out.old ++ last_text extent.states extent.complete) }
+{
+    let states = extent.states;
+    write!(out, "states {states}")?;
+    out.push_str(end_words(extent.complete))
+}
+
+/// The history's lines of a schedule.
+fn history_after(alloc: Global, names: Names<'_>, schedule: &Schedule) -> Result<String, AllocError>
+    ensures { IfOk result (λ text. string_bytes text ≡ run_text (names_of names.entry).program
+        (source_history (names_of names.entry).file (names_of names.entry).program schedule.now)) }
+{
+    let scene = Scene::after(alloc, names, schedule.steps())?;
+    let text = print_history(alloc, scene.run.history(), names.program)?;
+    Ok(text)
+}
+
+/// Adds what is wrong with a run, its schedule, its history's lines, an empty line.
+fn push_run(
+    alloc: Global,
+    out: &mut String,
+    names: Names<'_>,
+    head: &str,
+    schedule: &Schedule,
+) -> Result<(), AllocError>
+    ensures { OnOk result (string_bytes out.new ≡ string_bytes out.old ++
+        run_report (names_of names.entry) (thread_names names.entry.program.now) head.now schedule.now) }
+{
+    let steps = print_schedule(alloc, schedule, names.program)?;
+    let history = history_after(alloc, names, schedule)?;
+    out.push_str(head)?;
+    out.push_str("\n")?;
+    out.push_str(steps.as_str())?;
+    out.push_str(history.as_str())?;
+    out.push_str("\n")
+}
+
+/// The text of a run whose history isn't linearizable. The only refusal is that memory ran out.
+pub(crate) fn print_bad(
+    alloc: Global,
+    names: Names<'_>,
+    schedule: &Schedule,
+    extent: Extent,
+) -> Result<String, AllocError>
+    ensures { IfOk result (λ text. string_bytes text ≡
+        bad_text (names_of names.entry) (thread_names names.entry.program.now) schedule.now extent.states
+        extent.complete) }
+{
+    let mut out = String::new(alloc);
+    push_run(alloc, &mut out, names, "not linearizable", schedule)?;
+    push_last(&mut out, extent)?;
+    Ok(out)
+}
+
+/// The text of a run whose history no serial run explains that was found, where these may not be all. The only refusal
+/// is that memory ran out.
+pub(crate) fn print_doubtful(
+    alloc: Global,
+    names: Names<'_>,
+    schedule: &Schedule,
+    extent: Extent,
+) -> Result<String, AllocError>
+    ensures { IfOk result (λ text. string_bytes text ≡
+        doubtful_text (names_of names.entry) (thread_names names.entry.program.now) schedule.now extent.states
+        extent.complete) }
+{
+    let mut out = String::new(alloc);
+    push_run(alloc, &mut out, names, "not judged", schedule)?;
+    push_last(&mut out, extent)?;
+    Ok(out)
+}
+
+/// The text of a run after which threads wait for ever. The only refusal is that memory ran out.
+pub(crate) fn print_stuck(
+    alloc: Global,
+    names: Names<'_>,
+    schedule: &Schedule,
+    extent: Extent,
+) -> Result<String, AllocError>
+    ensures { IfOk result (λ text. string_bytes text ≡
+        stuck_text (names_of names.entry) (thread_names names.entry.program.now) schedule.now extent.states
+        extent.complete) }
+{
+    let waiting = waiting_after(alloc, names, schedule)?;
+    let mut out = String::new(alloc);
+    push_run(alloc, &mut out, names, waiting.as_str(), schedule)?;
+    push_last(&mut out, extent)?;
+    Ok(out)
+}
+
+/// The text that no run is bad. The only refusal is that memory ran out.
+pub(crate) fn print_free(alloc: Global, extent: Extent) -> Result<String, AllocError>
+    ensures { IfOk result (λ text. string_bytes text ≡ free_text extent.states extent.complete) }
+{
+    let mut out = String::new(alloc);
+    out.push_str("none\n")?;
+    push_last(&mut out, extent)?;
+    Ok(out)
+}
