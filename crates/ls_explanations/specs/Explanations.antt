@@ -76,7 +76,7 @@ abbrev pub has_return : Bytes → Bool
 has_return text = list_any (λ b. b == 13) text
 
 abbrev pub return_hint : Bytes
-return_hint = codes "lines end with a line feed alone here, and the input has carriage returns\n"
+return_hint = codes "unexpected carriage return: a line ends with a line feed alone here\n"
 
 abbrev pub hint : ToolFault → List Bytes → Bytes
 hint f texts = if minds_returns f && list_any has_return texts then return_hint else []

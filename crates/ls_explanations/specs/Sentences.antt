@@ -19,35 +19,37 @@ use Rattle.ls_tallies_reading.specs.declared.fault.TallyFault.TheVariants as tal
 use Rattle.ls_faults.specs.declared.fault.ToolFault.{ToolFault}
 use Rattle.ls_faults.specs.declared.fault.ToolFault.TheVariants as faults
 use Rattle.ls_lessons.specs.Tokens.{Bytes, byte_at}
-use Rattle.ls_lessons.specs.Lessons.{byte_lesson, name_lesson, syntax_lesson, type_lesson}
+use Rattle.ls_lessons.specs.Lessons.{byte_lesson, call_lesson, name_lesson, syntax_lesson, type_lesson}
 
 -- by the class text
 abbrev pub text_sentence : TextFault → Bytes → Bytes
 text_sentence text.Memory classes = []
-text_sentence text.TooLong classes = []
+text_sentence text.TooLong classes = codes "the class text is too long: it has at most 262,144 bytes\n"
 text_sentence (text.BadByte at) classes = byte_lesson (byte_at classes at) at
-text_sentence (text.OpenComment at) classes = codes "this comment has no */. Write it at the comment's end\n"
+text_sentence (text.OpenComment at) classes = codes "this comment isn't closed: write `*/` at its end\n"
 text_sentence (text.BadNumber at) classes =
-    codes "a number has decimal digits alone, no 0 in front, and is at most 2147483647\n"
+    codes "a number has only decimal digits, no 0 in front, and is at most 2147483647\n"
 text_sentence (text.Syntax at) classes = syntax_lesson classes at
 text_sentence (text.TooDeep at) classes =
-    codes "too much stands in one another here. Write a part of it as a method or a statement of its own\n"
+    codes "this is nested too deeply: make a part of it a method or a statement of its own\n"
 
 abbrev pub rule_sentence : Rule → Bytes → ℕ → Bytes
 rule_sentence rules.UnknownName classes at = name_lesson classes at
 rule_sentence rules.TwiceDeclared classes at =
-    codes "a class has one method of a name and one constructor, and a name stands once. Write another\n"
+    codes "this name is declared twice: use another. A class has one method of a name, and one constructor\n"
 rule_sentence rules.UnknownType classes at = type_lesson classes at
-rule_sentence rules.WrongType classes at = codes "another type is wanted here than this has, or this has none\n"
-rule_sentence rules.WrongArguments classes at =
-    codes "this call has another number of arguments than there are parameters\n"
-rule_sentence rules.NotAssignable classes at = codes "only a local, a field or an element can be assigned\n"
-rule_sentence rules.NoLoop classes at = codes "this stands in no loop\n"
-rule_sentence rules.UnknownLabel classes at = codes "no loop round this has that label\n"
+rule_sentence rules.WrongType classes at =
+    codes "mismatched types: this has another type than is expected here, or it has no value\n"
+rule_sentence rules.WrongArguments classes at = call_lesson classes at
+rule_sentence rules.NotAssignable classes at =
+    codes "this can't be assigned: only a local, a field or an element can\n"
+rule_sentence rules.NoLoop classes at = codes "`break` and `continue` are only allowed in a loop\n"
+rule_sentence rules.UnknownLabel classes at = codes "cannot find this label: no loop around this has it\n"
 rule_sentence rules.MissingReturn classes at =
-    codes "this method answers a value, and can end without. Of loops while (true) alone is known to go on\n"
-rule_sentence rules.ReservedClass classes at = codes "a class of the library has this name. Write another name\n"
-rule_sentence rules.Limit classes at = codes "here are more classes, fields, methods or locals than are taken\n"
+    codes "missing `return`: this method can end without a value. Only `while (true)` is known to go on\n"
+rule_sentence rules.ReservedClass classes at = codes "a class of the library has this name: use another\n"
+rule_sentence rules.Limit classes at =
+    codes "too many classes, fields, methods or locals: docs/LANGUAGE.md has the limits\n"
 
 abbrev pub check_sentence : CheckFault → Bytes → Bytes
 check_sentence check.Memory classes = []
@@ -55,30 +57,31 @@ check_sentence (check.Broken b) classes = rule_sentence b.rule classes b.span.st
 
 abbrev pub program_sentence : ProgramFault → Bytes
 program_sentence program.Memory = []
-program_sentence program.ProgramLimit = []
+program_sentence program.ProgramLimit = codes
+    "too many: a program has at most 262,144 bytes, 64 threads, and 256 calls of each and of the setup\n"
 program_sentence (program.BadProgram at) =
-    codes "a program is setup { .. } and then thread NAME { .. } as often as wanted, with calls as s.m(1);\n"
+    codes "expected `setup { .. }` and then `thread NAME { .. }` as often as wanted, with calls as `s.m(1);`\n"
 program_sentence (program.UnknownThing at) =
-    codes "no class, setup name or method has this name, or the arguments don't fit\n"
+    codes "cannot find a class, a setup name or a method of this name, or the arguments don't fit it\n"
 program_sentence (program.ReferenceResult at) =
-    codes "this method answers a reference. Call one that answers an int, a boolean or nothing\n"
+    codes "this method returns a reference: call one that returns an `int`, a `boolean` or nothing\n"
 
 abbrev pub schedule_sentence : ScheduleFault → Bytes
 schedule_sentence schedule.Memory = []
-schedule_sentence schedule.TooManySteps = []
+schedule_sentence schedule.TooManySteps = codes "too many steps: a schedule has at most 1,000,000\n"
 schedule_sentence (schedule.BadItem at) = codes
-    "an item is a name, or a name with * and a count from 1 on, as A*5; after @2 also a group, as (A*2 B)*3\n"
+    "expected a name, or a name with `*` and a count from 1, as `A*5`; after `@2` a group, as `(A*2 B)*3`\n"
 schedule_sentence (schedule.UnknownThread at) =
-    codes "no thread of the program is named so. Items name its threads, setup, or all\n"
+    codes "cannot find a thread of this name in the program: use a thread's name, `setup` or `all`\n"
 
 abbrev pub aim_sentence : AimFault → Bytes
 aim_sentence aim.Memory = []
 aim_sentence (aim.Schedule f) = schedule_sentence f
 aim_sentence (aim.NotStarted at) = codes
-    "this thread hasn't started: before it the setup has to end, as setup! lets it\n"
+    "this thread hasn't started: let the setup end first, as `setup!` does\n"
 aim_sentence (aim.NotMet at) =
-    codes "this thread ends or waits before a step with this text. trace shows the text of each step\n"
-aim_sentence (aim.TooFar at) = codes "this thread goes on without it until the schedule has 1,000,000 steps\n"
+    codes "this thread ends or waits before a step with this text: `trace` shows the text of each step\n"
+aim_sentence (aim.TooFar at) = codes "this thread doesn't come to it before the schedule has 1,000,000 steps\n"
 
 -- the class text is the first part, if there is one
 abbrev pub sentence : ToolFault → Bytes → Bytes
@@ -88,8 +91,8 @@ sentence (faults.Program f) classes = program_sentence f
 sentence (faults.Schedule f) classes = schedule_sentence f
 sentence (faults.Aim f) classes = aim_sentence f
 sentence (faults.History (history.BadHistory at)) classes =
-    codes "no history goes on so: a thread's calls are numbered 1, 2 .., and an answer follows its call\n"
-sentence (faults.Order (order.BadOrder at)) classes = codes "an item of an order is a call, as A.1\n"
+    codes "a history can't go on like this: a thread's calls are numbered 1, 2, .., and a return follows its call\n"
+sentence (faults.Order (order.BadOrder at)) classes = codes "expected a call, as `A.1`\n"
 sentence (faults.Tally (tally.BadTally at)) classes = codes
-    "here begins no line as seed 7 count 3 with a history after it and an empty line at its end\n"
+    "expected a line as `seed 7 count 3`, then a history, then an empty line\n"
 sentence _ classes = []

@@ -14,8 +14,7 @@ use std::alloc::{AllocError, Global};
 use std::fmt::Write;
 
 /// What is said if a carriage return is a part of its line.
-const RETURN_HINT: &str =
-    "lines end with a line feed alone here, and the input has carriage returns\n";
+const RETURN_HINT: &str = "unexpected carriage return: a line ends with a line feed alone here\n";
 
 /// Adds the name of the part, and the line and column of a byte.
 fn push_heading(

@@ -7,7 +7,7 @@ ghost use Rattle.ls_lessons.specs.Tokens.{byte_at};
 
 use ls_aim::fault::AimFault;
 use ls_faults::fault::ToolFault;
-use ls_lessons::{byte_at, byte_lesson, name_lesson, syntax_lesson, type_lesson};
+use ls_lessons::{byte_at, byte_lesson, call_lesson, name_lesson, syntax_lesson, type_lesson};
 use ls_lexer::fault::TextFault;
 use ls_orders::OrderFault;
 use ls_report::HistoryFault;
@@ -21,17 +21,16 @@ fn text_sentence(fault: TextFault, classes: &[u8]) -> &'static str
     ensures { result.now ≡ text_sentence fault classes.now }
 {
     match fault {
-        TextFault::Memory | TextFault::TooLong => "",
+        TextFault::Memory => "",
+        TextFault::TooLong => "the class text is too long: it has at most 262,144 bytes\n",
         TextFault::BadByte { at } => byte_lesson(byte_at(classes, at), at),
-        TextFault::OpenComment { at: _ } => {
-            "this comment has no */. Write it at the comment's end\n"
-        }
+        TextFault::OpenComment { at: _ } => { "this comment isn't closed: write `*/` at its end\n" }
         TextFault::BadNumber { at: _ } => {
-            "a number has decimal digits alone, no 0 in front, and is at most 2147483647\n"
+            "a number has only decimal digits, no 0 in front, and is at most 2147483647\n"
         }
         TextFault::Syntax { at } => syntax_lesson(classes, at),
         TextFault::TooDeep { at: _ } => {
-            "too much stands in one another here. Write a part of it as a method or a statement of its own\n"
+            "this is nested too deeply: make a part of it a method or a statement of its own\n"
         }
     }
 }
@@ -42,21 +41,21 @@ fn rule_sentence(rule: Rule, classes: &[u8], at: usize) -> &'static str
     match rule {
         Rule::UnknownName => name_lesson(classes, at),
         Rule::TwiceDeclared => {
-            "a class has one method of a name and one constructor, and a name stands once. Write another\n"
+            "this name is declared twice: use another. A class has one method of a name, and one constructor\n"
         }
         Rule::UnknownType => type_lesson(classes, at),
-        Rule::WrongType => "another type is wanted here than this has, or this has none\n",
-        Rule::WrongArguments => {
-            "this call has another number of arguments than there are parameters\n"
-        }
-        Rule::NotAssignable => "only a local, a field or an element can be assigned\n",
-        Rule::NoLoop => "this stands in no loop\n",
-        Rule::UnknownLabel => "no loop round this has that label\n",
+        Rule::WrongType =>
+            "mismatched types: this has another type than is expected here, or it has no value\n",
+        Rule::WrongArguments => call_lesson(classes, at),
+        Rule::NotAssignable => "this can't be assigned: only a local, a field or an element can\n",
+        Rule::NoLoop => "`break` and `continue` are only allowed in a loop\n",
+        Rule::UnknownLabel => "cannot find this label: no loop around this has it\n",
         Rule::MissingReturn => {
-            "this method answers a value, and can end without. Of loops while (true) alone is known to go on\n"
+            "missing `return`: this method can end without a value. Only `while (true)` is known to go on\n"
         }
-        Rule::ReservedClass => "a class of the library has this name. Write another name\n",
-        Rule::Limit => "here are more classes, fields, methods or locals than are taken\n",
+        Rule::ReservedClass => "a class of the library has this name: use another\n",
+        Rule::Limit =>
+            "too many classes, fields, methods or locals: docs/LANGUAGE.md has the limits\n",
     }
 }
 
@@ -73,15 +72,18 @@ fn program_sentence(fault: ProgramFault) -> &'static str
     ensures { result.now ≡ program_sentence fault }
 {
     match fault {
-        ProgramFault::Memory | ProgramFault::ProgramLimit => "",
+        ProgramFault::Memory => "",
+        ProgramFault::ProgramLimit => {
+            "too many: a program has at most 262,144 bytes, 64 threads, and 256 calls of each and of the setup\n"
+        }
         ProgramFault::BadProgram { at: _ } => {
-            "a program is setup { .. } and then thread NAME { .. } as often as wanted, with calls as s.m(1);\n"
+            "expected `setup { .. }` and then `thread NAME { .. }` as often as wanted, with calls as `s.m(1);`\n"
         }
         ProgramFault::UnknownThing { at: _ } => {
-            "no class, setup name or method has this name, or the arguments don't fit\n"
+            "cannot find a class, a setup name or a method of this name, or the arguments don't fit it\n"
         }
         ProgramFault::ReferenceResult { at: _ } => {
-            "this method answers a reference. Call one that answers an int, a boolean or nothing\n"
+            "this method returns a reference: call one that returns an `int`, a `boolean` or nothing\n"
         }
     }
 }
@@ -90,12 +92,13 @@ fn schedule_sentence(fault: ScheduleFault) -> &'static str
     ensures { result.now ≡ schedule_sentence fault }
 {
     match fault {
-        ScheduleFault::Memory | ScheduleFault::TooManySteps => "",
+        ScheduleFault::Memory => "",
+        ScheduleFault::TooManySteps => "too many steps: a schedule has at most 1,000,000\n",
         ScheduleFault::BadItem { at: _ } => {
-            "an item is a name, or a name with * and a count from 1 on, as A*5; after @2 also a group, as (A*2 B)*3\n"
+            "expected a name, or a name with `*` and a count from 1, as `A*5`; after `@2` a group, as `(A*2 B)*3`\n"
         }
         ScheduleFault::UnknownThread { at: _ } => {
-            "no thread of the program is named so. Items name its threads, setup, or all\n"
+            "cannot find a thread of this name in the program: use a thread's name, `setup` or `all`\n"
         }
     }
 }
@@ -107,13 +110,13 @@ fn aim_sentence(fault: AimFault) -> &'static str
         AimFault::Memory => "",
         AimFault::Schedule(fault) => schedule_sentence(fault),
         AimFault::NotStarted { at: _ } => {
-            "this thread hasn't started: before it the setup has to end, as setup! lets it\n"
+            "this thread hasn't started: let the setup end first, as `setup!` does\n"
         }
         AimFault::NotMet { at: _ } => {
-            "this thread ends or waits before a step with this text. trace shows the text of each step\n"
+            "this thread ends or waits before a step with this text: `trace` shows the text of each step\n"
         }
         AimFault::TooFar { at: _ } => {
-            "this thread goes on without it until the schedule has 1,000,000 steps\n"
+            "this thread doesn't come to it before the schedule has 1,000,000 steps\n"
         }
     }
 }
@@ -130,13 +133,11 @@ pub(crate) fn sentence(fault: ToolFault, classes: &[u8]) -> &'static str
         ToolFault::Schedule(fault) => schedule_sentence(fault),
         ToolFault::Aim(fault) => aim_sentence(fault),
         ToolFault::History(HistoryFault::BadHistory { at: _ }) => {
-            "no history goes on so: a thread's calls are numbered 1, 2 .., and an answer follows its call\n"
+            "a history can't go on like this: a thread's calls are numbered 1, 2, .., and a return follows its call\n"
         }
-        ToolFault::Order(OrderFault::BadOrder { at: _ }) => {
-            "an item of an order is a call, as A.1\n"
-        }
+        ToolFault::Order(OrderFault::BadOrder { at: _ }) => { "expected a call, as `A.1`\n" }
         ToolFault::Tally(TallyFault::BadTally { at: _ }) => {
-            "here begins no line as seed 7 count 3 with a history after it and an empty line at its end\n"
+            "expected a line as `seed 7 count 3`, then a history, then an empty line\n"
         }
         _ => "",
     }

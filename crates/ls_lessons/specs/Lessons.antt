@@ -3,10 +3,10 @@ use Rattle.std.specs.Prelude.{ℕ, ◌+◌, ◌==◌, ◌&&◌, ◌||◌, nat_le
 use Rattle.std.specs.Prelude.{if◌then◌else◌}
 use Rattle.std.specs.List.{list_any}
 use Rattle.std.specs.Str.{bytes_eq}
-use Rattle.ls_lessons.specs.Tokens.{Bytes, byte_at, front_name, gap, last_byte, last_name, trimmed}
+use Rattle.ls_lessons.specs.Tokens.{Bytes, byte_at, called_name, front_name, gap, last_byte, last_name, trimmed}
 use Rattle.ls_lessons.specs.Words.{member_lesson}
-use Rattle.ls_lessons.specs.Types.{atomic_lesson}
-use Rattle.ls_lessons.specs.Names.{method_lesson}
+use Rattle.ls_lessons.specs.Types.{atomic_lesson, key_lesson}
+use Rattle.ls_lessons.specs.Names.{method_lesson, pair_lesson}
 use Rattle.ls_lessons.specs.Signs.{operator_lesson}
 
 -- the first text, or the other if the first is empty
@@ -18,10 +18,11 @@ or_else (b ∷ bs) other = b ∷ bs
 abbrev pub word_lesson : Bytes → ℕ → Bytes
 word_lesson name last =
     if bytes_eq name (codes "class")
-    then (if last == 46 then codes "a class is no value. Write an object, as in synchronized (this)\n"
-    else codes "no class stands in a class. Write it beside the other, and hand it what it uses of that\n")
+    then (if last == 46 then codes "`.class` isn't supported: lock an object, as in `synchronized (this)`\n"
+    else codes
+    "nested classes aren't supported: move this class beside the other, and pass it the objects that it uses\n")
     else (if (bytes_eq name (codes "int") || bytes_eq name (codes "boolean")) && last == 40
-    then codes "no cast is taken. Leave it out\n"
+    then codes "casts aren't supported: remove this one\n"
     else member_lesson name)
 
 -- if `<` comes after the name of a class of the library, it tells of that class
@@ -39,7 +40,7 @@ lacks_semicolon before between from_on =
 
 abbrev pub semicolon_lesson : Bytes → Bytes → Bytes → Bytes
 semicolon_lesson before between from_on =
-    if lacks_semicolon before between from_on then codes "perhaps a ; is missing before this\n" else []
+    if lacks_semicolon before between from_on then codes "expected `;` before this\n" else []
 
 -- of a token that can't come where it is
 abbrev pub token_lesson : Bytes → Bytes → Bytes → Bytes
@@ -61,20 +62,30 @@ syntax_lesson text at = lesson_between (take at text) (drop at text)
 abbrev pub byte_lesson : ℕ → ℕ → Bytes
 byte_lesson byte at =
     if byte == 34
-    then codes "no text in quotes is taken. Leave out what prints it: histories and traces tell what was done\n"
-    else (if byte == 39 then codes "no character is taken. Write a number\n"
-    else (if byte == 239 && at == 0 then codes "the text begins with a byte order mark. Save it without one\n"
-    else (if nat_le 128 byte then codes "outside of comments all is ASCII. Write names of the letters A to Z\n"
+    then codes "strings aren't supported: remove what prints this. Histories and traces show what each step does\n"
+    else (if byte == 39 then codes "`char` values aren't supported: use an `int`\n"
+    else (if byte == 239 && at == 0 then codes "unexpected byte order mark: save the file as UTF-8 without one\n"
+    else (if nat_le 128 byte then codes "only ASCII is allowed outside of comments: use the letters A to Z in names\n"
     else [])))
+
+-- of a name that is no type
+abbrev pub class_lesson : Bytes → Bytes
+class_lesson name =
+    or_else (or_else (key_lesson name) (atomic_lesson name))
+    (codes "cannot find this class in the text or the library (Lock, ReentrantLock, AtomicMarkableReference)\n")
 
 -- of a type that doesn't exist
 abbrev pub type_lesson : Bytes → ℕ → Bytes
-type_lesson text at =
-    or_else (atomic_lesson (front_name (drop at text)))
-    (codes "neither the text nor the library (Lock, ReentrantLock, AtomicMarkableReference) has this class\n")
+type_lesson text at = class_lesson (front_name (drop at text))
+
+-- of a call with another number of arguments than there are parameters
+abbrev pub call_lesson : Bytes → ℕ → Bytes
+call_lesson text at =
+    or_else (pair_lesson (called_name (drop at text)))
+    (codes "this call has another number of arguments than the declaration has parameters\n")
 
 -- of a name that names nothing there
 abbrev pub name_lesson : Bytes → ℕ → Bytes
 name_lesson text at =
     or_else (method_lesson (front_name (drop at text)))
-    (codes "no local that is in scope here, field or method of that class has this name\n")
+    (codes "cannot find this name: no local in scope, no field and no method of that class has it\n")

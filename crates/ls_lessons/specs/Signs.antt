@@ -6,43 +6,50 @@ use Rattle.ls_lessons.specs.Tokens.{Bytes}
 abbrev pub other_sign_lesson : ℕ → ℕ → ℕ → Bytes
 other_sign_lesson sign next last =
     if sign == 63
-    then codes "the choice ? : isn't taken. Write if (..) .. else ..\n"
+    then codes "`? :` isn't supported: use `if (..) .. else ..`\n"
     else (if sign == 58
-    then codes "no loop over a collection is taken. Write for (..; ..; ..), or while and next\n"
+    then codes "for-each loops aren't supported: use `for (..; ..; ..)`, or `while` and a field `next`\n"
     else (if sign == 61
-    then codes "an assignment is a statement of its own. Write it before this one\n"
+    then codes "an assignment can't be a part of an expression: make it a statement before this one\n"
     else (if sign == 59 && last == 125
-    then codes "no ; stands after a class. Leave it out\n"
+    then codes "unexpected `;` after a class: remove it\n"
+    else (if sign == 46 && next == 46
+    then codes "a variable number of arguments isn't supported: declare each parameter\n"
     else (if sign == 0
-    then codes "the text ends here. Perhaps a } is missing\n"
-    else []))))
+    then codes "unexpected end of the text: a `}` may be missing\n"
+    else [])))))
 
 abbrev pub bracket_lesson : ℕ → ℕ → ℕ → Bytes
 bracket_lesson sign next last =
     if sign == 60
-    then codes "of classes only AtomicMarkableReference has a type in < >. Leave it out, and write int for its T\n"
+    then codes "only AtomicMarkableReference takes a type in `< >`: remove it, and use `int` for `T`\n"
     else (if sign == 62 && last == 60
-    then codes "the type in < > is named, as in new AtomicMarkableReference<Node>(..)\n"
+    then codes "expected a type in `< >`, as in `new AtomicMarkableReference<Node>(..)`\n"
     else (if sign == 91
-    then codes "of arrays boolean[] alone is taken. Write linked objects, or a field for each element\n"
+    then codes
+    "only arrays `boolean[]` are supported: use linked objects, or a field for each element (`int e0; int e1;`)\n"
     else (if sign == 123 && last == 61
-    then codes "elements aren't listed. Write new boolean[n], and assign each\n"
+    then codes "a list of elements isn't supported: use `new boolean[n]`, and assign each element\n"
+    else (if sign == 123 && last == 58
+    then codes "only a loop can have a label: remove this one\n"
+    else (if sign == 123 && (last == 59 || last == 123 || last == 125)
+    then codes "initializer blocks aren't supported: use a constructor\n"
     else (if sign == 41 && last == 40
-    then codes "no lambda is taken. Threads are those of the thread program: thread A { c.m(); }\n"
+    then codes "lambdas aren't supported: threads stand in the thread program, as `thread A { c.m(); }`\n"
     else (if sign == 40
-    then codes "no call stands here. Leave super(..), this(..) and the arguments of an annotation out\n"
-    else other_sign_lesson sign next last)))))
+    then codes "no call is allowed here: remove `super(..)`, `this(..)` and the arguments of an annotation\n"
+    else other_sign_lesson sign next last)))))))
 
 abbrev pub operator_lesson : ℕ → ℕ → ℕ → Bytes
 operator_lesson sign next last =
     if (sign == 43 || sign == 45) && next == sign
-    then codes "++ and -- are statements of their own. Write it before or after this one\n"
+    then codes "`++` and `--` can't be a part of an expression: make it a statement before or after this one\n"
     else (if sign == 45 && next == 62
-    then codes "no lambda is taken. Threads are those of the thread program: thread A { c.m(); }\n"
+    then codes "lambdas aren't supported: threads stand in the thread program, as `thread A { c.m(); }`\n"
     else (if (sign == 45 || sign == 42 || sign == 47 || sign == 37) && next == 61
-    then codes "this assignment isn't taken. Write n = n - e for n -= e, and so for the others\n"
+    then codes "only `=` and `+=` are supported: write `n = n - e` for `n -= e`, and so for the others\n"
     else (if sign == 38 || sign == 124 || sign == 94 || sign == 126
-    then codes "bits aren't joined. Of booleans write &&, ||, and != for ^\n"
+    then codes "bitwise operators aren't supported: of booleans use `&&`, `||`, and `!=` for `^`\n"
     else (if (sign == 60 || sign == 62) && next == sign
-    then codes "bits aren't shifted. Write * or / and a number\n"
+    then codes "shifts aren't supported: use `*` or `/` and a number\n"
     else bracket_lesson sign next last))))

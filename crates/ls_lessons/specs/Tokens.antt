@@ -30,6 +30,13 @@ gap text = drop (length text - suffix_len is_white text) text
 abbrev pub last_name : Bytes → Bytes
 last_name text = drop (length text - suffix_len is_part text) text
 
+abbrev pub opens : ℕ → Bool
+opens b = b == 40
+
+-- the name of the method that a call begins with: the last one before its first parenthesis
+abbrev pub called_name : Bytes → Bytes
+called_name text = last_name (before_first opens text)
+
 -- a byte of a text, or 0 if there is none
 abbrev pub byte_at : Bytes → ℕ → ℕ
 byte_at text at = option_map_or (λ b. b) (slice_get text at) 0

@@ -1,14 +1,15 @@
 // What is said of a fault of a class text, by the text at its place.
 
 ghost use Rattle.std.specs.Prelude.{◌≡◌};
-ghost use Rattle.ls_lessons.specs.Lessons.{byte_lesson, lacks_semicolon, lesson_between, name_lesson, or_else};
+ghost use Rattle.ls_lessons.specs.Lessons.{byte_lesson, call_lesson, class_lesson, lacks_semicolon, lesson_between};
+ghost use Rattle.ls_lessons.specs.Lessons.{name_lesson, or_else};
 ghost use Rattle.ls_lessons.specs.Lessons.{semicolon_lesson, sign_lesson, syntax_lesson, token_lesson, type_lesson};
 ghost use Rattle.ls_lessons.specs.Lessons.{word_lesson};
 
-use crate::names::method_lesson;
+use crate::names::{method_lesson, pair_lesson};
 use crate::signs::operator_lesson;
-use crate::tokens::{Cut, byte_at, cut_at, end_of, front_name, last_byte, last_name};
-use crate::types::atomic_lesson;
+use crate::tokens::{Cut, byte_at, called_name, cut_at, end_of, front_name, last_byte, last_name};
+use crate::types::{atomic_lesson, key_lesson};
 use crate::words::member_lesson;
 
 /// The first text, or the other if the first is empty.
@@ -23,12 +24,12 @@ fn word_lesson(name: &[u8], last: u8) -> &'static str
 {
     if name == b"class".as_slice() {
         if last == b'.' {
-            "a class is no value. Write an object, as in synchronized (this)\n"
+            "`.class` isn't supported: lock an object, as in `synchronized (this)`\n"
         } else {
-            "no class stands in a class. Write it beside the other, and hand it what it uses of that\n"
+            "nested classes aren't supported: move this class beside the other, and pass it the objects that it uses\n"
         }
     } else if (name == b"int".as_slice() || name == b"boolean".as_slice()) && last == b'(' {
-        "no cast is taken. Leave it out\n"
+        "casts aren't supported: remove this one\n"
     } else {
         member_lesson(name)
     }
@@ -63,7 +64,7 @@ fn semicolon_lesson(before: &[u8], between: &[u8], from_on: &[u8]) -> &'static s
     ensures { result.now ≡ semicolon_lesson before.now between.now from_on.now }
 {
     if lacks_semicolon(before, between, from_on) {
-        "perhaps a ; is missing before this\n"
+        "expected `;` before this\n"
     } else {
         ""
     }
@@ -102,16 +103,27 @@ pub fn byte_lesson(byte: u8, at: usize) -> &'static str
     ensures { result.now ≡ byte_lesson byte at }
 {
     if byte == b'"' {
-        "no text in quotes is taken. Leave out what prints it: histories and traces tell what was done\n"
+        "strings aren't supported: remove what prints this. Histories and traces show what each step does\n"
     } else if byte == b'\'' {
-        "no character is taken. Write a number\n"
+        "`char` values aren't supported: use an `int`\n"
     } else if byte == 239 && at == 0 {
-        "the text begins with a byte order mark. Save it without one\n"
+        "unexpected byte order mark: save the file as UTF-8 without one\n"
     } else if byte >= 128 {
-        "outside of comments all is ASCII. Write names of the letters A to Z\n"
+        "only ASCII is allowed outside of comments: use the letters A to Z in names\n"
     } else {
         ""
     }
+}
+
+/// What is said of a name that is no type.
+fn class_lesson(name: &[u8]) -> &'static str
+    ensures { result.now ≡ class_lesson name.now }
+{
+    let own = or_else(key_lesson(name), atomic_lesson(name));
+    or_else(
+        own,
+        "cannot find this class in the text or the library (Lock, ReentrantLock, AtomicMarkableReference)\n",
+    )
 }
 
 /// What is said of a type that doesn't exist (12).
@@ -119,9 +131,17 @@ pub fn type_lesson(text: &[u8], at: usize) -> &'static str
     ensures { result.now ≡ type_lesson text.now at }
 {
     let Cut { gone: _, left } = cut_at(text, at);
+    class_lesson(front_name(left))
+}
+
+/// What is said of a call with another number of arguments (14).
+pub fn call_lesson(text: &[u8], at: usize) -> &'static str
+    ensures { result.now ≡ call_lesson text.now at }
+{
+    let Cut { gone: _, left } = cut_at(text, at);
     or_else(
-        atomic_lesson(front_name(left)),
-        "neither the text nor the library (Lock, ReentrantLock, AtomicMarkableReference) has this class\n",
+        pair_lesson(called_name(left)),
+        "this call has another number of arguments than the declaration has parameters\n",
     )
 }
 
@@ -132,6 +152,6 @@ pub fn name_lesson(text: &[u8], at: usize) -> &'static str
     let Cut { gone: _, left } = cut_at(text, at);
     or_else(
         method_lesson(front_name(left)),
-        "no local that is in scope here, field or method of that class has this name\n",
+        "cannot find this name: no local in scope, no field and no method of that class has it\n",
     )
 }

@@ -8,5 +8,5 @@ mod tokens;
 mod types;
 mod words;
 
-pub use lessons::{byte_lesson, name_lesson, syntax_lesson, type_lesson};
+pub use lessons::{byte_lesson, call_lesson, name_lesson, syntax_lesson, type_lesson};
 pub use tokens::byte_at;

@@ -9,15 +9,17 @@ fn other_sign_lesson(sign: u8, next: u8, last: u8) -> &'static str
     ensures { result.now ≡ other_sign_lesson sign next last }
 {
     if sign == b'?' {
-        "the choice ? : isn't taken. Write if (..) .. else ..\n"
+        "`? :` isn't supported: use `if (..) .. else ..`\n"
     } else if sign == b':' {
-        "no loop over a collection is taken. Write for (..; ..; ..), or while and next\n"
+        "for-each loops aren't supported: use `for (..; ..; ..)`, or `while` and a field `next`\n"
     } else if sign == b'=' {
-        "an assignment is a statement of its own. Write it before this one\n"
+        "an assignment can't be a part of an expression: make it a statement before this one\n"
     } else if sign == b';' && last == b'}' {
-        "no ; stands after a class. Leave it out\n"
+        "unexpected `;` after a class: remove it\n"
+    } else if sign == b'.' && next == b'.' {
+        "a variable number of arguments isn't supported: declare each parameter\n"
     } else if sign == 0 {
-        "the text ends here. Perhaps a } is missing\n"
+        "unexpected end of the text: a `}` may be missing\n"
     } else {
         ""
     }
@@ -28,17 +30,21 @@ fn bracket_lesson(sign: u8, next: u8, last: u8) -> &'static str
     ensures { result.now ≡ bracket_lesson sign next last }
 {
     if sign == b'<' {
-        "of classes only AtomicMarkableReference has a type in < >. Leave it out, and write int for its T\n"
+        "only AtomicMarkableReference takes a type in `< >`: remove it, and use `int` for `T`\n"
     } else if sign == b'>' && last == b'<' {
-        "the type in < > is named, as in new AtomicMarkableReference<Node>(..)\n"
+        "expected a type in `< >`, as in `new AtomicMarkableReference<Node>(..)`\n"
     } else if sign == b'[' {
-        "of arrays boolean[] alone is taken. Write linked objects, or a field for each element\n"
+        "only arrays `boolean[]` are supported: use linked objects, or a field for each element (`int e0; int e1;`)\n"
     } else if sign == b'{' && last == b'=' {
-        "elements aren't listed. Write new boolean[n], and assign each\n"
+        "a list of elements isn't supported: use `new boolean[n]`, and assign each element\n"
+    } else if sign == b'{' && last == b':' {
+        "only a loop can have a label: remove this one\n"
+    } else if sign == b'{' && (last == b';' || last == b'{' || last == b'}') {
+        "initializer blocks aren't supported: use a constructor\n"
     } else if sign == b')' && last == b'(' {
-        "no lambda is taken. Threads are those of the thread program: thread A { c.m(); }\n"
+        "lambdas aren't supported: threads stand in the thread program, as `thread A { c.m(); }`\n"
     } else if sign == b'(' {
-        "no call stands here. Leave super(..), this(..) and the arguments of an annotation out\n"
+        "no call is allowed here: remove `super(..)`, `this(..)` and the arguments of an annotation\n"
     } else {
         other_sign_lesson(sign, next, last)
     }
@@ -49,15 +55,15 @@ pub(crate) fn operator_lesson(sign: u8, next: u8, last: u8) -> &'static str
     ensures { result.now ≡ operator_lesson sign next last }
 {
     if (sign == b'+' || sign == b'-') && next == sign {
-        "++ and -- are statements of their own. Write it before or after this one\n"
+        "`++` and `--` can't be a part of an expression: make it a statement before or after this one\n"
     } else if sign == b'-' && next == b'>' {
-        "no lambda is taken. Threads are those of the thread program: thread A { c.m(); }\n"
+        "lambdas aren't supported: threads stand in the thread program, as `thread A { c.m(); }`\n"
     } else if (sign == b'-' || sign == b'*' || sign == b'/' || sign == b'%') && next == b'=' {
-        "this assignment isn't taken. Write n = n - e for n -= e, and so for the others\n"
+        "only `=` and `+=` are supported: write `n = n - e` for `n -= e`, and so for the others\n"
     } else if sign == b'&' || sign == b'|' || sign == b'^' || sign == b'~' {
-        "bits aren't joined. Of booleans write &&, ||, and != for ^\n"
+        "bitwise operators aren't supported: of booleans use `&&`, `||`, and `!=` for `^`\n"
     } else if (sign == b'<' || sign == b'>') && next == sign {
-        "bits aren't shifted. Write * or / and a number\n"
+        "shifts aren't supported: use `*` or `/` and a number\n"
     } else {
         bracket_lesson(sign, next, last)
     }

@@ -1,8 +1,10 @@
 // The text around a place.
 
-ghost use Rattle.std.specs.Prelude.{◌≡◌, ◌≤◌, ◌-◌, drop, length, take};
-ghost use Rattle.std.specs.List.{suffix_len};
-ghost use Rattle.ls_lessons.specs.Tokens.{byte_at, front_name, is_part, is_white, last_byte, last_name};
+ghost use Rattle.std.specs.Prelude.{◌≡◌, ◌≤◌, ◌-◌, ◌||◌, drop, length, take};
+ghost use Rattle.std.specs.List.{before_first, suffix_len};
+ghost use Rattle.std.specs.Str.{bytes_eq};
+ghost use Rattle.ls_lessons.specs.Tokens.{byte_at, called_name, front_name, is_part, is_white, last_byte, last_name};
+ghost use Rattle.ls_lessons.specs.Tokens.{opens};
 
 /// A byte of a name or a number.
 fn is_part(b: u8) -> bool
@@ -53,6 +55,38 @@ pub(crate) fn last_name(text: &[u8]) -> &[u8]
         start -= 1;
     }
     &text[start..]
+}
+
+/// The text before the first parenthesis that opens.
+fn before_opening(text: &[u8]) -> &[u8]
+    ensures { result.now ≡ before_first opens text.now }
+{
+    let mut end = 0;
+    while end < text.len() && text[end] != b'(' {
+        end += 1;
+    }
+    &text[..end]
+}
+
+/// The name of the method that a call begins with.
+pub(crate) fn called_name(text: &[u8]) -> &[u8]
+    ensures { result.now ≡ called_name text.now }
+{
+    last_name(before_opening(text))
+}
+
+/// Whether a name is this word.
+pub(crate) fn is_word(name: &[u8], word: &[u8]) -> bool
+    ensures { result ≡ bytes_eq name.now word.now }
+{
+    name == word
+}
+
+/// Whether a name is one of these words.
+pub(crate) fn is_either(name: &[u8], word: &[u8], other: &[u8]) -> bool
+    ensures { result ≡ (bytes_eq name.now word.now || bytes_eq name.now other.now) }
+{
+    name == word || name == other
 }
 
 /// A byte of a text, or 0 if there is none.

@@ -8,9 +8,9 @@ fn operand_lesson(name: &[u8]) -> &'static str
     ensures { result.now ≡ operand_lesson name.now }
 {
     if name == b"super".as_slice() {
-        "no class extends another. Leave super out\n"
+        "a class can't extend another: remove `super`\n"
     } else if name == b"instanceof".as_slice() {
-        "an object isn't asked for its class. Leave instanceof out\n"
+        "`instanceof` isn't supported: remove it, or keep what the object is in a field\n"
     } else if name == b"long".as_slice()
         || name == b"short".as_slice()
         || name == b"byte".as_slice()
@@ -18,7 +18,7 @@ fn operand_lesson(name: &[u8]) -> &'static str
         || name == b"float".as_slice()
         || name == b"double".as_slice()
     {
-        "of the simple types int and boolean alone are taken. Write int\n"
+        "this type isn't supported: use `int`\n"
     } else {
         ""
     }
@@ -29,15 +29,17 @@ fn statement_lesson(name: &[u8]) -> &'static str
     ensures { result.now ≡ statement_lesson name.now }
 {
     if name == b"switch".as_slice() || name == b"case".as_slice() || name == b"default".as_slice() {
-        "switch isn't taken. Write if (..) .. else if (..) .. else ..\n"
+        "`switch` isn't supported: use `if (..) .. else if (..) .. else ..`\n"
     } else if name == b"do".as_slice() {
-        "do isn't taken. Write while (true) { .. if (!(c)) break; }\n"
+        "`do` isn't supported: use `while (true) { .. if (!(c)) break; }`\n"
     } else if name == b"catch".as_slice() {
-        "no exception can be caught. Leave catch out, and test before; finally is taken\n"
+        "`catch` isn't supported: remove it, and test before the call. `finally` is supported\n"
     } else if name == b"throw".as_slice() {
-        "throw isn't taken. Answer a value that says so; return 1 / 0; ends a call by an exception\n"
+        "`throw` isn't supported: return a value that says so. `return 1 / 0;` ends a call by an exception\n"
     } else if name == b"assert".as_slice() {
-        "assert isn't taken. Leave it out\n"
+        "`assert` isn't supported: remove it\n"
+    } else if name == b"setup".as_slice() || name == b"thread".as_slice() {
+        "expected the class text here: it comes before the thread program\n"
     } else {
         operand_lesson(name)
     }
@@ -48,22 +50,24 @@ pub(crate) fn member_lesson(name: &[u8]) -> &'static str
     ensures { result.now ≡ member_lesson name.now }
 {
     if name == b"static".as_slice() {
-        "static isn't taken. Write a member of an object of the setup, and a class in a class beside it\n"
+        "`static` isn't supported: make it a member of an object that the setup creates, or a class beside this one\n"
     } else if name == b"interface".as_slice()
         || name == b"abstract".as_slice()
         || name == b"extends".as_slice()
         || name == b"implements".as_slice()
     {
-        "a class stands alone. Leave this out, and write all that is used into the one class\n"
+        "a class can't have supertypes: remove this, and put all members that are used into the one class\n"
     } else if name == b"enum".as_slice() {
-        "no enum is taken. Write ints\n"
+        "`enum` isn't supported: use an `int` for each value\n"
+    } else if name == b"record".as_slice() {
+        "`record` isn't supported: use a class with fields and a constructor\n"
     } else if name == b"throws".as_slice() {
-        "exceptions aren't declared. Leave throws and its names out\n"
+        "`throws` isn't supported: remove it and the names after it\n"
     } else if name == b"native".as_slice()
         || name == b"transient".as_slice()
         || name == b"strictfp".as_slice()
     {
-        "this modifier isn't taken. Leave it out\n"
+        "this modifier isn't supported: remove it\n"
     } else {
         statement_lesson(name)
     }
