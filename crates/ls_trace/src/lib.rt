@@ -6,7 +6,7 @@ mod fold;
 mod folding;
 mod heads;
 mod manner;
-mod teller;
+pub mod teller;
 mod telling;
 mod tens;
 

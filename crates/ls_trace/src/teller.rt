@@ -39,7 +39,7 @@ pub struct Teller<'a> {
 }
 
 /// No calls or steps yet, for each thread.
-pub(crate) fn no_steps(alloc: Global, threads: &[ThreadProgram]) -> Result<Vec<usize>, AllocError>
+pub fn no_steps(alloc: Global, threads: &[ThreadProgram]) -> Result<Vec<usize>, AllocError>
     ensures { IfOk result (λ v. v.items ≡ map (λ t. 0) threads.now) }
 {
     let mut calls = Vec::new(alloc);
@@ -49,9 +49,9 @@ pub(crate) fn no_steps(alloc: Global, threads: &[ThreadProgram]) -> Result<Vec<u
     Ok(calls)
 }
 
-// The label of a new object and the number of a call are kept. Where memory is short, nothing is.
+/// The label of a new object and the number of a call are kept. Where memory is short, nothing is.
 #[inline(always)]
-fn note(
+pub fn note(
     labels: &mut Vec<Label>,
     calls: &mut Vec<usize>,
     thread: usize,
@@ -262,7 +262,7 @@ impl<'a> Teller<'a> {
     }
 
     /// Adds what is told of the step that the run has just made, by its thread and what it did.
-    pub(crate) fn push_step(
+    pub fn push_step(
         &mut self,
         alloc: Global,
         out: &mut String,

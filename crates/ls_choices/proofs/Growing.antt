@@ -1,0 +1,100 @@
+-- Rows, as there are more of them and more states are kept.
+use Rattle.std.proofs.Common.{◌≡◌, ℕ, zero, suc, ◌<◌, ◌≤◌, List, [], ◌∷◌, ◌++◌, length, refl, sym, ap, ◌∙◌, subst}
+use Rattle.std.proofs.Common.{◌⊎◌, ◌+◌, inl, inr, Some, arith, length-append}
+use Rattle.std.specs.Prelude.{map, slice_get}
+use Rattle.std.proofs.lemmas.List.{length-map, map-append}
+use Rattle.ls_labels.specs.Names.{Names}
+use Rattle.ls_trace.specs.Told.{Told}
+use Rattle.ls_transitions.specs.Tables.{Keeps}
+use Rattle.ls_transitions.proofs.Keeping.{below, still_below, there}
+use Rattle.ls_choices.specs.Schedules.{told_after}
+use Rattle.ls_choices.specs.Rows.{AreRows, AreRowsOfAll, IsRow, Row}
+use Rattle.ls_choices.specs.Seen.{AreSeen, path_of, row_of}
+use Rattle.ls_choices.specs.declared.points.Point.{Point}
+use Rattle.ls_choices.specs.declared.rows.Row.{Row as KeptRow}
+use Rattle.ls_choices.proofs.Seeing.{keeps_mapped, rows_keep}
+
+-- what stands in a list with one more item, and where
+pushed_at : {A : Type 0} (xs : List A) (x : A) (i : ℕ) (y : A) → slice_get (xs ++ x ∷ []) i ≡ Some y →
+    (slice_get xs i ≡ Some y) ⊎ ((i ≡ length xs) × (x ≡ y))
+pushed_at [] x zero y h = inr (refl, cc)
+pushed_at [] x (suc i) y h = cc
+pushed_at (z ∷ zs) x zero y h = inl h
+pushed_at (z ∷ zs) x (suc i) y h = more (pushed_at zs x i y h)
+  where
+    more : (slice_get zs i ≡ Some y) ⊎ ((i ≡ length zs) × (x ≡ y)) →
+        (slice_get zs i ≡ Some y) ⊎ ((suc i ≡ suc (length zs)) × (x ≡ y))
+    more (inl e) = inl e
+    more (inr e) = inr (ap suc e.0, e.1)
+
+pub keeps_then : {A : Type 0} (xs ys zs : List A) → Keeps xs ys → Keeps ys zs → Keeps xs zs
+keeps_then xs ys zs k l n x e = l n x (k n x e)
+
+-- the row of one more thread
+pub rows_more : (names : Names) (paths : List (List ℕ)) (r : Told) (rows rows' : List KeptRow) (new : KeptRow) (t : ℕ) →
+    rows' ≡ rows ++ new ∷ [] → t ≡ length rows →
+    AreRows names paths r (map row_of rows) → IsRow names paths r t (row_of new) →
+    AreRows names paths r (map row_of rows')
+rows_more names paths r rows rows' new t e is h here u row at =
+    by_cases (pushed_at (map row_of rows) (row_of new) u row
+    (ap (λ l. slice_get l u) (sym (ap (map row_of) e ∙ map-append row_of rows (new ∷ []))) ∙ at))
+  where
+    by_cases : (slice_get (map row_of rows) u ≡ Some row) ⊎ ((u ≡ length (map row_of rows)) × (row_of new ≡ row)) →
+        IsRow names paths r u row
+    by_cases (inl old) = h u row old
+    by_cases (inr w) =
+        let same : t ≡ u = is ∙ sym (length-map rows row_of) ∙ sym w.0 in
+        subst (λ x. IsRow names paths r x row) same (subst (λ x. IsRow names paths r t x) w.1 here)
+
+-- the rows of one more state
+pub all_more : (names : Names) (ps qs : List (List ℕ)) (all all' : List (List Row)) (new : List Row) →
+    Keeps ps qs → length all ≤ length ps → all' ≡ all ++ new ∷ [] → AreRowsOfAll names ps all →
+    ((path : List ℕ) → slice_get qs (length all) ≡ Some path → AreRows names qs (told_after names path) new) →
+    AreRowsOfAll names qs all'
+all_more names ps qs all all' new k few e h here n path rows found at =
+    by_cases (pushed_at all new n rows (ap (λ l. slice_get l n) (sym e) ∙ at))
+  where
+    by_cases : (slice_get all n ≡ Some rows) ⊎ ((n ≡ length all) × (new ≡ rows)) →
+        AreRows names qs (told_after names path) rows
+    by_cases (inl old) =
+        let within = below all n rows old in
+        let was = there ps n (omega (arith, within, few)) in
+        let same : was.0 ≡ path = let now = k n was.0 was.1 in cc in
+        subst (λ p. AreRows names qs (told_after names p) rows) same
+        (rows_keep names ps qs (told_after names was.0) rows k (h n was.0 rows was.1 old))
+    by_cases (inr w) =
+        subst (AreRows names qs (told_after names path)) w.1 (here path (ap (slice_get qs) (sym w.0) ∙ found))
+
+-- a graph of which some states have no rows yet
+pub record IsOnTheWay (names : Names) (first : List ℕ) (points : List Point) (all : List (List Row)) : Type 0 where
+  pub begins : slice_get (map path_of points) 0 ≡ Some first
+  pub seen : AreSeen names points
+  pub few : length all ≤ length points
+  pub rows : AreRowsOfAll names (map path_of points) all
+
+-- with the rows of one more state
+pub goes_on : (names : Names) (first : List ℕ) (xs ys : List Point) (all all' : List (List Row)) (new : List Row) →
+    IsOnTheWay names first xs all → Keeps xs ys → AreSeen names ys → length all < length xs → all' ≡ all ++ new ∷ [] →
+    ((path : List ℕ) → slice_get (map path_of ys) (length all) ≡ Some path →
+    AreRows names (map path_of ys) (told_after names path) new) →
+    IsOnTheWay names first ys all'
+goes_on names first xs ys all all' new h k seen within e here =
+    let paths = keeps_mapped path_of xs ys k in
+    let more = still_below xs ys (length all) k within in
+    let longer : length all' ≡ length all + 1 = ap length e ∙ length-append all (new ∷ []) in
+    record {
+      begins = paths 0 first h.begins;
+      seen = seen;
+      few = omega (arith, more, longer);
+      rows = all_more names (map path_of xs) (map path_of ys) all all' new paths
+          (omega (arith, h.few, length-map xs path_of)) e h.rows here;
+    }
+
+pub nothing_yet : (names : Names) (first : List ℕ) (points : List Point) →
+    slice_get (map path_of points) 0 ≡ Some first → AreSeen names points → IsOnTheWay names first points []
+nothing_yet names first points begins seen = record {
+  begins = begins;
+  seen = seen;
+  few = omega arith;
+  rows = λ n path rows found at. cc;
+}

@@ -1,0 +1,7 @@
+pub mod Steps
+pub mod Words
+pub mod Tracing
+pub mod Leading
+pub mod Walking
+pub mod Seeing
+pub mod Growing

@@ -1,0 +1,29 @@
+use Rattle.std.proofs.Common.{◌≡◌, [], ◌∷◌, ◌++◌, ◌+◌, ◌∙◌, ap, arith, length, length-append}
+use Rattle.std.specs.Prelude.{map}
+use Rattle.ls_labels.specs.Names.{names_of}
+use Rattle.ls_choices.specs.Schedules.{told_after}
+use Rattle.ls_choices.specs.Seen.{path_of, row_of}
+use Rattle.ls_choices.proofs.Growing.{keeps_then, rows_more}
+use Rattle.ls_choices.proofs.Seeing.{keeps_mapped, rows_keep}
+use Rattle.ls_choices.proofs.rows.rows_after.Goals as goal
+
+pub loop-thread-preserved : goal.loop-thread-preserved
+loop-thread-preserved c =
+    let names = names_of c.args.names in
+    let r = told_after names c.args.steps.now in
+    let inv = c.loop-thread.invariant in
+    let xs = c.loop-thread.points.points.items in
+    let ys = c.row_of_thread.new.points.points.items in
+    let old = c.loop-thread.rows.items in
+    let new = c.in_ok-row_of_thread.field-0 in
+    let more = c.in_ok-row_of_thread.ensures in
+    let pushed : c.push.new.self.items ≡ old ++ new ∷ [] = c.in_ok-push.ensures.items in
+    let longer : length c.push.new.self.items ≡ length old + 1 = ap length pushed ∙ length-append old (new ∷ []) in
+    record {
+      count = omega (arith, inv.count, longer);
+      rows = rows_more names (map path_of ys) r old c.push.new.self.items new c.loop-thread.thread pushed inv.count
+          (rows_keep names (map path_of xs) (map path_of ys) r (map row_of old) (keeps_mapped path_of xs ys more.keeps)
+          inv.rows) more.row;
+      seen = more.seen;
+      keeps = keeps_then c.args.points.now.points.items xs ys inv.keeps more.keeps;
+    }

@@ -1,0 +1,17 @@
+use Rattle.std.proofs.Common.{◌≡◌, length}
+use Rattle.std.specs.Prelude.{map}
+use Rattle.ls_labels.specs.Names.{names_of}
+use Rattle.ls_transitions.specs.Tables.{Keeps}
+use Rattle.ls_choices.specs.Rows.{AreRows}
+use Rattle.ls_choices.specs.Schedules.{told_after}
+use Rattle.ls_choices.specs.Seen.{AreSeen, path_of, row_of}
+use Rattle.ls_choices.proofs.rows.rows_after.Given as goal
+
+abbrev pub invariant-loop-thread : goal.invariant-loop-thread
+invariant-loop-thread l = record {
+  count : l.thread ≡ length l.rows.items;
+  rows : AreRows (names_of l.fn.names) (map path_of l.points.points.items)
+      (told_after (names_of l.fn.names) l.steps) (map row_of l.rows.items);
+  seen : AreSeen (names_of l.fn.names) l.points.points.items;
+  keeps : Keeps l.fn.points.points.items l.points.points.items;
+}

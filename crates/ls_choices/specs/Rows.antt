@@ -1,0 +1,46 @@
+-- The states that are kept, and the next step of each thread in them.
+use Rattle.std.specs.Prelude.{◌≡◌, ℕ, Bool, List, Option, Some, slice_get}
+use Rattle.ls_report.specs.Events.{Text}
+use Rattle.ls_labels.specs.Names.{Names}
+use Rattle.ls_trace.specs.Told.{Told, after_step}
+use Rattle.ls_choices.specs.Schedules.{acts, told_after, words_of}
+use Rattle.ls_choices.specs.Alike.{Alike}
+
+-- a step of a thread: what is told of it, whether it does anything, and the number of the state after it, if that is
+-- kept
+pub record Row : Type 0 where
+  pub words : Text
+  pub acts : Bool
+  pub to : Option ℕ
+
+-- for each state the schedule by which it was found first, and a row for each thread, the setup first
+pub record Graph : Type 0 where
+  pub paths : List (List ℕ)
+  pub rows : List (List Row)
+
+-- the state of this number is like that after a run
+pub record LeadsTo (names : Names) (paths : List (List ℕ)) (r : Told) (number : ℕ) : Type 0 where
+  pub path : List ℕ
+  pub found : slice_get paths number ≡ Some path
+  pub alike : Alike names r (told_after names path)
+
+-- the row of a thread after a run
+pub record IsRow (names : Names) (paths : List (List ℕ)) (r : Told) (thread : ℕ) (row : Row) : Type 0 where
+  pub words : row.words ≡ words_of names r thread
+  pub acts : row.acts ≡ acts names r thread
+  pub leads : (number : ℕ) → row.to ≡ Some number → LeadsTo names paths (after_step names r thread) number
+
+-- the rows of the threads after a run
+abbrev pub AreRows : Names → List (List ℕ) → Told → List Row → Type 0
+AreRows names paths r rows = (thread : ℕ) (row : Row) → slice_get rows thread ≡ Some row →
+    IsRow names paths r thread row
+
+-- the rows of each state
+abbrev pub AreRowsOfAll : Names → List (List ℕ) → List (List Row) → Type 0
+AreRowsOfAll names paths all = (number : ℕ) (path : List ℕ) (rows : List Row) → slice_get paths number ≡ Some path →
+    slice_get all number ≡ Some rows → AreRows names paths (told_after names path) rows
+
+-- the graph of a program's states from the end of a schedule on
+pub record IsGraphFrom (names : Names) (first : List ℕ) (g : Graph) : Type 0 where
+  pub begins : slice_get g.paths 0 ≡ Some first
+  pub rows : AreRowsOfAll names g.paths g.rows
