@@ -1,5 +1,5 @@
 #!/usr/bin/env python3
-"""from_java [--program P] [--seed N] [--count N] [WORD..] (taken | jvm | cut): what scripts/from-java makes of texts.
+"""from_java [--program P] [--seed N] [--count N] [WORD..] (taken | jvm | cut): what scripts/make/from-java makes of texts.
 
 The texts are those of tests/from-java: `books` has the book's five lists as it prints them, and Rules.java, which uses
 each rule; `course` has texts as students write them. `taken`: `compile` takes what comes out, but of the texts that the
@@ -18,7 +18,7 @@ import tempfile
 
 from tool import PROGRAM, TOP
 
-SCRIPT = f"{TOP}/scripts/from-java"
+SCRIPT = f"{TOP}/scripts/make/from-java"
 TEXTS = f"{TOP}/tests/from-java"
 # Texts that name what isn't there, and the fault with which `compile` says so.
 LEFT = {"04-BoundedQueue-book": 12, "11-Peterson": 10, "13-BoundedBufferWaitNotify": 10}

@@ -1,10 +1,12 @@
 #!/usr/bin/env python3
-"""verdicts [--program P] [--seed N] [--count N]: whether `explore` says of each history rightly if it is linearizable.
+"""verdicts [--program P] [--seed N] [--count N]: whether `explore` and `batch --judge` say of each history rightly if it is linearizable.
 
 Each case is a class of counters, stacks, queues, sets, locks or markable references, right or broken, and a random program of two or
 three threads. All orders of whole calls are run by `trace`, one call after another, so no exploration is asked for them. A history is
-linearizable exactly if one of these runs explains it. Of each row of `explore`: `linearizable` and `not linearizable` stand where they
-should, nothing where the exploration is no whole one, and the last line counts them. Ends with status 1 if something is wrong."""
+linearizable exactly if one of these runs explains it. Of each row of `explore`, of an exploration that is cut too, and of each history of
+`batch --judge`: `linearizable` and `not linearizable` stand where they should, and the last line of `explore` counts them. If a call alone
+goes on and on, `explore` may say nothing of a history and `batch` `not judged`. `explore --verdict` prints a run that is wrong as it says,
+and none only if no row of a whole exploration is wrong. Ends with status 1 if something is wrong."""
 import argparse
 import random
 import re
@@ -12,7 +14,8 @@ import sys
 
 from tool import PROGRAM, joined, keep, run
 
-STATES, ALONE = "60000", 400
+STATES, CUT, ALONE = "60000", "40", 400
+SAMPLES = ["--seed", "1", "--count", "200", "--steps", "300", "--switch", "5", "--judge"]
 EVENT = re.compile(r"(\w+)\.(\d+) (call|return|trap) ?(.*)")
 TRACED = re.compile(r"\d+ (\w+)\.(\d+) (call|return|trap)\b ?(.*)")
 END = re.compile(r"states \d+ histories \d+( illegal (\d+))?( not linearizable (\d+))? (complete|complete in these cells|cut)")
@@ -72,7 +75,8 @@ def events(lines):
 
 
 def call_alone(program, text, schedule, thread):
-    """The schedule with one more call of a thread, alone to its end, and the call with its end. None if it doesn't end so."""
+    """The schedule with one more call of a thread, alone to its end, and the call with its end. None if it doesn't end so. And whether it
+    goes on and on."""
     done = run(program, ["trace"], joined(text, f"{schedule} {thread}*{ALONE}\n".encode()), seconds=60)
     lines = [it for it in map(TRACED.match, done.out.decode().split("\n")) if it]
     before = run(program, ["trace"], joined(text, f"{schedule}\n".encode()), seconds=60).out.decode()
@@ -80,24 +84,25 @@ def call_alone(program, text, schedule, thread):
     for line in lines[known:]:
         if line[1] == thread and line[3] != "call":
             steps = int(line[0].split()[0]) - int(before.rstrip("\n").split("\n")[-1].split()[0] if before.strip() else 0)
-            return f"{schedule} {thread}*{steps}", (f"{thread}.{line[2]}", line[3], line[4])
-    return None
+            return (f"{schedule} {thread}*{steps}", (f"{thread}.{line[2]}", line[3], line[4])), False
+    return None, len(lines) > known + ALONE // 2
 
 
 def serial_runs(program, text, counts):
-    """Each run of whole calls, as the calls with their ends."""
-    runs, left = [()], [("setup*80", (), dict(counts), frozenset())]
+    """Each run of whole calls, as the calls with their ends. And whether a call goes on and on."""
+    runs, left, endless = [()], [("setup*80", (), dict(counts), frozenset())], False
     while left:
         schedule, calls, counts, trapped = left.pop()
         for thread, count in counts.items():
             if not count or thread in trapped:
                 continue
-            more = call_alone(program, text, schedule, thread)
+            more, goes_on = call_alone(program, text, schedule, thread)
+            endless = endless or goes_on
             if more is None:
                 continue
             runs.append((*calls, more[1]))
             left.append((more[0], runs[-1], {**counts, thread: count - 1}, trapped | ({thread} if more[1][1] == "trap" else set())))
-    return runs
+    return runs, endless
 
 
 def explains(serial, history):
@@ -116,8 +121,9 @@ def explains(serial, history):
 def wrong_row(head, history, runs, whole):
     """What is wrong with what a row says of its history, or None; and whether it says that it isn't linearizable."""
     is_so = any(explains(it, history) for it in runs)
-    is_set = re.search(r", (legal|illegal|not judged)", head) is not None
-    says_not, says_so = head.endswith(", not linearizable"), head.endswith(", linearizable")
+    is_set = re.search(r"[, ](legal|illegal)\b", head) is not None
+    says_not = head.endswith("not linearizable")
+    says_so = head.endswith(" linearizable") and not says_not
     if says_not and is_so or says_so and not is_so:
         return f"{head}, but it is{'' if is_so else ' not'} linearizable", says_not
     if whole and not is_so and not says_not or not is_set and is_so and not says_so and whole:
@@ -125,24 +131,82 @@ def wrong_row(head, history, runs, whole):
     return None, says_not
 
 
-def tried(program, text, counts):
+def wrong_exploration(program, text, states, runs, endless):
     """What is wrong with an exploration, or None, and a word on it."""
-    done = run(program, ["explore", "--states", STATES], text, seconds=120)
+    done = run(program, ["explore", "--states", states], text, seconds=120)
     if done.status != 0:
         return f"explore: {done.told()}", ""
     *blocks, last = done.out.decode().split("\n\n")
     end = END.fullmatch(last.strip())
-    runs = serial_runs(program, text, counts)
-    count = 0
+    sure, count = end[5] == "complete" or not endless, 0
     for block in blocks:
         head, _, *history = block.split("\n")
-        wrong, says_not = wrong_row(head, events(history), runs, end[5] == "complete")
+        wrong, says_not = wrong_row(head, events(history), runs, sure)
         if wrong:
             return wrong + "\n" + block, ""
         count += says_not
-    if end[4] is not None and int(end[4]) != count or end[5] == "complete" and end[4] is None:
+    if end[4] is not None and int(end[4]) != count or sure and end[4] is None:
         return f"{last.strip()}, but {count} rows are not linearizable", ""
-    return None, f"{len(runs)} runs, {len(blocks)} rows, {count} not linearizable, {end[5]}"
+    return None, f"{len(blocks)} rows, {count} not linearizable, {end[5]}"
+
+
+def wrong_tally(program, text, runs, endless):
+    """What is wrong with a judged tally, or None, and a word on it."""
+    done = run(program, ["batch", *SAMPLES], text, seconds=120)
+    if done.status != 0:
+        return f"batch: {done.told()}", ""
+    blocks, count = done.out.decode().split("\n\n")[:-1], 0
+    for block in blocks:
+        head, *history = block.split("\n")
+        wrong, says_not = wrong_row(head, events(history), runs, not endless)
+        if wrong:
+            return f"batch: {wrong}\n{block}", ""
+        count += says_not
+    return None, f"{len(blocks)} sampled, {count} not linearizable"
+
+
+def wrong_verdict(program, text, runs, endless):
+    """What is wrong with a verdict alone, or None, and a word on it. The run that is printed is wrong as it says; and if none is, no row of
+    a whole exploration is wrong, and none ends in waiting."""
+    done = run(program, ["explore", "--verdict", "--states", STATES], text, seconds=120)
+    if done.status != 0:
+        return f"explore --verdict: {done.told()}", ""
+    out = done.out.decode()
+    head, rest = out.split("\n", 1)
+    complete = out.endswith(" complete\n")
+    rows = run(program, ["explore", "--states", STATES], text, seconds=120).out.decode()
+    *blocks, last = rows.split("\n\n")
+    whole = last.strip().endswith(" complete")
+    heads = [block.split("\n", 1)[0] for block in blocks]
+    waiting = any(" waits for " in it for it in heads)
+    bad = [it for it in blocks if not any(explains(run_, events(it.split("\n")[2:])) for run_ in runs)]
+    if head in ("not linearizable", "not judged"):
+        history = events(rest.split("\n\n")[0].split("\n")[1:])
+        if head == "not judged" and not endless:
+            return f"{head}, though each call ends", ""
+        if any(explains(it, history) for it in runs):
+            return f"{head}, but a run of whole calls explains it\n{out}", ""
+    elif complete and whole and bad and not endless:
+        return f"{head}, but a row is not linearizable\n{bad[0]}", ""
+    elif head == "none" and complete and whole and waiting:
+        return f"{head}, but a row waits for ever", ""
+    elif " waits for " in head and whole and not waiting:
+        return f"{head}, but no row waits for ever", ""
+    return None, f"{head.split(' waits')[0]}, {out.splitlines()[-1]}"
+
+
+def tried(program, text, counts):
+    """What is wrong with the explorations, the verdict and the tally of a program, or None, and words on them."""
+    runs, endless = serial_runs(program, text, counts)
+    words = [f"{len(runs)} runs"]
+    for trial in (lambda: wrong_exploration(program, text, STATES, runs, endless),
+                  lambda: wrong_exploration(program, text, CUT, runs, endless), lambda: wrong_verdict(program, text, runs, endless),
+                  lambda: wrong_tally(program, text, runs, endless)):
+        wrong, told = trial()
+        if wrong:
+            return wrong, ""
+        words.append(told)
+    return None, "; ".join(words)
 
 
 def main():
