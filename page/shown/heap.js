@@ -108,7 +108,7 @@ function roomOfHeap() {
 function scaleOf({ width, height }) {
   const room = Math.max(200, byId("heap").clientWidth - 26);
   if (window.matchMedia("print").matches) return Math.min(1.1, 900 / width);
-  const high = Math.max(graph === null ? 220 : 150, roomOfHeap() - byId("challenge").offsetHeight);
+  const high = Math.max(220, roomOfHeap());
   const fits = room / width < .6 ? Math.min(1, high / height) : Math.min(1.5, room / width, high / height);
   return Math.max(.6, fits);
 }

@@ -17,14 +17,12 @@ function show() {
   showLanes();
   showThreads();
   drawHeap();
-  showChoices();
   // browsers allow few changes of the address in a second, and a page in a frame may not change it
   clearTimeout(addressed);
   addressed = setTimeout(setAddress, ADDRESSED_AFTER);
 }
 function setAddress() {
-  const address = graph === null ? String(view.step) : walk.address() + (isAtEnd() ? "" : "~" + view.step);
-  try { history.replaceState(null, "", "#" + address); } catch { /* it stays as it is */ }
+  try { history.replaceState(null, "", "#" + view.step); } catch { /* it stays as it is */ }
 }
 function goTo(stop) {
   view.stop = Math.max(0, Math.min(stops.count, stop));
@@ -70,7 +68,6 @@ function addressedStop() {
 const endOfSetup = () => run.setupEnd === Infinity ? 0 : stops.at(run.setupEnd);
 
 window.addEventListener("hashchange", () => {
-  if (graph !== null) { remember(); beginWalk(); return; }
   const stop = addressedStop();
   if (stop !== null) goTo(stop);
 });
@@ -79,27 +76,10 @@ window.addEventListener("resize", () => {
   resized = setTimeout(redraw, 80);
 });
 window.addEventListener("beforeprint", redraw);
-function begin() {
-  beginTheme();
-  data = given;
-  showTitle();
-  if (graph === null) {
-    readRun(given);
-    showFoot();
-    view.stop = addressedStop() ?? endOfSetup();
-    redraw();
-    return;
-  }
-  byId("challenge").hidden = false;
-  beginWalk();
-}
-// The walk that the address has, else the one that is given, which is then ahead.
-function beginWalk() {
-  const [words, step] = decodeURIComponent(location.hash.slice(1)).split("~");
-  const isWalk = words !== "" && !/^[0-9]+$/.test(words);
-  const why = walk.read(isWalk ? words.replace(/\./g, " ") : given.schedule);
-  if (isWalk && why !== null) note = why;
-  const at = step !== undefined ? Number(step) : isWalk ? Infinity : Number(words || graph.setup.length);
-  showWalk(Math.max(0, Math.min(walk.length, (Number.isNaN(at) ? Infinity : at) - graph.setup.length)));
-}
-begin();
+beginTheme();
+showTitle();
+showNotes();
+drawOrder();
+byId("foot").hidden = byId("foot").childNodes.length === 0;
+view.stop = addressedStop() ?? endOfSetup();
+redraw();

@@ -19,7 +19,7 @@ const keyOf = node => {
   const { key } = heap.nodeClasses.get(classOf(node.id));
   return key === null ? null : node.cells.get(key);
 };
-let allThings = [];
+const allThings = run.after.things;
 
 // --- nodes and their keys -------------------------------------------------------------------------------------------
 function findNodeClasses() {
@@ -208,9 +208,4 @@ function isEverOut() {
   }
   return false;
 }
-whenRead.push(() => {
-  for (const kept of [heap.nodeClasses, heap.column, heap.band, heap.shared, heap.monitored]) kept.clear();
-  heap.bands = [];
-  allThings = run.after.things;
-  layHeap();
-});
+layHeap();
