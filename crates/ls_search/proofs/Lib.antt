@@ -10,5 +10,3 @@ pub mod Following
 pub mod Answering
 pub mod Unrenamed
 pub mod Telling
-pub mod Likeness
-pub mod Others

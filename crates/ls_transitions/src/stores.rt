@@ -49,8 +49,8 @@ fn are_same_items(items: &BTreeMap<u32, Value>, others: &BTreeMap<u32, Value>) -
     are_same_entries(items, others)
 }
 
-/// Whether a thing is the other. True only where it is.
-pub fn is_same_thing(thing: &Thing, other: &Thing) -> bool
+// Whether a thing is the other.
+fn is_same_thing(thing: &Thing, other: &Thing) -> bool
     ensures { IsTrue result → thing_of thing.now ≡ thing_of other.now }
 {
     match (thing, other) {

@@ -1,3 +1,0 @@
-pub mod Names
-pub mod Seen
-pub mod Constants

@@ -1,4 +1,0 @@
-pub mod CopiedExpressions
-pub mod CopiedStatements
-pub mod CopiedThreads
-pub mod Frames
