@@ -1,0 +1,5 @@
+pub mod Reached
+pub mod Whole
+pub mod Truth
+pub mod Order
+pub mod Listing
