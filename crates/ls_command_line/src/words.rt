@@ -117,8 +117,7 @@ pub enum Request {
     },
     /// The cells of the machine, and the most states that are kept; which histories are printed.
     Explore {
-        /// On so many cells, if a number is given.
-        cells: Option<u64>,
+        cells: u64,
         states: u64,
         /// Only those without a legal order, or not linearizable.
         illegal: bool,
@@ -354,7 +353,7 @@ fn asked(name: &str, options: &ArgMatches<'_>) -> Request
             cells: number(options, "cells", CELLS),
         },
         "explore" => Request::Explore {
-            cells: number_asked(options, "cells"),
+            cells: number(options, "cells", CELLS),
             states: number(options, "states", STATES),
             illegal: flag(options, "illegal"),
             first: flag(options, "first"),

@@ -12,7 +12,7 @@ use crate::rows::Row;
 use crate::searching::{Seen, search};
 use crate::table::tell;
 use crate::walking::Ground;
-use ls_source_rows::Watch;
+use crate::watching::Watch;
 use ls_code::code::Code;
 use ls_events::schedule::Schedule;
 use ls_machine::{LoadFault, Machine};

@@ -15,7 +15,7 @@ use crate::hints::Hints;
 use crate::links::{Link, Path};
 use crate::table::number_of;
 use crate::walking::{Ground, Place, go_back, has_acted, see};
-use ls_source_rows::Watch;
+use crate::watching::Watch;
 use ls_code::step::{Did, is_stop};
 use ls_machine::{Machine, Saved, Shelf};
 use ls_machine_moves::stirring::stir;

@@ -10,7 +10,7 @@ ghost use Rattle.ls_labels.specs.Names.{names_of};
 
 use ls_compiler::compile::compile;
 use ls_explore::Watch;
-use ls_explore_images::{explore_image, explore_source};
+use ls_explore_images::explore_image;
 use ls_explore_reports::laws::{linearity_is_meant, none_is_illegal, none_is_not_linearizable};
 use ls_explore_reports::{Exploring, judge_rows, print_exploration};
 use ls_faults::fault::ToolFault;
@@ -51,10 +51,7 @@ fn explored<W: Watch>(
     ensures gives { GivesText (Explored image.now exploring) result }
     ensures watched { GoesOn W.Since watch.old watch.new }
 {
-    let found = match exploring.cells {
-        Some(cells) => explore_image(alloc, image, cells, exploring.states, watch)?,
-        None => explore_source(alloc, image, exploring.states, watch)?,
-    };
+    let found = explore_image(alloc, image, exploring.cells, exploring.states, watch)?;
     let whole = is_whole(found.complete, found.roomy);
     let file = image.checked().file();
     let judged = judge_rows(alloc, found.rows.as_slice(), file, image.program(), whole)?;

@@ -1,7 +1,6 @@
 //! The search from where the setup leads to.
 #![tactic(auto)]
 
-pub mod listing;
 mod numbering;
 mod observing;
 pub mod running;

@@ -33,14 +33,14 @@ pub struct RunFound {
 
 /// Where the setup leads to, by how many of its steps.
 #[derive(Drop)]
-pub(crate) struct Prepared<'a, N> {
-    pub(crate) steps: usize,
-    pub(crate) transitions: Transitions<'a>,
-    pub(crate) root: Root<N>,
+struct Prepared<'a, N> {
+    steps: usize,
+    transitions: Transitions<'a>,
+    root: Root<N>,
 }
 
 /// Runs the setup as long as it acts, at most so many steps.
-pub(crate) fn prepare<'a, O: Observer>(
+fn prepare<'a, O: Observer>(
     alloc: Global,
     observer: &O,
     file: &'a File,

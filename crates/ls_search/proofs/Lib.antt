@@ -10,7 +10,3 @@ pub mod Following
 pub mod Answering
 pub mod Unrenamed
 pub mod Telling
-pub mod Lists
-pub mod Tracks
-pub mod Apart
-pub mod Stepping

@@ -102,7 +102,7 @@ fn first_stuck(seen: &[Seen]) -> Option<usize>
 }
 
 /// A search that has found only where it begins.
-pub(crate) fn start<'a, O: Observer>(
+fn start<'a, O: Observer>(
     ground: &Ground<'_, O>,
     transitions: Transitions<'a>,
     root: Root<O::Noted>,

@@ -94,7 +94,6 @@ impl Nodes {
         ensures there { IfOk result (λ kept. IsTrue kept → HasPlace self.new.nodes.items node.place) }
         ensures pushed { OnOk result (Pushed self.old.nodes.items self.new.nodes.items node) }
         ensures full { IfOk result (λ kept. kept ≡ false → limit ≤ length self.new.nodes.items) }
-        ensures same { IfOk result (λ kept. kept ≡ false → self.new.nodes.items ≡ self.old.nodes.items) }
         ensures few { OnOk result (length self.old.nodes.items ≤ limit → length self.new.nodes.items ≤ limit) }
     {
         let sum = sum_of(&node.place);

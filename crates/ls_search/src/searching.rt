@@ -13,7 +13,6 @@ ghost use Rattle.ls_transitions.specs.declared.moves.Move.TheVariants.{Acts};
 ghost use Rattle.ls_transitions.specs.Tables.{Grows, Keeps};
 ghost use Rattle.ls_transitions.specs.Seen.{table_of};
 ghost use Rattle.ls_search.specs.declared.places.Node.{Node as NodeValue};
-ghost use Rattle.ls_search.specs.Listed.{FoundAs, FoundBy};
 ghost use Rattle.ls_search.specs.Places.{IsThere, configuration_of};
 ghost use Rattle.ls_search.specs.Strides.{ActsBy, HasStarted, IsStrideBy};
 ghost use Rattle.ls_search.specs.Searched.{ActsIn, AreExpanded, IsLooked, IsNode, Reaches, noticed_at, seen_with};
@@ -205,10 +204,6 @@ fn reach<O: Observer>(
         (plain_program ground.now.program.now)
         (pairs_of (O.first ground.now.observer.now) (O.stands ground.now.observer.now) search.new) p thread) }
     ensures full { IfOk result (λ kept. kept ≡ false → ground.now.limit ≤ length search.new.found.nodes.items) }
-    ensures found { OnOk result (FoundBy search.old.found.nodes.items search.new.found.nodes.items at thread
-        ground.now.most) }
-    ensures same { IfOk result (λ kept. kept ≡ false →
-        search.new.found.nodes.items ≡ search.old.found.nodes.items) }
     ensures few { OnOk result (length search.old.found.nodes.items ≤ ground.now.limit →
         length search.new.found.nodes.items ≤ ground.now.limit) }
     ensures seen { search.new.seen.items ≡ search.old.seen.items }
@@ -265,10 +260,6 @@ pub(crate) fn look<O: Observer>(
         (plain_program ground.now.program.now)
         (pairs_of (O.first ground.now.observer.now) (O.stands ground.now.observer.now) search.new) p thread l)) }
     ensures full { IfOk result (λ found. IfNone found (ground.now.limit ≤ length search.new.found.nodes.items)) }
-    ensures found { IfOk result (λ found. IfSome found (λ l.
-        FoundAs search.old.found.nodes.items search.new.found.nodes.items at thread ground.now.most l)) }
-    ensures same { IfOk result (λ found. IfNone found
-        (search.new.found.nodes.items ≡ search.old.found.nodes.items)) }
     ensures few { OnOk result (length search.old.found.nodes.items ≤ ground.now.limit →
         length search.new.found.nodes.items ≤ ground.now.limit) }
     ensures seen { search.new.seen.items ≡ search.old.seen.items }

@@ -200,7 +200,7 @@ fn on_two<R: Threads + Wait + Sync, W: Watch>(
                 return verdict(alloc, states as usize, first, second);
             }
             let exploring = Exploring {
-                cells: cells.map(|c| c as usize),
+                cells: cells as usize,
                 states: states as usize,
                 illegal,
                 first: one,

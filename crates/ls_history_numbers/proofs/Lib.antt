@@ -1,5 +1,0 @@
-pub mod Lists
-pub mod Longer
-pub mod Finding
-pub mod Telling
-pub mod Covering
