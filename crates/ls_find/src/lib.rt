@@ -4,6 +4,7 @@
 
 mod explorer;
 pub mod laws;
+mod simplifying;
 mod states;
 mod verdict;
 mod waiting;
