@@ -173,7 +173,6 @@ def wrong_verdict(program, text, runs, endless):
         return f"explore --verdict: {done.told()}", ""
     out = done.out.decode()
     head, rest = out.split("\n", 1)
-    head = head.partition("; context switches ")[0]
     complete = out.endswith(" complete\n")
     rows = run(program, ["explore", "--states", STATES], text, seconds=120).out.decode()
     *blocks, last = rows.split("\n\n")

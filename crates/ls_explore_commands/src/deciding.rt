@@ -1,35 +1,24 @@
 // What `explore --verdict` says.
 
 ghost use Rattle.std.specs.Prelude.{◌≡◌, ◌++◌, ◌∷◌, [], ◌↔◌, ◌⊎◌, ℕ, IfErr, IfNone, IfOk, IfSome, IsTrue, OnOk, replicate};
-ghost use Rattle.std.specs.Prelude.{true};
 ghost use Rattle.ls_explore_images.specs.Faults.{AreBadStates};
 ghost use Rattle.ls_faults.specs.Given.{GivesText};
 ghost use Rattle.ls_explore_commands.specs.Verdicts.{Decided, IsExtent, VerdictsTo};
-ghost use Rattle.ls_fewest_switches.specs.Switches.{EndsSo, HasFewest};
-ghost use Rattle.ls_meaning.specs.Runs.{source_history};
-ghost use Rattle.ls_serial_search.specs.Told.{IsDoubt, usual};
 ghost use Rattle.ls_source_judge.specs.Judged.{AllLinearizable, IsNotLinearizable};
 ghost use Rattle.ls_state_space.specs.Verdicts.{LeavesStuck, NeverStuck};
 ghost use Rattle.ls_translation.specs.Texts.{file_of, program_of};
 ghost use Rattle.ls_translation.specs.declared.fault.TranslationFault.TheVariants.{Memory, ResultTooLong};
 
 use crate::command::names_in;
-use crate::reporting::{
-    Extent, print_bad, print_doubtful, print_free, print_stuck, print_stuck_and_doubtful,
-};
+use crate::reporting::{Extent, print_bad, print_doubtful, print_free, print_stuck};
 use ls_compiler::compile::compile;
 use ls_events::schedule::{MOST_STEPS, Schedule};
 use ls_explore_images::{ExploreFault, MOST_STATES};
 use ls_faults::fault::ToolFault;
-use ls_fewest_switches::{SimpleRun, simplest};
 use ls_image::image::Image;
-use ls_serial_search::telling::Doubt;
 use ls_source_judge::{Judged, judge_schedules};
 use ls_translation::fault::TranslationFault;
 use std::alloc::{AllocError, Global};
-
-/// The most states of a search along one history, for each number of changes of thread.
-const MOST_ALONG: usize = 1_000_000;
 
 /// Whether no states may be kept, or too many.
 fn are_bad_states(states: usize) -> bool
@@ -65,30 +54,6 @@ fn schedule_of(alloc: Global, setup: usize, path: &[u8]) -> Result<Schedule, Tra
     Ok(schedule)
 }
 
-/// A run with the history of a path after so many steps of the setup, and the fewest context switches. With `stuck` no
-/// thread acts after it and one waits, where that is so after the path.
-fn run_of(
-    alloc: Global,
-    image: &Image,
-    setup: usize,
-    path: &[u8],
-    stuck: bool,
-) -> Result<SimpleRun, TranslationFault>
-    ensures history { IfOk result (λ r. source_history (file_of image.now) (program_of image.now) r.schedule ≡
-        source_history (file_of image.now) (program_of image.now) (replicate setup 0 ++ path.now)) }
-    ensures ends { IfOk result (λ r.
-        EndsSo stuck (file_of image.now) (program_of image.now) (replicate setup 0 ++ path.now) →
-        EndsSo stuck (file_of image.now) (program_of image.now) r.schedule) }
-    ensures fewest { IfOk result (λ r. r.fewest ≡ true →
-        HasFewest stuck (file_of image.now) (program_of image.now) r.schedule) }
-    ensures only { IfErr result (λ e. (e ≡ Memory) ⊎ (e ≡ ResultTooLong)) }
-{
-    let found = schedule_of(alloc, setup, path)?;
-    let file = image.checked().file();
-    let run = simplest(alloc, file, image.program(), stuck, &found, MOST_ALONG)?;
-    Ok(run)
-}
-
 /// How many states were kept, and whether these are all.
 fn extent_of(judged: &Judged) -> Extent
     ensures states { result.states ≡ judged.now.states }
@@ -111,8 +76,8 @@ fn bad_answer(
         IsNotLinearizable (file_of image.now) (program_of image.now) (replicate judged.now.setup 0 ++ path.now) →
         GivesText (Decided image.now limit) result }
 {
-    let run = run_of(alloc, image, judged.setup, path, false)?;
-    let text = print_bad(alloc, names_in(image), &run, extent_of(judged))?;
+    let schedule = schedule_of(alloc, judged.setup, path)?;
+    let text = print_bad(alloc, names_in(image), &schedule, extent_of(judged))?;
     Ok(text)
 }
 
@@ -121,37 +86,13 @@ fn doubtful_answer(
     alloc: Global,
     image: &Image,
     judged: &Judged,
-    doubt: Doubt,
     path: &[u8],
 ) -> Result<String, ToolFault>
     ensures { (limit : ℕ) → ¬ AreBadStates limit → IsExtent limit judged.now.states judged.now.complete →
-        IsDoubt (file_of image.now) (program_of image.now) usual doubt →
-        (IsTrue judged.now.complete → NeverStuck (file_of image.now) (program_of image.now)) →
         GivesText (Decided image.now limit) result }
 {
-    let run = run_of(alloc, image, judged.setup, path, false)?;
-    let text = print_doubtful(alloc, names_in(image), doubt, &run, extent_of(judged))?;
-    Ok(text)
-}
-
-/// The same, where there is also a path to a state in which no thread acts and one waits.
-fn stuck_and_doubtful_answer(
-    alloc: Global,
-    image: &Image,
-    judged: &Judged,
-    stuck: &[u8],
-    doubt: Doubt,
-    path: &[u8],
-) -> Result<String, ToolFault>
-    ensures { (limit : ℕ) → ¬ AreBadStates limit → IsExtent limit judged.now.states judged.now.complete →
-        LeavesStuck (file_of image.now) (program_of image.now) (replicate judged.now.setup 0 ++ stuck.now) →
-        IsDoubt (file_of image.now) (program_of image.now) usual doubt →
-        GivesText (Decided image.now limit) result }
-{
-    let first = run_of(alloc, image, judged.setup, stuck, true)?;
-    let run = run_of(alloc, image, judged.setup, path, false)?;
-    let extent = extent_of(judged);
-    let text = print_stuck_and_doubtful(alloc, names_in(image), &first, &run, doubt, extent)?;
+    let schedule = schedule_of(alloc, judged.setup, path)?;
+    let text = print_doubtful(alloc, names_in(image), &schedule, extent_of(judged))?;
     Ok(text)
 }
 
@@ -167,8 +108,8 @@ fn stuck_answer(
         (IsTrue judged.now.complete → AllLinearizable (file_of image.now) (program_of image.now)) →
         GivesText (Decided image.now limit) result }
 {
-    let run = run_of(alloc, image, judged.setup, path, true)?;
-    let text = print_stuck(alloc, names_in(image), &run, extent_of(judged))?;
+    let schedule = schedule_of(alloc, judged.setup, path)?;
+    let text = print_stuck(alloc, names_in(image), &schedule, extent_of(judged))?;
     Ok(text)
 }
 
@@ -187,9 +128,8 @@ fn free_answer(alloc: Global, image: &Image, judged: &Judged) -> Result<String, 
 fn judged_of(alloc: Global, image: &Image, states: usize) -> Result<Judged, AllocError>
     ensures good { IfOk result (λ j. IsTrue j.complete → IfNone j.bad
         (AllLinearizable (file_of image.now) (program_of image.now))) }
-    ensures bad { IfOk result (λ j. IfNone j.doubt (IfSome j.bad (λ path.
-        IsNotLinearizable (file_of image.now) (program_of image.now) (replicate j.setup 0 ++ path.items)))) }
-    ensures doubt { IfOk result (λ j. IfSome j.doubt (IsDoubt (file_of image.now) (program_of image.now) usual)) }
+    ensures bad { IfOk result (λ j. IsTrue j.known → IfSome j.bad (λ path.
+        IsNotLinearizable (file_of image.now) (program_of image.now) (replicate j.setup 0 ++ path.items))) }
     ensures free { IfOk result (λ j. IsTrue j.complete → IfNone j.stuck
         (NeverStuck (file_of image.now) (program_of image.now))) }
     ensures stuck { IfOk result (λ j. IfSome j.stuck (λ path.
@@ -200,35 +140,6 @@ fn judged_of(alloc: Global, image: &Image, states: usize) -> Result<Judged, Allo
     Ok(judged)
 }
 
-/// The text of a path to a history that no serial history explains that was found, and of one to where threads wait.
-fn doubted_answer(
-    alloc: Global,
-    image: &Image,
-    judged: &Judged,
-    doubt: Doubt,
-    path: &[u8],
-) -> Result<String, ToolFault>
-    ensures { (limit : ℕ) → ¬ AreBadStates limit → IsExtent limit judged.now.states judged.now.complete →
-        IsDoubt (file_of image.now) (program_of image.now) usual doubt →
-        (IsTrue judged.now.complete → IfNone judged.now.stuck
-        (NeverStuck (file_of image.now) (program_of image.now))) →
-        IfSome judged.now.stuck (λ stuck.
-        LeavesStuck (file_of image.now) (program_of image.now) (replicate judged.now.setup 0 ++ stuck.items)) →
-        GivesText (Decided image.now limit) result }
-{
-    match &judged.stuck {
-        Some(stuck) => stuck_and_doubtful_answer(
-            alloc,
-            image,
-            judged,
-            stuck.as_slice(),
-            doubt,
-            path,
-        ),
-        None => doubtful_answer(alloc, image, judged, doubt, path),
-    }
-}
-
 /// The text of a path to a history that no serial history explains that was found.
 fn wrong_answer(
     alloc: Global,
@@ -237,19 +148,14 @@ fn wrong_answer(
     path: &[u8],
 ) -> Result<String, ToolFault>
     ensures { (limit : ℕ) → ¬ AreBadStates limit → IsExtent limit judged.now.states judged.now.complete →
-        IfNone judged.now.doubt
-        (IsNotLinearizable (file_of image.now) (program_of image.now) (replicate judged.now.setup 0 ++ path.now)) →
-        IfSome judged.now.doubt (IsDoubt (file_of image.now) (program_of image.now) usual) →
-        (IsTrue judged.now.complete → IfNone judged.now.stuck
-        (NeverStuck (file_of image.now) (program_of image.now))) →
-        IfSome judged.now.stuck (λ stuck.
-        LeavesStuck (file_of image.now) (program_of image.now) (replicate judged.now.setup 0 ++ stuck.items)) →
+        (IsTrue judged.now.known →
+        IsNotLinearizable (file_of image.now) (program_of image.now) (replicate judged.now.setup 0 ++ path.now)) →
         GivesText (Decided image.now limit) result }
 {
-    match judged.doubt {
-        Some(doubt) => doubted_answer(alloc, image, judged, doubt, path),
-        None => bad_answer(alloc, image, judged, path),
+    if judged.known {
+        return bad_answer(alloc, image, judged, path);
     }
+    doubtful_answer(alloc, image, judged, path)
 }
 
 /// The text of what all schedules of an image's program tell.
@@ -270,13 +176,9 @@ fn decided(alloc: Global, image: &Image, states: usize) -> Result<String, ToolFa
 }
 
 /// A wrong run of the compiled program, over all schedules of source steps, where at most so many states of the source
-/// are kept: its schedule and its history. Of the schedules with its history it is one with the fewest context switches,
-/// if at most 1,000,000 states are needed to find it. A run is wrong if its history isn't linearizable, or else if no
+/// are kept: its schedule and its history. A run is wrong if its history isn't linearizable, or else if no
 /// thread acts after it and one waits. Or that there is none. The last line has how many states were kept, and whether
 /// these are all.
-///
-/// If serial histories lack, a run that none of the others explains is printed as not judged, with the reason; before it
-/// one after which threads wait, if there is such a run.
 ///
 /// Refused as `compile` is; else with 61 if no states may be kept, or more than 16,777,216; and as a schedule of over
 /// 1,000,000 steps is.

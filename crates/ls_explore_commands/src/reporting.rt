@@ -5,16 +5,14 @@ ghost use Rattle.ls_labels.specs.Names.{names_of};
 ghost use Rattle.ls_meaning.specs.Runs.{source_history};
 ghost use Rattle.ls_report.specs.Printing.{run_text};
 ghost use Rattle.ls_schedule.specs.Reading.{thread_names};
-ghost use Rattle.ls_explore_commands.specs.Reports.{bad_text, doubt_text, doubtful_text, end_text, free_text, last_text};
-ghost use Rattle.ls_explore_commands.specs.Reports.{run_report, stuck_and_doubtful_text, stuck_text, switches_text};
+ghost use Rattle.ls_explore_commands.specs.Reports.{bad_text, doubtful_text, end_text, free_text, last_text, run_report};
+ghost use Rattle.ls_explore_commands.specs.Reports.{stuck_text};
 
 use ls_events::schedule::Schedule;
 use ls_explore_reports::waiting_after;
-use ls_fewest_switches::{SimpleRun, switches};
 use ls_labels::names::Names;
 use ls_report::print_history;
 use ls_schedule::print_schedule;
-use ls_serial_search::telling::Doubt;
 use ls_state::scene::Scene;
 use std::alloc::{AllocError, Global};
 use std::fmt::Write;
@@ -38,15 +36,6 @@ fn end_words(complete: bool) -> &'static str
     if complete { " complete\n" } else { " cut\n" }
 }
 
-fn doubt_words(doubt: Doubt) -> &'static str
-    ensures { result.now ≡ doubt_text doubt }
-{
-    match doubt {
-        Doubt::LongCall => "not judged: a call goes on",
-        Doubt::ManyOrders => "not judged: too many orders",
-    }
-}
-
 /// Adds how many states were kept, and whether these are all.
 fn push_last(out: &mut String, extent: Extent) -> Result<(), AllocError>
     ensures { OnOk result (string_bytes out.new ≡ string_bytes out.old ++ last_text extent.states extent.complete) }
@@ -66,34 +55,20 @@ fn history_after(alloc: Global, names: Names<'_>, schedule: &Schedule) -> Result
     Ok(text)
 }
 
-/// Adds how many context switches a run has, if none with its history has fewer.
-fn push_switches(out: &mut String, run: &SimpleRun) -> Result<(), AllocError>
-    ensures { OnOk result (string_bytes out.new ≡ string_bytes out.old ++
-        switches_text run.now.fewest run.now.schedule) }
-{
-    if run.fewest {
-        let count = switches(&run.schedule);
-        write!(out, "; context switches {count}")?;
-    }
-    Ok(())
-}
-
-/// Adds what is wrong with a run, its context switches, its schedule, its history's lines, an empty line.
+/// Adds what is wrong with a run, its schedule, its history's lines, an empty line.
 fn push_run(
     alloc: Global,
     out: &mut String,
     names: Names<'_>,
     head: &str,
-    run: &SimpleRun,
+    schedule: &Schedule,
 ) -> Result<(), AllocError>
     ensures { OnOk result (string_bytes out.new ≡ string_bytes out.old ++
-        run_report run.now.fewest (names_of names.entry) (thread_names names.entry.program.now) head.now
-        run.now.schedule) }
+        run_report (names_of names.entry) (thread_names names.entry.program.now) head.now schedule.now) }
 {
-    let steps = print_schedule(alloc, &run.schedule, names.program)?;
-    let history = history_after(alloc, names, &run.schedule)?;
+    let steps = print_schedule(alloc, schedule, names.program)?;
+    let history = history_after(alloc, names, schedule)?;
     out.push_str(head)?;
-    push_switches(out, run)?;
     out.push_str("\n")?;
     out.push_str(steps.as_str())?;
     out.push_str(history.as_str())?;
@@ -104,15 +79,15 @@ fn push_run(
 pub(crate) fn print_bad(
     alloc: Global,
     names: Names<'_>,
-    run: &SimpleRun,
+    schedule: &Schedule,
     extent: Extent,
 ) -> Result<String, AllocError>
     ensures { IfOk result (λ text. string_bytes text ≡
-        bad_text run.now.fewest (names_of names.entry) (thread_names names.entry.program.now) run.now.schedule
-        extent.states extent.complete) }
+        bad_text (names_of names.entry) (thread_names names.entry.program.now) schedule.now extent.states
+        extent.complete) }
 {
     let mut out = String::new(alloc);
-    push_run(alloc, &mut out, names, "not linearizable", run)?;
+    push_run(alloc, &mut out, names, "not linearizable", schedule)?;
     push_last(&mut out, extent)?;
     Ok(out)
 }
@@ -122,16 +97,15 @@ pub(crate) fn print_bad(
 pub(crate) fn print_doubtful(
     alloc: Global,
     names: Names<'_>,
-    doubt: Doubt,
-    run: &SimpleRun,
+    schedule: &Schedule,
     extent: Extent,
 ) -> Result<String, AllocError>
     ensures { IfOk result (λ text. string_bytes text ≡
-        doubtful_text doubt run.now.fewest (names_of names.entry) (thread_names names.entry.program.now) run.now.schedule
-        extent.states extent.complete) }
+        doubtful_text (names_of names.entry) (thread_names names.entry.program.now) schedule.now extent.states
+        extent.complete) }
 {
     let mut out = String::new(alloc);
-    push_run(alloc, &mut out, names, doubt_words(doubt), run)?;
+    push_run(alloc, &mut out, names, "not judged", schedule)?;
     push_last(&mut out, extent)?;
     Ok(out)
 }
@@ -140,38 +114,16 @@ pub(crate) fn print_doubtful(
 pub(crate) fn print_stuck(
     alloc: Global,
     names: Names<'_>,
-    run: &SimpleRun,
+    schedule: &Schedule,
     extent: Extent,
 ) -> Result<String, AllocError>
     ensures { IfOk result (λ text. string_bytes text ≡
-        stuck_text run.now.fewest (names_of names.entry) (thread_names names.entry.program.now) run.now.schedule
-        extent.states extent.complete) }
+        stuck_text (names_of names.entry) (thread_names names.entry.program.now) schedule.now extent.states
+        extent.complete) }
 {
-    let waiting = waiting_after(alloc, names, &run.schedule)?;
+    let waiting = waiting_after(alloc, names, schedule)?;
     let mut out = String::new(alloc);
-    push_run(alloc, &mut out, names, waiting.as_str(), run)?;
-    push_last(&mut out, extent)?;
-    Ok(out)
-}
-
-/// The text of a run after which threads wait for ever, and of one whose history no serial run explains that was found,
-/// where these may not be all. The only refusal is that memory ran out.
-pub(crate) fn print_stuck_and_doubtful(
-    alloc: Global,
-    names: Names<'_>,
-    stuck: &SimpleRun,
-    doubtful: &SimpleRun,
-    doubt: Doubt,
-    extent: Extent,
-) -> Result<String, AllocError>
-    ensures { IfOk result (λ text. string_bytes text ≡
-        stuck_and_doubtful_text stuck.now.schedule stuck.now.fewest doubt doubtful.now.fewest (names_of names.entry)
-        (thread_names names.entry.program.now) doubtful.now.schedule extent.states extent.complete) }
-{
-    let waiting = waiting_after(alloc, names, &stuck.schedule)?;
-    let mut out = String::new(alloc);
-    push_run(alloc, &mut out, names, waiting.as_str(), stuck)?;
-    push_run(alloc, &mut out, names, doubt_words(doubt), doubtful)?;
+    push_run(alloc, &mut out, names, waiting.as_str(), schedule)?;
     push_last(&mut out, extent)?;
     Ok(out)
 }

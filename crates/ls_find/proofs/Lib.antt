@@ -3,4 +3,3 @@ pub mod Shown
 pub mod Waits
 pub mod Wholes
 pub mod Goodness
-pub mod Simpler

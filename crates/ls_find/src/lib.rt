@@ -4,7 +4,6 @@
 
 mod explorer;
 pub mod laws;
-mod simplifying;
 mod states;
 mod verdict;
 mod waiting;

@@ -5,7 +5,6 @@ ghost use Rattle.ls_explore_images.specs.Tellings.{TellTruth, TellWhole, schedul
 ghost use Rattle.ls_find.specs.Verdicts.{IsVerdict, ShowsRow};
 ghost use Rattle.ls_translation.specs.Texts.{file_of, program_of};
 
-use crate::simplifying::simplified;
 use crate::states::verdict_by_states;
 use crate::waiting::waiting_verdict;
 use ls_events::schedule::{MOST_STEPS, Schedule};
@@ -129,8 +128,7 @@ fn explored_verdict(
 }
 
 /// Says of the program of an image whether the history of each schedule is linearizable; and if that is asked for, whether
-/// no thread waits for ever. If not, it shows a schedule, with the fewest context switches of those with its history if
-/// at most 1,000,000 states are needed to find it. The states of the source are searched first. If they don't say
+/// no thread waits for ever. If not, it shows a schedule. The states of the source are searched first. If they don't say
 /// that all is well, the machine is explored on so many cells. Of each at most so many states are kept. Unknown comes if
 /// neither decides: if more states are needed, or more cells, or the setup is too long. It also comes if a thread waits
 /// for ever, and too many calls that run one at a time may wait so.
@@ -150,10 +148,8 @@ pub fn verdict_on(
         return Ok(searched);
     }
     match explored_verdict(alloc, image, cells, states, waiting)? {
-        Verdict::Unknown => simplified(alloc, image, searched, waiting),
+        Verdict::Unknown => Ok(searched),
         Verdict::Good => Ok(Verdict::Good),
-        Verdict::Bad(reason, schedule) => {
-            simplified(alloc, image, Verdict::Bad(reason, schedule), waiting)
-        }
+        Verdict::Bad(reason, schedule) => Ok(Verdict::Bad(reason, schedule)),
     }
 }

@@ -1,7 +1,7 @@
 //! The search from where the setup leads to.
 #![tactic(auto)]
 
-pub mod numbering;
+mod numbering;
 mod observing;
 pub mod running;
 mod setting_up;

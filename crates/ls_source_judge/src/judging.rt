@@ -1,7 +1,6 @@
 // What is told of the histories and the ends of all schedules of a program.
 
 ghost use Rattle.std.specs.Prelude.{◌≡◌, ◌≤◌, ◌++◌, IfNone, IfOk, IfSome, IsTrue, false, replicate};
-ghost use Rattle.ls_serial_search.specs.Told.{IsDoubt, usual};
 ghost use Rattle.ls_checked.specs.Plain.{plain_file};
 ghost use Rattle.ls_checked.specs.PlainProgram.{plain_program};
 ghost use Rattle.ls_state_space.specs.Verdicts.{LeavesStuck, NeverStuck};
@@ -11,7 +10,7 @@ use ls_checked::program::Program;
 use ls_checked::tree::File;
 use ls_rests_observer::laws::bad_stays_bad;
 use ls_rests_observer::watching::serial_observer;
-use ls_serial_search::telling::{Bounds, Doubt};
+use ls_serial_search::telling::Bounds;
 use ls_state_space::verdict::{Finding, verdict};
 use std::alloc::{AllocError, Global};
 
@@ -26,8 +25,8 @@ pub struct Judged {
     pub complete: bool,
     /// A path to a history that no serial history explains that is known.
     pub bad: Option<Vec<u8>>,
-    /// Why some serial histories may not be known. If there is no reason, that history isn't linearizable.
-    pub doubt: Option<Doubt>,
+    /// Whether all serial histories are known. Then that history isn't linearizable.
+    pub known: bool,
     /// A path to a state in which no thread acts and one waits for a lock.
     pub stuck: Option<Vec<u8>>,
 }
@@ -42,9 +41,8 @@ pub fn judge_schedules(
 ) -> Result<Judged, AllocError>
     ensures good { IfOk result (λ j. IsTrue j.complete → IfNone j.bad
         (AllLinearizable (plain_file file.now) (plain_program program.now))) }
-    ensures bad { IfOk result (λ j. IfNone j.doubt (IfSome j.bad (λ path.
-        IsNotLinearizable (plain_file file.now) (plain_program program.now) (replicate j.setup 0 ++ path.items)))) }
-    ensures doubt { IfOk result (λ j. IfSome j.doubt (IsDoubt (plain_file file.now) (plain_program program.now) usual)) }
+    ensures bad { IfOk result (λ j. IsTrue j.known → IfSome j.bad (λ path.
+        IsNotLinearizable (plain_file file.now) (plain_program program.now) (replicate j.setup 0 ++ path.items))) }
     ensures free { IfOk result (λ j. IsTrue j.complete → IfNone j.stuck
         (NeverStuck (plain_file file.now) (plain_program program.now))) }
     ensures stuck { IfOk result (λ j. IfSome j.stuck (λ path.
@@ -66,7 +64,7 @@ pub fn judge_schedules(
         states,
         complete,
         bad,
-        doubt: serial.doubt,
+        known: serial.complete,
         stuck,
     })
 }

@@ -1,9 +1,0 @@
-pub mod Changes
-pub mod Paths
-pub mod Forward
-pub mod Growing
-pub mod Passing
-pub mod Ending
-pub mod Roots
-pub mod Reaching
-pub mod Running

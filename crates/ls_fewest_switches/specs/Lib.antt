@@ -1,4 +1,0 @@
-pub mod Switches
-pub mod Reached
-pub mod Spots
-pub mod Levels
