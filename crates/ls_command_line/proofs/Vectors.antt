@@ -82,7 +82,7 @@ version p = refl
 
 few_states : (p : ValueParser) →
     request_of p (codes "listset" ∷ codes "explore" ∷ codes "--states" ∷ codes "12" ∷ []) ≡
-    Some (plainly (request.Explore 65536 12 false false false false))
+    Some (plainly (request.Explore 65536 12 false false false))
 unfolding clap_on_literals
 few_states p = refl
 
@@ -118,21 +118,27 @@ no_seed p = refl
 
 first_illegal : (p : ValueParser) →
     request_of p (codes "listset" ∷ codes "explore" ∷ codes "--illegal" ∷ codes "--first" ∷ []) ≡
-    Some (plainly (request.Explore 65536 1000000 true true false false))
+    Some (plainly (request.Explore 65536 1000000 true true false))
 unfolding clap_on_literals
 first_illegal p = refl
 
 with_progress : (p : ValueParser) →
     request_of p (codes "listset" ∷ codes "explore" ∷ codes "--progress" ∷ codes "--states=70000" ∷ []) ≡
-    Some (plainly (request.Explore 65536 70000 false false true false))
+    Some (plainly (request.Explore 65536 70000 false false true))
 unfolding clap_on_literals
 with_progress p = refl
 
 a_verdict : (p : ValueParser) →
     request_of p (codes "listset" ∷ codes "explore" ∷ codes "--verdict" ∷ []) ≡
-    Some (plainly (request.Explore 65536 1000000 false false false true))
+    Some (plainly (request.Verdict 1000000 false))
 unfolding clap_on_literals
 a_verdict p = refl
+
+a_mixed_verdict : (p : ValueParser) →
+    request_of p (codes "listset" ∷ codes "explore" ∷ codes "--states=9" ∷ codes "--verdict" ∷ codes "--first" ∷ []) ≡
+    Some (plainly (request.Verdict 9 true))
+unfolding clap_on_literals
+a_mixed_verdict p = refl
 
 an_aim : (p : ValueParser) → request_of p (codes "listset" ∷ codes "aim" ∷ []) ≡ Some (plainly request.Aim)
 unfolding clap_on_literals

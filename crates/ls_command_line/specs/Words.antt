@@ -248,6 +248,19 @@ asked_state rows =
     (number_of (codes "to") 1000000 rows)
     else requests.State (flag_of (codes "dot") rows) (number_of (codes "to") 1000000 rows)
 
+-- an option of `explore` is given that goes with the histories alone
+abbrev pub is_mixed : List Row → Bool
+is_mixed rows = is_some (number_asked (codes "cells") rows) || (flag_of (codes "illegal") rows ||
+    (flag_of (codes "first") rows || flag_of (codes "progress") rows))
+
+-- the histories of all schedules, or a wrong run alone
+abbrev pub asked_explore : List Row → Request
+asked_explore rows =
+    if flag_of (codes "verdict") rows
+    then requests.Verdict (number_of (codes "states") 1000000 rows) (is_mixed rows)
+    else requests.Explore (cells_of rows) (number_of (codes "states") 1000000 rows) (flag_of (codes "illegal") rows)
+    (flag_of (codes "first") rows) (flag_of (codes "progress") rows)
+
 -- which programs of a class are looked through
 abbrev pub asked_find : List Row → Seeking
 asked_find rows = record {
@@ -289,8 +302,7 @@ asked name rows =
     then requests.Sample (number_of (codes "seed") 0 rows) (number_of (codes "steps") 0 rows) (switch_of rows)
     (cells_of rows)
     else (if bytes_eq name (codes "explore")
-    then requests.Explore (cells_of rows) (number_of (codes "states") 1000000 rows) (flag_of (codes "illegal") rows)
-    (flag_of (codes "first") rows) (flag_of (codes "progress") rows) (flag_of (codes "verdict") rows)
+    then asked_explore rows
     else (if bytes_eq name (codes "find") then requests.Find (asked_find rows)
     else (if bytes_eq name (codes "merge") then requests.Merge (number_asked (codes "count") rows)
     else requests.Check))))))))))))))

@@ -1,9 +1,9 @@
 // What the words of a command line ask for.
 
-ghost use Rattle.std.specs.Prelude.{◌≡◌, codes, map, string_bytes};
+ghost use Rattle.std.specs.Prelude.{◌≡◌, ◌||◌, codes, map, string_bytes};
 ghost use Rattle.clap.specs.Words.{found_of, rows_of, subcommand_rows_of};
-ghost use Rattle.ls_command_line.specs.Words.{IsWordsAnswer, asked, asked_by, asked_find, asked_state, flag_of, is_given};
-ghost use Rattle.ls_command_line.specs.Words.{named_side, number_asked, number_of, side_of};
+ghost use Rattle.ls_command_line.specs.Words.{IsWordsAnswer, asked, asked_by, asked_explore, asked_find, asked_state};
+ghost use Rattle.ls_command_line.specs.Words.{flag_of, is_given, is_mixed, named_side, number_asked, number_of, side_of};
 
 use crate::line::program;
 use clap::error::ErrorKind;
@@ -125,8 +125,12 @@ pub enum Request {
         first: bool,
         /// Whether it tells on standard error how many states it keeps.
         progress: bool,
-        /// Whether the states of the source are searched, and a wrong run is printed alone.
-        verdict: bool,
+    },
+    /// A wrong run alone, by the states of the source: the most that are kept.
+    Verdict {
+        states: u64,
+        /// Whether an option is given that goes with the histories alone.
+        mixed: bool,
     },
     /// The first program of a class whose histories aren't all linearizable.
     Find(Seeking),
@@ -308,6 +312,41 @@ fn asked_find(options: &ArgMatches<'_>) -> Seeking
     }
 }
 
+/// Whether one of these holds.
+fn one_of(cells: bool, illegal: bool, first: bool, progress: bool) -> bool
+    ensures { result ≡ cells || (illegal || (first || progress)) }
+{
+    cells || illegal || first || progress
+}
+
+/// Whether an option of `explore` is given that goes with the histories alone.
+fn is_mixed(options: &ArgMatches<'_>) -> bool
+    ensures { result ≡ is_mixed (rows_of (found_of options.now)) }
+{
+    let cells = number_asked(options, "cells").is_some();
+    let illegal = flag(options, "illegal");
+    let first = flag(options, "first");
+    let progress = flag(options, "progress");
+    one_of(cells, illegal, first, progress)
+}
+
+fn asked_explore(options: &ArgMatches<'_>) -> Request
+    ensures { result ≡ asked_explore (rows_of (found_of options.now)) }
+{
+    let states = number(options, "states", STATES);
+    if flag(options, "verdict") {
+        let mixed = is_mixed(options);
+        return Request::Verdict { states, mixed };
+    }
+    Request::Explore {
+        cells: number(options, "cells", CELLS),
+        states,
+        illegal: flag(options, "illegal"),
+        first: flag(options, "first"),
+        progress: flag(options, "progress"),
+    }
+}
+
 fn asked(name: &str, options: &ArgMatches<'_>) -> Request
     ensures { result ≡ asked name.now (rows_of (found_of options.now)) }
 {
@@ -352,14 +391,7 @@ fn asked(name: &str, options: &ArgMatches<'_>) -> Request
             switch: number(options, "switch", SWITCH),
             cells: number(options, "cells", CELLS),
         },
-        "explore" => Request::Explore {
-            cells: number(options, "cells", CELLS),
-            states: number(options, "states", STATES),
-            illegal: flag(options, "illegal"),
-            first: flag(options, "first"),
-            progress: flag(options, "progress"),
-            verdict: flag(options, "verdict"),
-        },
+        "explore" => asked_explore(options),
         "find" => Request::Find(asked_find(options)),
         "merge" => Request::Merge {
             count: number_asked(options, "count"),

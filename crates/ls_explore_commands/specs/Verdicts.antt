@@ -9,10 +9,12 @@ use Rattle.ls_report.specs.Events.{Text}
 use Rattle.ls_faults.specs.declared.fault.ToolFault.{ToolFault}
 use Rattle.ls_faults.specs.declared.fault.ToolFault.TheVariants as faults
 use Rattle.ls_commands.specs.Compiled.{AnswersOn, names_of_image}
+use Rattle.ls_serial_search.specs.Told.{IsDoubt, usual}
+use Rattle.ls_serial_search.specs.declared.telling.Doubt.{Doubt}
 use Rattle.ls_source_judge.specs.Judged.{AllLinearizable, IsNotLinearizable}
 use Rattle.ls_state_space.specs.Verdicts.{LeavesStuck, NeverStuck}
 use Rattle.ls_explore_commands.specs.Explored.{names_in}
-use Rattle.ls_explore_commands.specs.Reports.{bad_text, doubtful_text, free_text, stuck_text}
+use Rattle.ls_explore_commands.specs.Reports.{bad_text, doubtful_text, free_text, stuck_and_doubtful_text, stuck_text}
 
 -- at most so many states were kept; and if these aren't all, so many
 pub record IsExtent (limit states : ℕ) (complete : Bool) : Type 0 where
@@ -28,11 +30,21 @@ pub data Decided (i : Image) (limit : ℕ) : Result Text ToolFault → Type 0 wh
       IsExtent limit states complete →
       IsNotLinearizable (file_of i) (program_of i) schedule →
       Decided i limit (Ok (bad_text (names_in i) (names_of_image i) schedule states complete))
-  -- no serial history that was found explains it, and some may not have been found
-  IsDoubtful : (schedule : List ℕ) (states : ℕ) (complete : Bool) →
+  -- no serial history that was found explains it, and some may not have been found, for this reason
+  IsDoubtful : (doubt : Doubt) (schedule : List ℕ) (states : ℕ) (complete : Bool) →
       ¬ AreBadStates limit →
       IsExtent limit states complete →
-      Decided i limit (Ok (doubtful_text (names_in i) (names_of_image i) schedule states complete))
+      IsDoubt (file_of i) (program_of i) usual doubt →
+      (complete ≡ true → NeverStuck (file_of i) (program_of i)) →
+      Decided i limit (Ok (doubtful_text doubt (names_in i) (names_of_image i) schedule states complete))
+  -- the same of this schedule, and after the first no thread acts, and one waits for a lock
+  IsStuckAndDoubtful : (stuck : List ℕ) (doubt : Doubt) (schedule : List ℕ) (states : ℕ) (complete : Bool) →
+      ¬ AreBadStates limit →
+      IsExtent limit states complete →
+      LeavesStuck (file_of i) (program_of i) stuck →
+      IsDoubt (file_of i) (program_of i) usual doubt →
+      Decided i limit
+      (Ok (stuck_and_doubtful_text stuck doubt (names_in i) (names_of_image i) schedule states complete))
   -- after this schedule no thread acts, and one waits for a lock
   IsStuck : (schedule : List ℕ) (states : ℕ) (complete : Bool) →
       ¬ AreBadStates limit →

@@ -4,18 +4,22 @@ ghost use Rattle.std.specs.Prelude.{◌≡◌, ◌++◌, ◌∷◌, [], ◌↔�
 ghost use Rattle.ls_explore_images.specs.Faults.{AreBadStates};
 ghost use Rattle.ls_faults.specs.Given.{GivesText};
 ghost use Rattle.ls_explore_commands.specs.Verdicts.{Decided, IsExtent, VerdictsTo};
+ghost use Rattle.ls_serial_search.specs.Told.{IsDoubt, usual};
 ghost use Rattle.ls_source_judge.specs.Judged.{AllLinearizable, IsNotLinearizable};
 ghost use Rattle.ls_state_space.specs.Verdicts.{LeavesStuck, NeverStuck};
 ghost use Rattle.ls_translation.specs.Texts.{file_of, program_of};
 ghost use Rattle.ls_translation.specs.declared.fault.TranslationFault.TheVariants.{Memory, ResultTooLong};
 
 use crate::command::names_in;
-use crate::reporting::{Extent, print_bad, print_doubtful, print_free, print_stuck};
+use crate::reporting::{
+    Extent, print_bad, print_doubtful, print_free, print_stuck, print_stuck_and_doubtful,
+};
 use ls_compiler::compile::compile;
 use ls_events::schedule::{MOST_STEPS, Schedule};
 use ls_explore_images::{ExploreFault, MOST_STATES};
 use ls_faults::fault::ToolFault;
 use ls_image::image::Image;
+use ls_serial_search::telling::Doubt;
 use ls_source_judge::{Judged, judge_schedules};
 use ls_translation::fault::TranslationFault;
 use std::alloc::{AllocError, Global};
@@ -86,13 +90,37 @@ fn doubtful_answer(
     alloc: Global,
     image: &Image,
     judged: &Judged,
+    doubt: Doubt,
     path: &[u8],
 ) -> Result<String, ToolFault>
     ensures { (limit : ℕ) → ¬ AreBadStates limit → IsExtent limit judged.now.states judged.now.complete →
+        IsDoubt (file_of image.now) (program_of image.now) usual doubt →
+        (IsTrue judged.now.complete → NeverStuck (file_of image.now) (program_of image.now)) →
         GivesText (Decided image.now limit) result }
 {
     let schedule = schedule_of(alloc, judged.setup, path)?;
-    let text = print_doubtful(alloc, names_in(image), &schedule, extent_of(judged))?;
+    let text = print_doubtful(alloc, names_in(image), doubt, &schedule, extent_of(judged))?;
+    Ok(text)
+}
+
+/// The same, where there is also a path to a state in which no thread acts and one waits.
+fn stuck_and_doubtful_answer(
+    alloc: Global,
+    image: &Image,
+    judged: &Judged,
+    stuck: &[u8],
+    doubt: Doubt,
+    path: &[u8],
+) -> Result<String, ToolFault>
+    ensures { (limit : ℕ) → ¬ AreBadStates limit → IsExtent limit judged.now.states judged.now.complete →
+        LeavesStuck (file_of image.now) (program_of image.now) (replicate judged.now.setup 0 ++ stuck.now) →
+        IsDoubt (file_of image.now) (program_of image.now) usual doubt →
+        GivesText (Decided image.now limit) result }
+{
+    let first = schedule_of(alloc, judged.setup, stuck)?;
+    let schedule = schedule_of(alloc, judged.setup, path)?;
+    let extent = extent_of(judged);
+    let text = print_stuck_and_doubtful(alloc, names_in(image), &first, &schedule, doubt, extent)?;
     Ok(text)
 }
 
@@ -128,8 +156,9 @@ fn free_answer(alloc: Global, image: &Image, judged: &Judged) -> Result<String, 
 fn judged_of(alloc: Global, image: &Image, states: usize) -> Result<Judged, AllocError>
     ensures good { IfOk result (λ j. IsTrue j.complete → IfNone j.bad
         (AllLinearizable (file_of image.now) (program_of image.now))) }
-    ensures bad { IfOk result (λ j. IsTrue j.known → IfSome j.bad (λ path.
-        IsNotLinearizable (file_of image.now) (program_of image.now) (replicate j.setup 0 ++ path.items))) }
+    ensures bad { IfOk result (λ j. IfNone j.doubt (IfSome j.bad (λ path.
+        IsNotLinearizable (file_of image.now) (program_of image.now) (replicate j.setup 0 ++ path.items)))) }
+    ensures doubt { IfOk result (λ j. IfSome j.doubt (IsDoubt (file_of image.now) (program_of image.now) usual)) }
     ensures free { IfOk result (λ j. IsTrue j.complete → IfNone j.stuck
         (NeverStuck (file_of image.now) (program_of image.now))) }
     ensures stuck { IfOk result (λ j. IfSome j.stuck (λ path.
@@ -140,6 +169,35 @@ fn judged_of(alloc: Global, image: &Image, states: usize) -> Result<Judged, Allo
     Ok(judged)
 }
 
+/// The text of a path to a history that no serial history explains that was found, and of one to where threads wait.
+fn doubted_answer(
+    alloc: Global,
+    image: &Image,
+    judged: &Judged,
+    doubt: Doubt,
+    path: &[u8],
+) -> Result<String, ToolFault>
+    ensures { (limit : ℕ) → ¬ AreBadStates limit → IsExtent limit judged.now.states judged.now.complete →
+        IsDoubt (file_of image.now) (program_of image.now) usual doubt →
+        (IsTrue judged.now.complete → IfNone judged.now.stuck
+        (NeverStuck (file_of image.now) (program_of image.now))) →
+        IfSome judged.now.stuck (λ stuck.
+        LeavesStuck (file_of image.now) (program_of image.now) (replicate judged.now.setup 0 ++ stuck.items)) →
+        GivesText (Decided image.now limit) result }
+{
+    match &judged.stuck {
+        Some(stuck) => stuck_and_doubtful_answer(
+            alloc,
+            image,
+            judged,
+            stuck.as_slice(),
+            doubt,
+            path,
+        ),
+        None => doubtful_answer(alloc, image, judged, doubt, path),
+    }
+}
+
 /// The text of a path to a history that no serial history explains that was found.
 fn wrong_answer(
     alloc: Global,
@@ -148,14 +206,19 @@ fn wrong_answer(
     path: &[u8],
 ) -> Result<String, ToolFault>
     ensures { (limit : ℕ) → ¬ AreBadStates limit → IsExtent limit judged.now.states judged.now.complete →
-        (IsTrue judged.now.known →
-        IsNotLinearizable (file_of image.now) (program_of image.now) (replicate judged.now.setup 0 ++ path.now)) →
+        IfNone judged.now.doubt
+        (IsNotLinearizable (file_of image.now) (program_of image.now) (replicate judged.now.setup 0 ++ path.now)) →
+        IfSome judged.now.doubt (IsDoubt (file_of image.now) (program_of image.now) usual) →
+        (IsTrue judged.now.complete → IfNone judged.now.stuck
+        (NeverStuck (file_of image.now) (program_of image.now))) →
+        IfSome judged.now.stuck (λ stuck.
+        LeavesStuck (file_of image.now) (program_of image.now) (replicate judged.now.setup 0 ++ stuck.items)) →
         GivesText (Decided image.now limit) result }
 {
-    if judged.known {
-        return bad_answer(alloc, image, judged, path);
+    match judged.doubt {
+        Some(doubt) => doubted_answer(alloc, image, judged, doubt, path),
+        None => bad_answer(alloc, image, judged, path),
     }
-    doubtful_answer(alloc, image, judged, path)
 }
 
 /// The text of what all schedules of an image's program tell.
@@ -179,6 +242,9 @@ fn decided(alloc: Global, image: &Image, states: usize) -> Result<String, ToolFa
 /// are kept: its schedule and its history. A run is wrong if its history isn't linearizable, or else if no
 /// thread acts after it and one waits. Or that there is none. The last line has how many states were kept, and whether
 /// these are all.
+///
+/// If serial histories lack, a run that none of the others explains is printed as not judged, with the reason; before it
+/// one after which threads wait, if there is such a run.
 ///
 /// Refused as `compile` is; else with 61 if no states may be kept, or more than 16,777,216; and as a schedule of over
 /// 1,000,000 steps is.

@@ -5,14 +5,15 @@ ghost use Rattle.ls_labels.specs.Names.{names_of};
 ghost use Rattle.ls_meaning.specs.Runs.{source_history};
 ghost use Rattle.ls_report.specs.Printing.{run_text};
 ghost use Rattle.ls_schedule.specs.Reading.{thread_names};
-ghost use Rattle.ls_explore_commands.specs.Reports.{bad_text, doubtful_text, end_text, free_text, last_text, run_report};
-ghost use Rattle.ls_explore_commands.specs.Reports.{stuck_text};
+ghost use Rattle.ls_explore_commands.specs.Reports.{bad_text, doubt_text, doubtful_text, end_text, free_text, last_text};
+ghost use Rattle.ls_explore_commands.specs.Reports.{run_report, stuck_and_doubtful_text, stuck_text};
 
 use ls_events::schedule::Schedule;
 use ls_explore_reports::waiting_after;
 use ls_labels::names::Names;
 use ls_report::print_history;
 use ls_schedule::print_schedule;
+use ls_serial_search::telling::Doubt;
 use ls_state::scene::Scene;
 use std::alloc::{AllocError, Global};
 use std::fmt::Write;
@@ -34,6 +35,15 @@ fn end_words(complete: bool) -> &'static str
     ensures { result.now ≡ end_text complete }
 {
     if complete { " complete\n" } else { " cut\n" }
+}
+
+fn doubt_words(doubt: Doubt) -> &'static str
+    ensures { result.now ≡ doubt_text doubt }
+{
+    match doubt {
+        Doubt::LongCall => "not judged: a call goes on",
+        Doubt::ManyOrders => "not judged: too many orders",
+    }
 }
 
 /// Adds how many states were kept, and whether these are all.
@@ -97,15 +107,16 @@ pub(crate) fn print_bad(
 pub(crate) fn print_doubtful(
     alloc: Global,
     names: Names<'_>,
+    doubt: Doubt,
     schedule: &Schedule,
     extent: Extent,
 ) -> Result<String, AllocError>
     ensures { IfOk result (λ text. string_bytes text ≡
-        doubtful_text (names_of names.entry) (thread_names names.entry.program.now) schedule.now extent.states
+        doubtful_text doubt (names_of names.entry) (thread_names names.entry.program.now) schedule.now extent.states
         extent.complete) }
 {
     let mut out = String::new(alloc);
-    push_run(alloc, &mut out, names, "not judged", schedule)?;
+    push_run(alloc, &mut out, names, doubt_words(doubt), schedule)?;
     push_last(&mut out, extent)?;
     Ok(out)
 }
@@ -124,6 +135,28 @@ pub(crate) fn print_stuck(
     let waiting = waiting_after(alloc, names, schedule)?;
     let mut out = String::new(alloc);
     push_run(alloc, &mut out, names, waiting.as_str(), schedule)?;
+    push_last(&mut out, extent)?;
+    Ok(out)
+}
+
+/// The text of a run after which threads wait for ever, and of one whose history no serial run explains that was found,
+/// where these may not be all. The only refusal is that memory ran out.
+pub(crate) fn print_stuck_and_doubtful(
+    alloc: Global,
+    names: Names<'_>,
+    stuck: &Schedule,
+    doubtful: &Schedule,
+    doubt: Doubt,
+    extent: Extent,
+) -> Result<String, AllocError>
+    ensures { IfOk result (λ text. string_bytes text ≡
+        stuck_and_doubtful_text stuck.now doubt (names_of names.entry) (thread_names names.entry.program.now)
+        doubtful.now extent.states extent.complete) }
+{
+    let waiting = waiting_after(alloc, names, stuck)?;
+    let mut out = String::new(alloc);
+    push_run(alloc, &mut out, names, waiting.as_str(), stuck)?;
+    push_run(alloc, &mut out, names, doubt_words(doubt), doubtful)?;
     push_last(&mut out, extent)?;
     Ok(out)
 }

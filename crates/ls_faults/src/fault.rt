@@ -62,6 +62,8 @@ pub enum ToolFault {
     Class(ClassFault),
     #[error("no program has one of these numbers")]
     BadNumbers,
+    #[error("these options don't go together")]
+    BadOptions,
     #[error(transparent)]
     Aim(AimFault),
     #[error(transparent)]

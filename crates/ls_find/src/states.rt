@@ -1,6 +1,6 @@
 // What the states of the source say of a program.
 
-ghost use Rattle.std.specs.Prelude.{◌≡◌, ◌++◌, IfOk, IfSome, IsTrue, None, replicate, true};
+ghost use Rattle.std.specs.Prelude.{◌≡◌, ◌++◌, IfNone, IfOk, IfSome, IsTrue, None, replicate, true};
 ghost use Rattle.ls_find.specs.Verdicts.{IsVerdict};
 ghost use Rattle.ls_source_judge.specs.Judged.{IsNotLinearizable};
 ghost use Rattle.ls_translation.specs.Texts.{file_of, program_of};
@@ -40,11 +40,11 @@ fn bad_path(
     judged: &Judged,
     waiting: bool,
 ) -> Result<Verdict, AllocError>
-    requires { IsTrue judged.now.known → IfSome judged.now.bad (λ path.
-        IsNotLinearizable (file_of image.now) (program_of image.now) (replicate judged.now.setup 0 ++ path.items)) }
+    requires { IfNone judged.now.doubt (IfSome judged.now.bad (λ path.
+        IsNotLinearizable (file_of image.now) (program_of image.now) (replicate judged.now.setup 0 ++ path.items))) }
     ensures { IfOk result (IsVerdict waiting (file_of image.now) (program_of image.now)) }
 {
-    if !judged.known {
+    if judged.doubt.is_some() {
         return Ok(Verdict::Unknown);
     }
     let Some(path) = &judged.bad else {

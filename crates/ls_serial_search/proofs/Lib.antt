@@ -4,6 +4,7 @@ pub mod Answering
 pub mod Further
 mod Between
 pub mod Covering
+pub mod Doubts
 pub mod Open
 pub mod Apart
 pub mod Along

@@ -9,6 +9,8 @@ use Rattle.ls_linearizable.specs.Linearizable.{IsLinearizable, TellSerial}
 use Rattle.ls_serial_search.specs.Open.{HasLongCall, HasManyOrders}
 use Rattle.ls_serial_search.specs.Searched.{AreSerial, TellTruth}
 use Rattle.ls_serial_search.specs.declared.telling.Bounds.{Bounds}
+use Rattle.ls_serial_search.specs.declared.telling.Doubt.{Doubt}
+use Rattle.ls_serial_search.specs.declared.telling.Doubt.TheVariants as doubts
 use Rattle.ls_serial_search.specs.declared.judging.Linearity.{Linearity}
 use Rattle.ls_serial_search.specs.declared.judging.Linearity.TheVariants as linearities
 use Rattle.ls_serial_search.specs.declared.telling.SerialSearch.{SerialSearch}
@@ -32,6 +34,11 @@ pub record Tells (file : File) (program : Program) (bounds : Bounds) (s : Serial
   pub serial : s.complete ≡ true → TellSerial file program s.runs
   pub long : s.complete ≡ false → s.many ≡ false → HasLongCall file program bounds.steps
   pub many : s.many ≡ true → HasManyOrders file program bounds.orders
+
+-- why a search isn't complete
+abbrev pub IsDoubt : File → Program → Bounds → Doubt → Type 0
+IsDoubt file program bounds doubts.LongCall = HasLongCall file program bounds.steps
+IsDoubt file program bounds doubts.ManyOrders = HasManyOrders file program bounds.orders
 
 -- what is said of a history is so; and if it isn't known, there is the reason that is said
 abbrev pub IsMeant : File → Program → Bounds → List Event → Linearity → Type 0

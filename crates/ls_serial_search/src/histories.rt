@@ -1,6 +1,6 @@
 // The serial histories of a program.
 
-ghost use Rattle.std.specs.Prelude.{◌≡◌, true, IfOk, IsTrue, OnOk};
+ghost use Rattle.std.specs.Prelude.{◌≡◌, true, false, IfNone, IfOk, IfSome, IsTrue, OnOk, Some};
 ghost use Rattle.ls_checked.specs.Plain.{plain_file};
 ghost use Rattle.ls_checked.specs.PlainProgram.{plain_program};
 ghost use Rattle.ls_events.specs.Beginnings.{IsBeginning};
@@ -8,11 +8,13 @@ ghost use Rattle.ls_meaning.specs.Runs.{source_history};
 ghost use Rattle.ls_serial.specs.Serial.{HaveBeginning};
 ghost use Rattle.ls_linearizable.specs.Linearizable.{AreTrue, TellSerial};
 ghost use Rattle.ls_serial_search.specs.Histories.{AreSerialRuns, IsKept, lists_of};
+ghost use Rattle.ls_serial_search.specs.Told.{IsDoubt};
+ghost use Rattle.ls_serial_search.specs.declared.telling.Doubt.TheVariants.{LongCall, ManyOrders};
 
 use crate::following::Task;
 use crate::playing::played;
-use crate::searching::search;
-use crate::telling::Bounds;
+use crate::searching::{Known, search};
+use crate::telling::{Bounds, Doubt};
 use ls_checked::program::Program;
 use ls_checked::tree::File;
 use ls_events::event::Event;
@@ -24,8 +26,8 @@ use std::alloc::{AllocError, Global};
 #[derive(Drop)]
 pub struct SerialHistories {
     pub histories: Vec<Vec<Event>>,
-    /// Whether no bound was met. Then the histories begin with each serial history of a schedule, of any length.
-    pub complete: bool,
+    /// The bound that was met. If none was, the histories begin with each serial history of a schedule, of any length.
+    pub doubt: Option<Doubt>,
 }
 
 /// Whether a history begins so. True only where it does.
@@ -80,6 +82,21 @@ fn keep(
     Ok(())
 }
 
+/// Why schedules of calls that run one at a time may not be all.
+fn doubt_of(known: &Known) -> Option<Doubt>
+    ensures none { IfNone result (known.now.complete ≡ true) }
+    ensures long { result ≡ Some LongCall → (known.now.complete ≡ false) × (known.now.many ≡ false) }
+    ensures many { result ≡ Some ManyOrders → known.now.many ≡ true }
+{
+    if known.complete {
+        return None;
+    }
+    if known.many {
+        return Some(Doubt::ManyOrders);
+    }
+    Some(Doubt::LongCall)
+}
+
 /// Serial histories of a program. The only refusal is that memory ran out.
 ///
 /// A history with which one that is kept begins isn't kept.
@@ -92,8 +109,9 @@ pub fn serial_histories(
     ensures serial { IfOk result (λ s. AreSerialRuns (lists_of s.histories.items)) }
     ensures truth { IfOk result (λ s. AreTrue (plain_file file.now) (plain_program program.now)
         (lists_of s.histories.items)) }
-    ensures tells { IfOk result (λ s. s.complete ≡ true → TellSerial (plain_file file.now)
-        (plain_program program.now) (lists_of s.histories.items)) }
+    ensures tells { IfOk result (λ s. IfNone s.doubt (TellSerial (plain_file file.now)
+        (plain_program program.now) (lists_of s.histories.items))) }
+    ensures doubt { IfOk result (λ s. IfSome s.doubt (IsDoubt (plain_file file.now) (plain_program program.now) bounds)) }
 {
     let task = Task {
         file,
@@ -110,6 +128,6 @@ pub fn serial_histories(
     }
     Ok(SerialHistories {
         histories,
-        complete: known.complete,
+        doubt: doubt_of(&known),
     })
 }

@@ -38,6 +38,21 @@ impl Bounds {
     }
 }
 
+/// Why a search isn't complete: the bound that it met.
+#[derive(Copy, PartialEq, Eq)]
+pub enum Doubt {
+    /// A call alone doesn't end within the most steps.
+    LongCall,
+    /// There are too many orders of calls.
+    ManyOrders,
+}
+
+impl Clone for Doubt {
+    fn clone(&self) -> Result<Doubt, AllocError> {
+        Ok(*self)
+    }
+}
+
 /// The serial runs of a program.
 #[derive(Drop)]
 pub struct SerialSearch {

@@ -1,6 +1,7 @@
 // What is told of the histories and the ends of all schedules of a program.
 
 ghost use Rattle.std.specs.Prelude.{◌≡◌, ◌≤◌, ◌++◌, IfNone, IfOk, IfSome, IsTrue, false, replicate};
+ghost use Rattle.ls_serial_search.specs.Told.{IsDoubt, usual};
 ghost use Rattle.ls_checked.specs.Plain.{plain_file};
 ghost use Rattle.ls_checked.specs.PlainProgram.{plain_program};
 ghost use Rattle.ls_state_space.specs.Verdicts.{LeavesStuck, NeverStuck};
@@ -10,7 +11,7 @@ use ls_checked::program::Program;
 use ls_checked::tree::File;
 use ls_rests_observer::laws::bad_stays_bad;
 use ls_rests_observer::watching::serial_observer;
-use ls_serial_search::telling::Bounds;
+use ls_serial_search::telling::{Bounds, Doubt};
 use ls_state_space::verdict::{Finding, verdict};
 use std::alloc::{AllocError, Global};
 
@@ -25,8 +26,8 @@ pub struct Judged {
     pub complete: bool,
     /// A path to a history that no serial history explains that is known.
     pub bad: Option<Vec<u8>>,
-    /// Whether all serial histories are known. Then that history isn't linearizable.
-    pub known: bool,
+    /// Why some serial histories may not be known. If there is no reason, that history isn't linearizable.
+    pub doubt: Option<Doubt>,
     /// A path to a state in which no thread acts and one waits for a lock.
     pub stuck: Option<Vec<u8>>,
 }
@@ -41,8 +42,9 @@ pub fn judge_schedules(
 ) -> Result<Judged, AllocError>
     ensures good { IfOk result (λ j. IsTrue j.complete → IfNone j.bad
         (AllLinearizable (plain_file file.now) (plain_program program.now))) }
-    ensures bad { IfOk result (λ j. IsTrue j.known → IfSome j.bad (λ path.
-        IsNotLinearizable (plain_file file.now) (plain_program program.now) (replicate j.setup 0 ++ path.items))) }
+    ensures bad { IfOk result (λ j. IfNone j.doubt (IfSome j.bad (λ path.
+        IsNotLinearizable (plain_file file.now) (plain_program program.now) (replicate j.setup 0 ++ path.items)))) }
+    ensures doubt { IfOk result (λ j. IfSome j.doubt (IsDoubt (plain_file file.now) (plain_program program.now) usual)) }
     ensures free { IfOk result (λ j. IsTrue j.complete → IfNone j.stuck
         (NeverStuck (plain_file file.now) (plain_program program.now))) }
     ensures stuck { IfOk result (λ j. IfSome j.stuck (λ path.
@@ -64,7 +66,7 @@ pub fn judge_schedules(
         states,
         complete,
         bad,
-        known: serial.complete,
+        doubt: serial.doubt,
         stuck,
     })
 }

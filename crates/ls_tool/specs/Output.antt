@@ -72,10 +72,10 @@ OnTwo (requests.Batch seed count steps switch cells judge) classes program answe
     (requests.Batch seed count steps switch cells judge) classes program answer
 OnTwo (requests.Sample seed steps switch cells) classes program answer = OnSamples
     (requests.Sample seed steps switch cells) classes program answer
-OnTwo (requests.Explore cells states illegal first progress false) classes program answer = ExploresTo
+OnTwo (requests.Explore cells states illegal first progress) classes program answer = ExploresTo
     (exploring cells states illegal first) classes program answer
-OnTwo (requests.Explore cells states illegal first progress true) classes program answer = VerdictsTo states classes
-    program answer
+OnTwo (requests.Verdict states false) classes program answer = VerdictsTo states classes program answer
+OnTwo (requests.Verdict states true) classes program answer = answer ≡ Err faults.BadOptions
 OnTwo other first second answer = answer ≡ Err faults.WrongParts
 
 -- what is shown of a run
@@ -247,7 +247,7 @@ telling_if true telling = telling
 telling_if false telling = tellings.Nothing
 
 abbrev pub progress_of : Request → Telling
-progress_of (requests.Explore cells states illegal first progress verdict) = telling_if progress tellings.States
+progress_of (requests.Explore cells states illegal first progress) = telling_if progress tellings.States
 progress_of (requests.Find seeking) = telling_if seeking.progress tellings.Programs
 progress_of other = tellings.Nothing
 

@@ -111,6 +111,7 @@ fn on_one<R: Threads + Sync, W: Watch>(
         | Request::Batch { .. }
         | Request::Sample { .. }
         | Request::Explore { .. }
+        | Request::Verdict { .. }
         | Request::Merge { .. } => Err(ToolFault::WrongParts),
     }
 }
@@ -194,11 +195,7 @@ fn on_two<R: Threads + Wait + Sync, W: Watch>(
             illegal,
             first: one,
             progress: _,
-            verdict: only,
         } => {
-            if only {
-                return verdict(alloc, states as usize, first, second);
-            }
             let exploring = Exploring {
                 cells: cells as usize,
                 states: states as usize,
@@ -206,6 +203,12 @@ fn on_two<R: Threads + Wait + Sync, W: Watch>(
                 first: one,
             };
             explore(alloc, exploring, first, second, watch)
+        }
+        Request::Verdict { states, mixed } => {
+            if mixed {
+                return Err(ToolFault::BadOptions);
+            }
+            verdict(alloc, states as usize, first, second)
         }
         Request::Order
         | Request::Replay { .. }
@@ -282,6 +285,7 @@ fn on_three<R: Threads + Wait + Sync>(
         | Request::Batch { .. }
         | Request::Sample { .. }
         | Request::Explore { .. }
+        | Request::Verdict { .. }
         | Request::Find(_)
         | Request::Merge { .. } => Err(ToolFault::WrongParts),
     }

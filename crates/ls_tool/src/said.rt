@@ -63,7 +63,6 @@ pub(crate) fn progress_of(request: Request) -> Telling
             illegal: _,
             first: _,
             progress,
-            verdict: _,
         } => telling_if(progress, Telling::States),
         Request::Find(seeking) => telling_if(seeking.progress, Telling::Programs),
         _ => Telling::Nothing,

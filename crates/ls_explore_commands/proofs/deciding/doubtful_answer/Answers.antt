@@ -6,14 +6,15 @@ use Rattle.ls_explore_commands.proofs.Decisions.{same_text, tells, too_long}
 use Rattle.ls_explore_commands.proofs.deciding.doubtful_answer.Goals as goal
 
 pub returns-in_err-schedule : goal.returns-in_err-schedule
-returns-in_err-schedule c = λ limit good extent.
+returns-in_err-schedule c = λ limit good extent doubt free.
     let p = err_from_is_err_and c.from_residual.result c.from_residual.ensures.1 in
     rw (p.1, p.2) (too_long c.args.image.now limit c.in_err-schedule.field-0.0 c.in_err-schedule.ensures.only good)
 
 pub returns : goal.returns
-returns c = λ limit good extent.
+returns c = λ limit good extent doubt free.
     let j = c.args.judged.now in
-    let text = same_text doubtful_text _ _ _ _ _ _ _ _ _ _ _ c.names_in.ensures.names c.names_in.ensures.program
-    c.in_ok-schedule.ensures.steps c.extent_of.ensures.states c.extent_of.ensures.complete c.in_ok-text.ensures in
+    let text = same_text (doubtful_text c.args.doubt) _ _ _ _ _ _ _ _ _ _ _ c.names_in.ensures.names
+    c.names_in.ensures.program c.in_ok-schedule.ensures.steps c.extent_of.ensures.states c.extent_of.ensures.complete
+    c.in_ok-text.ensures in
     tells c.args.image.now limit _ _ text
-    (IsDoubtful (replicate j.setup 0 ++ c.args.path.now) j.states j.complete good extent)
+    (IsDoubtful c.args.doubt (replicate j.setup 0 ++ c.args.path.now) j.states j.complete good extent doubt free)

@@ -1,4 +1,4 @@
-use Rattle.std.proofs.Common.{◌≡◌, ◌∙◌, ap, subst, sym}
+use Rattle.std.proofs.Common.{◌≡◌, ◌∙◌, Option, Some, None, IfNone, ap, subst, sym}
 use Rattle.ls_checked.specs.CheckedTree.{File}
 use Rattle.ls_checked.specs.CheckedProgram.{Program}
 use Rattle.ls_checked.specs.Plain.{plain_file}
@@ -10,6 +10,10 @@ use Rattle.ls_rests_observer.specs.Watched.{runs_of}
 use Rattle.ls_rests_observer.proofs.Verdicts.{bad_are_not, good_are}
 use Rattle.ls_rests_observer.proofs.watching.serial_observer.Goals as goal
 
+if_none : {X P Q : Type 0} (o : Option X) → (P → Q) → IfNone o P → IfNone o Q
+if_none None f p = f p
+if_none (Some x) f p = tt
+
 pub returns-clause-good : goal.returns-clause-good
 returns-clause-good c =
     let file : File = plain_file c.args.file.now in
@@ -20,11 +24,13 @@ returns-clause-good c =
     (subst (AreTrue file program) (sym is) c.in_ok-found.ensures.truth)
 
 pub returns-clause-bad : goal.returns-clause-bad
-returns-clause-bad c = λ complete.
+returns-clause-bad c =
     let file : File = plain_file c.args.file.now in
     let program : Program = plain_program c.args.program.now in
     let is : runs_of c.in_ok-observer.observer ≡ lists_of c.in_ok-found.found.histories.items =
     c.in_ok-observer.ensures ∙ ap lists_of c.as_slice.ensures.value in
-    bad_are_not c.in_ok-observer.observer file program (subst AreSerial (sym is) c.in_ok-found.ensures.serial)
+    if_none c.in_ok-found.found.doubt
+    (λ tells. bad_are_not c.in_ok-observer.observer file program
+    (subst AreSerial (sym is) c.in_ok-found.ensures.serial)
     (subst (AreTrue file program) (sym is) c.in_ok-found.ensures.truth)
-    (subst (TellSerial file program) (sym is) (c.in_ok-found.ensures.tells complete))
+    (subst (TellSerial file program) (sym is) tells)) c.in_ok-found.ensures.tells

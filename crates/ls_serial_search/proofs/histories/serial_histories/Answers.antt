@@ -5,6 +5,8 @@ use Rattle.ls_checked.specs.Plain.{plain_file}
 use Rattle.ls_checked.specs.PlainProgram.{plain_program}
 use Rattle.ls_serial_search.specs.Histories.{lists_of}
 use Rattle.ls_serial_search.proofs.Kept.{AreKept, are_serial, are_true, kept_more, kept_none, tell_serial}
+use Rattle.ls_linearizable.specs.Linearizable.{TellSerial}
+use Rattle.ls_serial_search.proofs.Doubts.{doubted, told}
 use Rattle.ls_serial_search.proofs.histories.serial_histories.Goals as goal
 
 pub loop-at-init : goal.loop-at-init
@@ -47,12 +49,25 @@ returns-clause-truth c =
     c.loop-at.invariant)
 
 pub returns-clause-tells : goal.returns-clause-tells
-returns-clause-tells c = λ complete.
+returns-clause-tells c =
     let file : File = plain_file c.args.file.now in
     let program : Program = plain_program c.args.program.now in
     let none : c.loop-at.at ≡ 0 = omega (arith, c.loop-at-test.false) in
-    tell_serial file program c.in_ok-known.known.schedules.items (lists_of c.loop-at.histories.items)
+    told c.doubt_of.result (TellSerial file program (lists_of c.loop-at.histories.items)) c.doubt_of.ensures.none
+    (λ complete. tell_serial file program c.in_ok-known.known.schedules.items (lists_of c.loop-at.histories.items)
     (subst (λ known. AreKept file program known 0 (lists_of c.loop-at.histories.items))
     c.as_slice-schedules.ensures.value
     (subst (λ n. AreKept file program c.as_slice-schedules.result.now n (lists_of c.loop-at.histories.items)) none
-    c.loop-at.invariant)) (c.in_ok-known.ensures.complete complete)
+    c.loop-at.invariant)) (c.in_ok-known.ensures.complete complete))
+
+pub returns-clause-doubt : goal.returns-clause-doubt
+returns-clause-doubt c =
+    let file : File = plain_file c.args.file.now in
+    let program : Program = plain_program c.args.program.now in
+    doubted file program c.args.bounds c.doubt_of.result c.doubt_of.ensures.long c.doubt_of.ensures.many
+    c.in_ok-known.ensures.long (λ many. record {
+      known = c.in_ok-known.known.schedules.items;
+      serial = c.in_ok-known.ensures.serial;
+      apart = c.in_ok-known.ensures.apart;
+      many = c.in_ok-known.ensures.many many;
+    })
