@@ -26,10 +26,12 @@ function print_broken(line,  at, indent) {
 /two parts, class/ { files = "my.java my.program" }
 /two parts, a history/ { files = "my.history my.order" }
 /input is a history/ { files = "my.history" }
+/input has a history, or class/ { files = "my.java my.program my.history" }
 /[Ii]nput is a class text/ { files = "my.java" }
 /program and targets/ { files = "my.java my.program my.targets" }
 /input is tallies/ { files = "my.tally more.tally" }
-/^Usage: listset [a-z]/ { command = $3 }
+/^Usage: listset [a-z]/ { command = $3; $0 = $0 " [FILE]..." }
+/^Usage: listset <COMMAND>/ { $0 = $0 " [OPTIONS] [FILE]..." }
 /^  (printf|listset) / { gsub(/ \| /, " |\n    ") }
 {
     count = split($0 "\n", lines, "\n")
@@ -49,6 +51,8 @@ END {
             print ""
             print "The page is put round what the program prints:"
             print "  listset page my.java my.program my.schedule > run.html"
+            print "Without a schedule one chooses on the page who steps next:"
+            print "  listset page my.java my.program > play.html"
             print "With --data the data are printed alone."
             print "scripts/make/page puts the page round them."
         }

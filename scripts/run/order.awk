@@ -1,6 +1,6 @@
 # Says in words what `order` tells of a history: what the set holds at the end of an order, and which call has no place. The input is the
 # history, a line %% and what `order` prints of it.
-$0 == "%%" { is_told = 1; next }
+/^%[%\034]$/ { is_told = 1; next }
 is_told && (head == "" && /^(hopeless|broken) /) { head = $0; next }
 is_told && !has_order { has_order = 1; for (i = 1; i <= NF; i++) order[++count] = $i; next }
 is_told { next }

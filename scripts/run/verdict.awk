@@ -1,6 +1,6 @@
 # Says in words why an order isn't legal, and what the set holds where an answer is another. The input is a history and an order; verdict is
 # what `check` prints of them.
-$0 == "%%" { is_order = 1; next }
+/^%[%\034]$/ { is_order = 1; next }
 is_order { for (i = 1; i <= NF; i++) order[++count] = $i; next }
 $2 == "call" && match($3, /\.(add|remove|contains)\(/) {
     method[$1] = substr($3, RSTART + 1, RLENGTH - 2)

@@ -22,12 +22,12 @@ part_name parts.History = codes "history"
 part_name parts.Order = codes "order"
 part_name parts.Tallies = codes "tallies"
 
--- the number of the part, from 0, in an input of `count` parts; an order is the last part
+-- the number of the part, from 0, in an input of `count` parts; a history is the third of three, and an order the last
 abbrev pub part_number : Part → ℕ → ℕ
 part_number parts.Classes count = 0
 part_number parts.Program count = 1
 part_number parts.Schedule count = 2
-part_number parts.History count = 0
+part_number parts.History count = if count == 3 then 2 else 0
 part_number parts.Order count = count - 1
 part_number parts.Tallies count = 0
 

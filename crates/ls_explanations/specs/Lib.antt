@@ -2,3 +2,4 @@ pub mod Places
 pub mod Spots
 pub mod Sentences
 pub mod Explanations
+pub mod Named

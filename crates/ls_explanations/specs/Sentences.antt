@@ -95,4 +95,5 @@ sentence (faults.History (history.BadHistory at)) classes =
 sentence (faults.Order (order.BadOrder at)) classes = codes "expected a call, as `A.1`\n"
 sentence (faults.Tally (tally.BadTally at)) classes = codes
     "expected a line as `seed 7 count 3`, then a history, then an empty line\n"
+sentence faults.BadOptions classes = codes "these options don't go together, or not with so many parts\n"
 sentence _ classes = []

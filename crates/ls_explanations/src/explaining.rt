@@ -56,7 +56,7 @@ fn push_marks(out: &mut Vec<u8>, count: usize) -> Result<(), AllocError>
 }
 
 /// Adds the line of a place, and a mark under the place.
-fn push_shown(out: &mut Vec<u8>, text: &[u8], span: Span) -> Result<(), AllocError>
+pub(crate) fn push_shown(out: &mut Vec<u8>, text: &[u8], span: Span) -> Result<(), AllocError>
     ensures { OnOk result (out.new.items ≡ out.old.items ++ shown text.now span) }
 {
     let Spot {
@@ -87,14 +87,14 @@ fn push_explanation(
 }
 
 /// How many parts there are.
-fn count_of(texts: &[String]) -> usize
+pub(crate) fn count_of(texts: &[String]) -> usize
     ensures { result ≡ length (map string_bytes texts.now) }
 {
     texts.len()
 }
 
 /// A part, or nothing if there is none.
-fn part_text(texts: &[String], number: usize) -> &[u8]
+pub(crate) fn part_text(texts: &[String], number: usize) -> &[u8]
     ensures { result.now ≡ part_text (map string_bytes texts.now) number }
 {
     match texts.get(number) {
@@ -138,7 +138,11 @@ fn have_returns(texts: &[String]) -> bool
     false
 }
 
-fn push_hint(out: &mut Vec<u8>, fault: ToolFault, texts: &[String]) -> Result<(), AllocError>
+pub(crate) fn push_hint(
+    out: &mut Vec<u8>,
+    fault: ToolFault,
+    texts: &[String],
+) -> Result<(), AllocError>
     ensures { OnOk result (out.new.items ≡ out.old.items ++ hint fault (map string_bytes texts.now)) }
 {
     if minds_returns(fault) && have_returns(texts) {

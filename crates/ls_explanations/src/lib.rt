@@ -3,9 +3,11 @@
 #![tactic(auto)]
 
 mod explaining;
+mod named;
 mod place;
 mod sentence;
 mod spot;
 
 pub use explaining::explain;
+pub use named::explain_named;
 pub use place::{Part, Place, place_of};

@@ -37,12 +37,14 @@ impl Clone for Part {
 }
 
 impl Part {
-    /// The number of the part, from 0, in an input of `count` parts. An order is the last part.
+    /// The number of the part, from 0, in an input of `count` parts. A history is the third of three parts. An order is
+    /// the last part.
     pub fn number(self, count: usize) -> usize
         ensures { result ≡ part_number self count }
     {
         match self {
-            Part::Classes | Part::History | Part::Tallies => 0,
+            Part::Classes | Part::Tallies => 0,
+            Part::History => { if count == 3 { 2 } else { 0 } }
             Part::Program => 1,
             Part::Schedule => 2,
             Part::Order => count.saturating_sub(1),

@@ -1,0 +1,2 @@
+pub mod FileLines
+pub mod Words

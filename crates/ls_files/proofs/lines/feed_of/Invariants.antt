@@ -1,0 +1,11 @@
+use Rattle.std.proofs.Common.{◌≡◌, ◌+◌, ◌-◌, ◌≤◌, length, drop}
+use Rattle.std.specs.List.{position_or_len}
+use Rattle.ls_files.specs.Files.{is_feed}
+use Rattle.ls_files.proofs.lines.feed_of.Given as goal
+
+abbrev pub invariant-loop-end : goal.invariant-loop-end
+invariant-loop-end l = (l.end ≤ length l.bytes) × (position_or_len is_feed l.bytes ≡ l.end + position_or_len is_feed
+    (drop l.end l.bytes))
+
+abbrev pub decreases-loop-end : goal.decreases-loop-end
+decreases-loop-end l = length l.bytes - l.end

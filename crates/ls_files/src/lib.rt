@@ -1,0 +1,10 @@
+//! The files of an input: which words name them, and where a byte of the input stands in them.
+#![tactic(auto)]
+
+mod lines;
+mod marks;
+mod names;
+
+pub use lines::{FileLine, file_line, part_start};
+pub use marks::unmarked;
+pub use names::{asking, names_in};
