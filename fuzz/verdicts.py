@@ -5,7 +5,8 @@ Each case is a class of counters, stacks, queues, sets, locks or markable refere
 three threads. All orders of whole calls are run by `trace`, one call after another, so no exploration is asked for them. A history is
 linearizable exactly if one of these runs explains it. Of each row of `explore`, of an exploration that is cut too, and of each history of
 `batch --judge`: `linearizable` and `not linearizable` stand where they should, and the last line of `explore` counts them. If a call alone
-goes on and on, `explore` may say nothing of a history and `batch` `not judged`. `explore --verdict` prints a run that is wrong as it says,
+goes on and on, `explore` may say nothing of a history and `batch` `not judged`. `order` finds a run of whole calls for some of the rows, and
+for these with an answer changed, or the line from which on no run explains them. `explore --verdict` prints a run that is wrong as it says,
 and none only if no row of a whole exploration is wrong. Ends with status 1 if something is wrong."""
 import argparse
 import random
@@ -173,6 +174,7 @@ def wrong_verdict(program, text, runs, endless):
         return f"explore --verdict: {done.told()}", ""
     out = done.out.decode()
     head, rest = out.split("\n", 1)
+    head = head.partition("; context switches ")[0]
     complete = out.endswith(" complete\n")
     rows = run(program, ["explore", "--states", STATES], text, seconds=120).out.decode()
     *blocks, last = rows.split("\n\n")
@@ -195,13 +197,61 @@ def wrong_verdict(program, text, runs, endless):
     return None, f"{head.split(' waits')[0]}, {out.splitlines()[-1]}"
 
 
+def changed(rng, lines):
+    """The history with the answer of one call of a thread changed. The runs of whole calls say nothing of the setup's."""
+    ends = [at for at, line in enumerate(lines) if re.fullmatch(r"(?!setup\.).* return (true|false|-?\d+)", line)]
+    if not ends:
+        return lines
+    at = rng.choice(ends)
+    head, answer = lines[at].rsplit(" ", 1)
+    other = {"true": "false", "false": "true"}.get(answer) or str(int(answer) + rng.choice((-1, 1)))
+    return [*lines[:at], f"{head} {other}", *lines[at + 1:]]
+
+
+def explained_by(order, lines, runs):
+    """Whether the run of whole calls in this order explains a history."""
+    calls = [it for it in order.split() if not it.startswith("setup.")]
+    return any([call for call, _, _ in it] == calls and explains(it, events(lines)) for it in runs)
+
+
+def wrong_order(program, text, lines, runs, endless):
+    """What is wrong with the order of whole calls that is found for a history, or None."""
+    done = run(program, ["order"], joined(text, "".join(f"{line}\n" for line in lines).encode()), seconds=120)
+    told = done.out.decode().split("\n")
+    is_so = any(explains(it, events(lines)) for it in runs)
+    if done.status != 0 or told[-1] != "":
+        return f"order: {done.told()}"
+    if told[0].startswith("not judged: a call goes on") and len(told) == 2:
+        return None if endless and not is_so else "not judged, but it can be"
+    if not told[0].startswith("hopeless "):
+        return None if len(told) == 2 and explained_by(told[0], lines, runs) else f"{told[0]!r} doesn't explain it"
+    _, number, line = told[0].split(" ", 2)
+    count = int(number)
+    if len(told) != 3 or lines[count - 1] != line or not explained_by(told[1], lines[:count - 1], runs):
+        return f"{told}: the lines before aren't explained so"
+    return f"{told}: a run explains it" if any(explains(it, events(lines[:count])) for it in runs) else None
+
+
+def wrong_orders(program, text, runs, endless):
+    """What is wrong with the orders of some rows, and of these with an answer changed; or None, and a word on it."""
+    rng = random.Random(len(text) + len(runs))
+    *blocks, _ = run(program, ["explore", "--states", STATES], text, seconds=120).out.decode().split("\n\n")
+    for block in rng.sample(blocks, min(4, len(blocks))):
+        lines = block.split("\n")[2:]
+        for history in (lines, changed(rng, lines)):
+            wrong = wrong_order(program, text, history, runs, endless)
+            if wrong:
+                return wrong + "\n" + "\n".join(history), ""
+    return None, "orders"
+
+
 def tried(program, text, counts):
-    """What is wrong with the explorations, the verdict and the tally of a program, or None, and words on them."""
+    """What is wrong with the explorations, the verdict, the tally and the orders of a program, or None, and words on them."""
     runs, endless = serial_runs(program, text, counts)
     words = [f"{len(runs)} runs"]
     for trial in (lambda: wrong_exploration(program, text, STATES, runs, endless),
                   lambda: wrong_exploration(program, text, CUT, runs, endless), lambda: wrong_verdict(program, text, runs, endless),
-                  lambda: wrong_tally(program, text, runs, endless)):
+                  lambda: wrong_tally(program, text, runs, endless), lambda: wrong_orders(program, text, runs, endless)):
         wrong, told = trial()
         if wrong:
             return wrong, ""

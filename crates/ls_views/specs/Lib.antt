@@ -2,3 +2,4 @@ pub mod Check
 pub mod Ordered
 pub mod Viewed
 pub mod Aimed
+pub mod SerialOrdered

@@ -4,4 +4,5 @@
 pub mod aim;
 pub mod check;
 pub mod order;
+pub mod serial_order;
 pub mod view;

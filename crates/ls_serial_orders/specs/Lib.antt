@@ -1,0 +1,5 @@
+pub mod Named
+pub mod Calls
+pub mod Known
+pub mod Orders
+pub mod Telling

@@ -1,0 +1,12 @@
+//! Which order of whole calls of a program explains a history, or else the event from which on none does.
+#![tactic(auto)]
+
+mod calls;
+mod finding;
+pub mod laws;
+mod naming;
+mod telling;
+
+pub use finding::{Outcome, find};
+pub use naming::{Named, run_of};
+pub use telling::tell;
