@@ -3,3 +3,4 @@ pub mod Shown
 pub mod Waits
 pub mod Wholes
 pub mod Goodness
+pub mod Legalities

@@ -1,37 +1,62 @@
 -- What is found of the programs of a class.
-use Rattle.std.specs.Prelude.{◌≡◌, ℕ, Bool, List, Err, string_bytes}
+use Rattle.std.specs.Prelude.{◌≡◌, ◌++◌, ℕ, List, Err, codes, string_bytes}
 use Rattle.ls_compiler.specs.Answers.{CompilesTo}
-use Rattle.ls_image.specs.Images.{Compiles, program_of_image}
+use Rattle.ls_explore_reports.specs.Waiting.{waiting}
+use Rattle.ls_image.specs.Images.{checked_of, Compiles, program_of_image}
 use Rattle.ls_image.specs.declared.image.Image.{Image}
+use Rattle.ls_labels.specs.Names.{Names}
+use Rattle.ls_state.specs.Scene.{scene_of}
 use Rattle.ls_translation.specs.Texts.{file_of, program_of}
-use Rattle.ls_find.specs.Verdicts.{IsBad, IsGood}
+use Rattle.ls_types.specs.CheckedFile.{outcome_of}
+use Rattle.ls_find.specs.Sought.{IsGoodFor}
+use Rattle.ls_find.specs.Verdicts.{IsBad}
+use Rattle.ls_find.specs.declared.sought.Sought.{Sought}
 use Rattle.ls_schedule.specs.Printing.{schedule_text}
 use Rattle.ls_schedule.specs.Reading.{thread_names}
 use Rattle.ls_find.specs.declared.explorer.Why.{Why}
 use Rattle.ls_find.specs.declared.explorer.Why.TheVariants as whys
 use Rattle.ls_find.specs.declared.verdict.Reason.{Reason}
+use Rattle.ls_find.specs.declared.verdict.Reason.TheVariants as reasons
 
 abbrev pub Text : Type 0
 Text = List ℕ
 
--- with this program the class text compiles, and the history of each of its schedules is linearizable; and if waiting is
--- looked for, no thread waits for ever
-abbrev pub IsSound : Bool → Text → Text → Type 0
-IsSound waiting classes program = (i : Image) × Compiles classes program i × IsGood waiting (file_of i) (program_of i)
+-- with this program the class text compiles, and it is good for what is looked for
+abbrev pub IsSound : Sought → Text → Text → Type 0
+IsSound sought classes program =
+    (i : Image) × Compiles classes program i × IsGoodFor sought (file_of i) (program_of i)
 
 -- with this program it compiles, and no more is said
 abbrev pub IsCut : Text → Text → Type 0
 IsCut classes program = (i : Image) × Compiles classes program i
 
--- with this program it compiles, and this is the text of a schedule that is bad for a reason
-pub record IsBadProgram (classes program : Text) (reason : Reason) (text : Text) : Type 0 where
+-- the names of an image's classes and of what they declare, its file and its program
+abbrev pub names_in : Image → Names
+names_in i = record {
+  classes = (outcome_of (checked_of i)).names;
+  signs = (outcome_of (checked_of i)).signs;
+  file = file_of i;
+  program = program_of i;
+}
+
+-- why a schedule is shown; of threads that wait it is said for what they do
+abbrev pub reason_text : Reason → Names → List Text → List ℕ → Text
+reason_text reasons.NotLinearizable names threads schedule = codes "not linearizable"
+reason_text reasons.Waits names threads schedule =
+    codes "threads wait for ever: " ++ waiting names (scene_of names schedule) 0 threads
+reason_text reasons.Illegal names threads schedule = codes "no order of the set calls is legal"
+
+-- with this program it compiles, and a schedule is bad for a reason; these are the texts of the reason and of the schedule
+pub record IsBadProgram (classes program because text : Text) : Type 0 where
   pub image : Image
   pub compiles : Compiles classes program image
+  pub reason : Reason
   pub schedule : List ℕ
   pub bad : IsBad reason (file_of image) (program_of image) schedule
+  pub why : because ≡ reason_text reason (names_in image) (thread_names (program_of_image image)) schedule
   pub said : text ≡ schedule_text (thread_names (program_of_image image)) schedule
 
 -- so it is; or it doesn't compile
 abbrev pub IsWhy : Text → Text → Why → Type 0
-IsWhy classes program (whys.Bad reason text) = IsBadProgram classes program reason (string_bytes text)
+IsWhy classes program (whys.Bad why text) = IsBadProgram classes program (string_bytes why) (string_bytes text)
 IsWhy classes program (whys.NotCompiled f) = CompilesTo classes program (Err f)

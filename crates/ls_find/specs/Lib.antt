@@ -1,3 +1,4 @@
 pub mod Verdicts
 pub mod Found
 pub mod Family
+pub mod Sought

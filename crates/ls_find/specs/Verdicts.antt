@@ -13,10 +13,16 @@ use Rattle.ls_find.specs.declared.verdict.Verdict.TheVariants as verdicts
 pub use Rattle.ls_source_judge.specs.Judged.{AllLinearizable, IsNotLinearizable}
 use Rattle.ls_waiting.specs.Laws.{NoneWaitsForEver, WaitsForEver}
 use Rattle.ls_waiting.specs.Waits.{AreExcused, IsUnexcused}
+use Rattle.ls_verdicts.specs.Verdicts as sets
+use Rattle.ls_verdicts.specs.declared.verdicts.Verdict.TheVariants as legality
 
 -- a call waits for ever after this schedule
 abbrev pub HasWaiting : File → Program → List ℕ → Type 0
 HasWaiting file program schedule = (c : Event) × WaitsForEver file program schedule c
+
+-- the history of this schedule is one of a set, and no order of it is legal
+abbrev pub IsIllegal : File → Program → List ℕ → Type 0
+IsIllegal file program schedule = sets.IsVerdict program (source_history file program schedule) legality.Illegal
 
 -- all histories are linearizable; and if waiting is looked for, no thread waits for ever
 pub record IsGood (waiting : Bool) (file : File) (program : Program) : Type 0 where
@@ -27,6 +33,7 @@ pub record IsGood (waiting : Bool) (file : File) (program : Program) : Type 0 wh
 abbrev pub IsBad : Reason → File → Program → List ℕ → Type 0
 IsBad reasons.NotLinearizable file program schedule = IsNotLinearizable file program schedule
 IsBad reasons.Waits file program schedule = HasWaiting file program schedule
+IsBad reasons.Illegal file program schedule = IsIllegal file program schedule
 
 abbrev pub IsVerdict : Bool → File → Program → Verdict → Type 0
 IsVerdict waiting file program verdicts.Good = IsGood waiting file program

@@ -3,21 +3,26 @@
 ghost use Rattle.std.specs.Prelude.{ℕ, IfOk, List};
 ghost use Rattle.ls_family_search.specs.Judged.{IsJudgement};
 ghost use Rattle.ls_find.specs.Found.{IsCut, IsSound, IsWhy};
+ghost use Rattle.ls_find.specs.Sought.{AllNamed};
 ghost use Rattle.ls_image.specs.Images.{Compiles};
+ghost use Rattle.ls_translation.specs.Texts.{file_of, program_of};
 
-use crate::verdict::{Reason, Verdict, verdict_on};
+use crate::reasons::{names_in, reason_text};
+use crate::sought::{Sought, sought_verdict};
+use crate::verdict::Verdict;
 use ls_compiler::compile::compile;
 use ls_compiler::fault::CompileFault;
 use ls_family_search::{Judge, Judgement};
 use ls_image::image::Image;
 use ls_schedule::print_schedule;
+use ls_text_laws::source_is_readable;
 use std::alloc::{AllocError, Global};
 
 /// Why the search ends with a program.
 #[derive(Drop)]
 pub enum Why {
-    /// The schedule with this text is bad.
-    Bad { reason: Reason, schedule: String },
+    /// A schedule is bad: why, and the text of the schedule.
+    Bad { why: String, schedule: String },
     /// The class text doesn't compile with the program.
     NotCompiled(CompileFault),
 }
@@ -30,8 +35,8 @@ pub struct Explorer<'a> {
     pub cells: usize,
     /// How many states of a program are kept at the most.
     pub states: usize,
-    /// Whether threads that wait for ever are looked for.
-    pub waiting: bool,
+    /// What is looked for.
+    pub sought: Sought,
 }
 
 /// What is said of an image.
@@ -40,17 +45,19 @@ fn judged(
     image: &Image,
     cells: usize,
     states: usize,
-    waiting: bool,
+    sought: Sought,
 ) -> Result<Judgement<Why>, AllocError>
+    requires { AllNamed (file_of image.now) (program_of image.now) }
     ensures { (classes program : List ℕ) → Compiles classes program image.now →
-        IfOk result (IsJudgement (IsSound waiting classes program) (IsCut classes program) (IsWhy classes program)) }
+        IfOk result (IsJudgement (IsSound sought classes program) (IsCut classes program) (IsWhy classes program)) }
 {
-    match verdict_on(alloc, image, cells, states, waiting)? {
+    match sought_verdict(alloc, image, cells, states, sought)? {
         Verdict::Good => Ok(Judgement::Good),
         Verdict::Unknown => Ok(Judgement::Cut),
         Verdict::Bad(reason, steps) => {
+            let why = reason_text(alloc, reason, names_in(image), &steps)?;
             let schedule = print_schedule(alloc, &steps, image.program())?;
-            Ok(Judgement::Halt(Why::Bad { reason, schedule }))
+            Ok(Judgement::Halt(Why::Bad { why, schedule }))
         }
     }
 }
@@ -60,15 +67,16 @@ impl<'a> Judge for Explorer<'a> {
 
     type Why = Why;
 
-    ghost IsGood = { λ e program. IsSound e.waiting e.classes.now program };
+    ghost IsGood = { λ e program. IsSound e.sought e.classes.now program };
 
     ghost IsCut = { λ e program. IsCut e.classes.now program };
 
     ghost Halts = { λ e program why. IsWhy e.classes.now program why };
 
     fn judge(&self, alloc: Global, program: &str) -> Result<Judgement<Why>, AllocError> {
+        source_is_readable();
         match compile(alloc, self.classes, program) {
-            Ok(image) => judged(alloc, &image, self.cells, self.states, self.waiting),
+            Ok(image) => judged(alloc, &image, self.cells, self.states, self.sought),
             Err(fault) => Ok(Judgement::Halt(Why::NotCompiled(fault))),
         }
     }

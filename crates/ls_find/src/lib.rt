@@ -4,9 +4,13 @@
 
 mod explorer;
 pub mod laws;
+mod legal;
+mod reasons;
+mod sought;
 mod states;
 mod verdict;
 mod waiting;
 
 pub use explorer::{Explorer, Why};
+pub use sought::{Sought, sought_verdict};
 pub use verdict::{Reason, Verdict, verdict_on};

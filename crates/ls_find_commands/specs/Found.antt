@@ -1,5 +1,5 @@
 -- What the command `find` says.
-use Rattle.std.specs.Prelude.{◌≡◌, ◌-◌, ◌<◌, ◌⊎◌, ℕ, List, Option, None, Some, Result, Ok, Err, codes, length, min}
+use Rattle.std.specs.Prelude.{◌≡◌, ◌+◌, ◌-◌, ◌<◌, ◌⊎◌, ℕ, List, Option, None, Some, Result, Ok, Err, length, min}
 use Rattle.std.specs.Prelude.{slice_get}
 use Rattle.std.specs.Prelude.{string_bytes}
 use Rattle.ls_class_programs.specs.ClassPrograms.{AreProgramsOf, IsClassFault}
@@ -18,9 +18,8 @@ use Rattle.ls_faults.specs.declared.fault.ToolFault.TheVariants as faults
 use Rattle.ls_find.specs.Family.{IsFound}
 use Rattle.ls_find.specs.declared.explorer.Why.{Why}
 use Rattle.ls_find.specs.declared.explorer.Why.TheVariants as whys
-use Rattle.ls_find.specs.declared.verdict.Reason.{Reason}
-use Rattle.ls_find.specs.declared.verdict.Reason.TheVariants as reasons
-use Rattle.ls_find_reports.specs.Printing.{found_text, none_text}
+use Rattle.ls_find_reports.specs.Printing.{figures_of, found_text, none_text}
+use Rattle.ls_find_reports.specs.declared.figures.Figures.{Figures}
 use Rattle.ls_report.specs.Events.{Text}
 use Rattle.ls_find_commands.specs.declared.command.Range.{Range}
 
@@ -28,27 +27,26 @@ use Rattle.ls_find_commands.specs.declared.command.Range.{Range}
 abbrev pub IsBadRange : Range → ℕ → Type 0
 IsBadRange r count = (r.from ≡ 0) ⊎ (r.to < r.from) ⊎ (count < r.from)
 
-abbrev pub reason_text : Reason → Text
-reason_text reasons.NotLinearizable = codes "not linearizable"
-reason_text reasons.Waits = codes "threads wait for ever"
+-- the text of the program of a number with which a search ends; or its fault
+abbrev pub why_answer : Figures → ℕ → Text → Why → Result Text ToolFault
+why_answer f number program (whys.Bad why schedule) =
+    Ok (found_text f number (string_bytes why) program (string_bytes schedule))
+why_answer f number program (whys.NotCompiled fault) = Err (lifted_compile fault)
 
--- the text of the program with which a search ends, from a number on and of so many; or its fault
-abbrev pub why_answer : ℕ → ℕ → List Passed → Text → Why → Result Text ToolFault
-why_answer from count ps program (whys.Bad reason schedule) =
-    Ok (found_text from count ps (reason_text reason) program (string_bytes schedule))
-why_answer from count ps program (whys.NotCompiled fault) = Err (lifted_compile fault)
-
-abbrev pub halted_answer : ℕ → ℕ → List Passed → Option (Halted Why) → Result Text ToolFault
-halted_answer from count ps None = Ok (none_text from count ps)
-halted_answer from count ps (Some h) = why_answer from count ps (string_bytes h.program) h.halt
+-- of the numbers after so many, up to one, of so many in all
+abbrev pub halted_answer : ℕ → ℕ → ℕ → List Passed → Option (Halted Why) → Result Text ToolFault
+halted_answer before to count ps None = Ok (none_text (figures_of before to count ps))
+halted_answer before to count ps (Some h) =
+    why_answer (figures_of before to count ps) (before + length ps + 1) (string_bytes h.program) h.halt
 
 -- what is found among programs
 pub data FindsIn (classes : Text) (p : Programs) (r : Range) : Result Text ToolFault → Type 0 where
   NoNumbers : IsBadRange r (length (plans p.family)) → FindsIn classes p r (Err faults.BadNumbers)
   Searched : (f : Finding Why) →
       ¬ IsBadRange r (length (plans p.family)) →
-      IsFound r.waiting classes p (r.from - 1) (min r.to (length (plans p.family))) f →
-      FindsIn classes p r (halted_answer (r.from - 1) (length (plans p.family)) f.passed.items f.halted)
+      IsFound r.sought classes p (r.from - 1) (min r.to (length (plans p.family))) f →
+      FindsIn classes p r
+      (halted_answer (r.from - 1) (min r.to (length (plans p.family))) (length (plans p.family)) f.passed.items f.halted)
 
 -- What is found among those of a class text, or why there are none.
 pub data FindsTo (o : Choosing) (r : Range) (classes : Text) : Result Text ToolFault → Type 0 where

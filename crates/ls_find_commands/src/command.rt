@@ -5,17 +5,17 @@ ghost use Rattle.ls_explore.specs.Watching.{GoesOn};
 ghost use Rattle.ls_explore_images.specs.Faults.{AreBadStates};
 ghost use Rattle.ls_faults.specs.Given.{GivesText};
 ghost use Rattle.ls_find_commands.specs.Found.{FindsIn, FindsTo, IsBadRange, PrintsTo};
-ghost use Rattle.ls_find_commands.specs.Found.{halted_answer, reason_text, why_answer};
+ghost use Rattle.ls_find_commands.specs.Found.{halted_answer, why_answer};
 
 use crate::noting::searched;
 use ls_class_programs::{Choosing, programs_of};
 use ls_explore::Watch;
 use ls_explore_images::{ExploreFault, MOST_STATES};
 use ls_families::print_plan;
-use ls_family_search::{Finding, Halted, Numbers, Passed, Programs};
+use ls_family_search::{Finding, Halted, Numbers, Programs};
 use ls_faults::fault::ToolFault;
-use ls_find::{Explorer, Reason, Why};
-use ls_find_reports::{Shown, print_found, print_none};
+use ls_find::{Explorer, Sought, Why};
+use ls_find_reports::{Figures, Shown, figures_of, print_found, print_none};
 use std::alloc::{AllocError, Global};
 use std::thread::Threads;
 
@@ -27,8 +27,8 @@ const CELLS: usize = 65_536;
 pub struct Range {
     /// How many states of each are kept at the most.
     pub states: usize,
-    /// Whether threads that wait for ever are looked for.
-    pub waiting: bool,
+    /// What is looked for.
+    pub sought: Sought,
     /// The first number and the last, from 1.
     pub from: u64,
     pub to: u64,
@@ -55,67 +55,52 @@ fn is_bad_range(range: Range, count: u64) -> bool
     range.from == 0 || range.to < range.from || range.from > count
 }
 
-/// Why a program is shown.
-fn reason_text(reason: Reason) -> &'static str
-    ensures { result.now ≡ reason_text reason }
-{
-    match reason {
-        Reason::NotLinearizable => "not linearizable",
-        Reason::Waits => "threads wait for ever",
-    }
-}
-
-/// The text of a program with which the search ends.
+/// The text of a program of a number with which the search ends.
 fn why_text(
     alloc: Global,
-    from: u64,
-    count: u64,
-    passed: &[Passed],
+    figures: Figures,
+    number: u64,
     program: &str,
     why: Why,
 ) -> Result<String, ToolFault>
-    requires { from + length passed.now + 1 < 2 ^ 64 }
-    ensures { GivesText (λ answer. answer ≡ why_answer from count passed.now program.now why) result }
+    ensures { GivesText (λ answer. answer ≡ why_answer figures number program.now why) result }
 {
     match why {
-        Why::Bad { reason, schedule } => {
+        Why::Bad { why, schedule } => {
             let shown = Shown {
-                reason: reason_text(reason),
+                number,
+                reason: why.as_str(),
                 program,
                 schedule: schedule.as_str(),
             };
-            let text = print_found(alloc, from, count, passed, shown)?;
+            let text = print_found(alloc, figures, shown)?;
             Ok(text)
         }
         Why::NotCompiled(fault) => Err(ToolFault::from(fault)),
     }
 }
 
-/// The text of what is found.
+/// The text of what is found of the numbers after so many, up to one, of so many in all.
 fn finding_text(
     alloc: Global,
-    from: u64,
+    before: u64,
+    to: u64,
     count: u64,
     finding: Finding<Why>,
 ) -> Result<String, ToolFault>
-    requires first { from + 1 < 2 ^ 64 }
-    requires last { from + length finding.passed.items < 2 ^ 64 }
-    requires next { IfSome finding.halted (λ h. from + length finding.passed.items + 1 < 2 ^ 64) }
-    ensures { GivesText (λ answer. answer ≡ halted_answer from count finding.passed.items finding.halted) result }
+    requires first { before + 1 < 2 ^ 64 }
+    requires last { before + length finding.passed.items < 2 ^ 64 }
+    requires next { IfSome finding.halted (λ h. before + length finding.passed.items + 1 < 2 ^ 64) }
+    ensures { GivesText (λ answer. answer ≡ halted_answer before to count finding.passed.items finding.halted) result }
 {
     let Finding { passed, halted } = finding;
+    let figures = figures_of(before, to, count, passed.as_slice());
     match halted {
         Some(Halted { program, halt }) => {
-            why_text(
-                alloc,
-                from,
-                count,
-                passed.as_slice(),
-                program.as_str(),
-                halt,
-            )
+            let number = before + passed.len() as u64 + 1;
+            why_text(alloc, figures, number, program.as_str(), halt)
         }
-        None => Ok(print_none(alloc, from, count, passed.as_slice())?),
+        None => Ok(print_none(alloc, figures)?),
     }
 }
 
@@ -142,15 +127,16 @@ fn found<W: Watch>(
         classes,
         cells: CELLS,
         states: range.states,
-        waiting: range.waiting,
+        sought: range.sought,
     };
     let finding = searched(rt, &explorer, alloc, programs, numbers, watch)?;
-    finding_text(alloc, from, count, finding)
+    finding_text(alloc, from, to, count, finding)
 }
 
-/// The first program of a class text, by numbers of a range, that has a history that isn't linearizable; or, if that is
-/// looked for, threads that wait for ever. Its number and the reason, how the programs before it were passed, its text, and
-/// as another part the schedule. Or that there is none. A program that isn't explored whole is counted as cut.
+/// The first program of a class text, by numbers of a range, that has a history that isn't linearizable; or, if these
+/// are looked for, threads that wait for ever, or a history that is illegal as one of a set. Its number and the reason,
+/// how the programs before it were passed, its text, and as another part the schedule. Or that there is none. A program
+/// that isn't explored whole is counted as cut.
 ///
 /// Refused with 61 as `explore` is; else as `programs_of` is; else with 70 if no program has the first number, or the
 /// last number comes before it; else as `compile` is for a program.

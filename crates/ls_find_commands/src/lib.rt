@@ -2,8 +2,10 @@
 #![tactic(auto)]
 
 mod command;
+pub mod laws;
 mod noting;
 
 pub use command::{Range, find, print_program};
 pub use ls_class_programs::Choosing;
 pub use ls_families::Bounds;
+pub use ls_find::Sought;

@@ -1,92 +1,54 @@
 // The text of what is found.
 
-ghost use Rattle.std.specs.Prelude.{◌≡◌, ◌+◌, ◌<◌, ◌^◌, ◌++◌, IfOk, IfSome, OnOk, count_by, length, position};
-ghost use Rattle.std.specs.Prelude.{string_bytes};
-ghost use Rattle.ls_find_reports.specs.Printing.{first_text, found_text, head_text, is_cut, is_double, none_text};
-ghost use Rattle.ls_find_reports.specs.Printing.{none_words};
-ghost use Rattle.ls_find_reports.specs.Printing.{passed_text};
+ghost use Rattle.std.specs.Prelude.{◌≡◌, ◌++◌, IfOk, OnOk, string_bytes};
+ghost use Rattle.ls_find_reports.specs.Printing.{figures_line, first_text, found_text, none_line, none_text, number_text};
 
-use ls_family_search::Passed;
+use crate::figures::Figures;
 use std::alloc::{AllocError, Global};
 use std::fmt::Write;
 
-fn is_double(one: Passed) -> bool
-    ensures { result ≡ is_double one }
+/// Adds the number of the first that is cut, if some are.
+fn push_first(out: &mut String, cut: u64, first: u64) -> Result<(), AllocError>
+    ensures { OnOk result (string_bytes out.new ≡ string_bytes out.old ++ first_text cut first) }
 {
-    match one {
-        Passed::Double => true,
-        Passed::Good | Passed::Cut => false,
-    }
-}
-
-fn is_cut(one: Passed) -> bool
-    ensures { result ≡ is_cut one }
-{
-    match one {
-        Passed::Cut => true,
-        Passed::Double | Passed::Good => false,
-    }
-}
-
-/// How many are doubles.
-fn count_doubles(passed: &[Passed]) -> usize
-    ensures { result ≡ count_by is_double passed.now }
-{
-    passed.iter().filter(|one| is_double(**one)).count()
-}
-
-/// How many are cut.
-fn count_cut(passed: &[Passed]) -> usize
-    ensures { result ≡ count_by is_cut passed.now }
-{
-    passed.iter().filter(|one| is_cut(**one)).count()
-}
-
-/// The place of the first that is cut.
-fn first_cut(passed: &[Passed]) -> Option<usize>
-    ensures is { result ≡ position is_cut passed.now }
-    ensures within { IfSome result (λ i. i < length passed.now) }
-{
-    passed.iter().position(|one| is_cut(*one))
-}
-
-/// Adds the number of the first that is cut, if there is one.
-fn push_first(out: &mut String, from: u64, first: Option<usize>) -> Result<(), AllocError>
-    requires { IfSome first (λ i. from + i + 1 < 2 ^ 64) }
-    ensures { OnOk result (string_bytes out.new ≡ string_bytes out.old ++ first_text from first) }
-{
-    if let Some(place) = first {
-        let number = from + place as u64 + 1;
-        write!(out, ", the first number {number}")?;
+    if cut > 0 {
+        write!(out, " from number {first} on")?;
     }
     Ok(())
 }
 
-/// Adds the number of a program among so many, and why it is shown.
-#[tactic(auto, unfolding(crate::specs::Printing::head_text))]
-fn push_head(out: &mut String, number: u64, count: u64, reason: &str) -> Result<(), AllocError>
-    ensures { OnOk result (string_bytes out.new ≡ string_bytes out.old ++ head_text number count reason.now) }
+/// Adds what is counted of a range, without a line feed.
+pub fn push_figures(out: &mut String, figures: Figures) -> Result<(), AllocError>
+    ensures { OnOk result (string_bytes out.new ≡ string_bytes out.old ++ figures_line figures) }
 {
-    write!(out, "// number {number} of {count}: {reason}\n")?;
+    let Figures {
+        from,
+        to,
+        count,
+        doubles,
+        cut,
+        first,
+    } = figures;
+    write!(
+        out,
+        "// numbers {from} to {to} of {count} with {doubles} doubles and {cut} cut"
+    )?;
+    push_first(out, cut, first)?;
     Ok(())
 }
 
-/// Adds how many were passed as doubles, and how many were cut.
-#[tactic(auto, unfolding(crate::specs::Printing::passed_text))]
-fn push_passed(out: &mut String, from: u64, passed: &[Passed]) -> Result<(), AllocError>
-    requires { from + length passed.now < 2 ^ 64 }
-    ensures { OnOk result (string_bytes out.new ≡ string_bytes out.old ++ passed_text from passed.now) }
+/// Adds the number of a program among so many.
+pub fn push_number(out: &mut String, number: u64, count: u64) -> Result<(), AllocError>
+    ensures { OnOk result (string_bytes out.new ≡ string_bytes out.old ++ number_text number count) }
 {
-    let doubles = count_doubles(passed);
-    let cut = count_cut(passed);
-    write!(out, "// {doubles} doubles, {cut} cut")?;
-    push_first(out, from, first_cut(passed))?;
-    out.push_str("\n")
+    write!(out, "// number {number} of {count}: ")?;
+    Ok(())
 }
 
-/// A program that is shown: why, its text, and a schedule.
+/// A program that is shown: its number, why, its text, and a schedule.
 #[derive(Copy)]
 pub struct Shown<'a> {
+    pub number: u64,
     pub reason: &'a str,
     pub program: &'a str,
     pub schedule: &'a str,
@@ -98,55 +60,42 @@ impl<'a> Clone for Shown<'a> {
     }
 }
 
-/// The text of a program that is shown: its number among so many, and why, how the numbers before it were passed, the
-/// program, and the schedule as another part.
-pub fn print_found(
-    alloc: Global,
-    from: u64,
-    count: u64,
-    passed: &[Passed],
-    shown: Shown<'_>,
-) -> Result<String, AllocError>
-    requires { from + length passed.now + 1 < 2 ^ 64 }
-    ensures { IfOk result (λ text. string_bytes text ≡
-        found_text from count passed.now shown.entry.reason.now shown.entry.program.now shown.entry.schedule.now) }
+/// The text of a program that is shown: its number among so many, and why, what is counted of the range, the program,
+/// and the schedule as another part.
+pub fn print_found(alloc: Global, figures: Figures, shown: Shown<'_>) -> Result<String, AllocError>
+    ensures { IfOk result (λ text. string_bytes text ≡ found_text figures shown.entry.number
+        shown.entry.reason.now shown.entry.program.now shown.entry.schedule.now) }
 {
-    let number = from + passed.len() as u64 + 1;
     let mut out = String::new(alloc);
-    push_head(&mut out, number, count, shown.reason)?;
-    push_passed(&mut out, from, passed)?;
+    push_number(&mut out, shown.number, figures.count)?;
+    out.push_str(shown.reason)?;
+    out.push_str("\n")?;
+    push_figures(&mut out, figures)?;
+    out.push_str("\n")?;
     out.push_str(shown.program)?;
     out.push_str("%%\n")?;
     out.push_str(shown.schedule)?;
     Ok(out)
 }
 
-/// How a text begins that says that none is found.
-fn none_words(cut: usize) -> &'static str
-    ensures { result.now ≡ none_words cut }
+/// How a text begins that says that none is found: without a line feed.
+pub fn none_line(cut: u64) -> &'static str
+    ensures { result.now ≡ none_line cut }
 {
     if cut == 0 {
-        return "// none in numbers ";
+        return "// none";
     }
-    "// none in what was explored of numbers "
+    "// none in what was explored"
 }
 
-/// The text that there is none from a number on, and how the programs were passed.
-pub fn print_none(
-    alloc: Global,
-    from: u64,
-    count: u64,
-    passed: &[Passed],
-) -> Result<String, AllocError>
-    requires first { from + 1 < 2 ^ 64 }
-    requires last { from + length passed.now < 2 ^ 64 }
-    ensures { IfOk result (λ text. string_bytes text ≡ none_text from count passed.now) }
+/// The text that there is none in a range, and what is counted of the range.
+pub fn print_none(alloc: Global, figures: Figures) -> Result<String, AllocError>
+    ensures { IfOk result (λ text. string_bytes text ≡ none_text figures) }
 {
-    let first = from + 1;
-    let last = from + passed.len() as u64;
-    let words = none_words(count_cut(passed));
     let mut out = String::new(alloc);
-    write!(out, "{words}{first} to {last} of {count}\n")?;
-    push_passed(&mut out, from, passed)?;
+    out.push_str(none_line(figures.cut))?;
+    out.push_str("\n")?;
+    push_figures(&mut out, figures)?;
+    out.push_str("\n")?;
     Ok(out)
 }

@@ -16,14 +16,13 @@ pub fn status_of(text: &str) -> u8
     if begins(text, "// number ") {
         return 3;
     }
-    if begins(text, "// none in what was explored ") {
+    if begins(text, "// none in what was explored") {
         return 4;
     }
     0
 }
 
 /// What `print_found` prints has the status 3. What `print_none` prints has 4 if some are cut, and else 0.
-#[tactic(auto, unfolding(crate::specs::Printing::head_text))]
 pub fn statuses_are_so()
     ensures found { FoundIsThree }
     ensures none { NoneIsFourIfCut }

@@ -9,11 +9,11 @@ use Rattle.ls_tallies_reading.specs.declared.fault.TallyFault.TheVariants as tal
 use Rattle.ls_faults.specs.Faults.{lifted_tally}
 use Rattle.ls_faults.specs.Given.{GivesText}
 use Rattle.ls_faults.proofs.Answering.{Failed}
-use Rattle.ls_merging.specs.Merging.{IsOther, Merges, MergesTo, NoTally}
+use Rattle.ls_merging.specs.Merging.{IsOther, Merges, MergesTalliesTo, NoTally}
 
 pub not_read : (wanted : Option ℕ) (text : Text) (f : TallyFault) →
     Explains text f →
-    GivesText (MergesTo wanted text) (Failed (lifted_tally f))
+    GivesText (MergesTalliesTo wanted text) (Failed (lifted_tally f))
 not_read wanted text tally.Memory h = tt
 not_read wanted text (tally.BadTally at) h = NoTally at h
 not_read wanted text tally.CountTooGreat h = absurd h
@@ -24,6 +24,6 @@ pub printed : (wanted : Option ℕ) (text said : Text) (rows merge : List Row) �
     total_of rows < 2 ^ 64 →
     ¬ IsOther wanted (total_of rows) →
     IsMerge rows merge
-    → said ≡ rows_text merge → MergesTo wanted text (Ok said)
-printed wanted text said rows merge lists fits same is e = subst (λ t. MergesTo wanted text (Ok t)) (sym e)
+    → said ≡ rows_text merge → MergesTalliesTo wanted text (Ok said)
+printed wanted text said rows merge lists fits same is e = subst (λ t. MergesTalliesTo wanted text (Ok t)) (sym e)
     (Merges rows merge lists fits same is)

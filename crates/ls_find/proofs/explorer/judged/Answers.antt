@@ -2,23 +2,28 @@ use Rattle.std.proofs.Common.{◌∙◌, ap, subst}
 use Rattle.ls_schedule.specs.Printing.{schedule_text}
 use Rattle.ls_schedule.specs.Reading.{thread_names}
 use Rattle.ls_translation.specs.Texts.{file_of, program_of}
-use Rattle.ls_find.specs.Verdicts.{IsVerdict}
+use Rattle.ls_find.specs.Found.{reason_text}
+use Rattle.ls_find.specs.Sought.{IsVerdictFor}
 use Rattle.ls_find.proofs.explorer.judged.Goals as goal
 
 pub returns-in-Good : goal.returns-in-Good
 returns-in-Good c = λ classes program compiles. (
   c.args.image.now,
   compiles,
-  subst (IsVerdict c.args.waiting (file_of c.args.image.now) (program_of c.args.image.now)) c.in-Good.is
-      c.in_ok-verdict_on.ensures,
+  subst (IsVerdictFor c.args.sought (file_of c.args.image.now) (program_of c.args.image.now)) c.in-Good.is
+      c.in_ok-sought_verdict.ensures,
 )
 
 pub returns-in_ok-schedule-in-Bad : goal.returns-in_ok-schedule-in-Bad
 returns-in_ok-schedule-in-Bad c = λ classes program compiles. record {
   image = c.args.image.now;
   compiles = compiles;
+  reason = c.in-Bad.reason;
   schedule = c.in-Bad.steps;
-  bad = subst (IsVerdict c.args.waiting (file_of c.args.image.now) (program_of c.args.image.now)) c.in-Bad.is
-      c.in_ok-verdict_on.ensures;
+  bad = subst (IsVerdictFor c.args.sought (file_of c.args.image.now) (program_of c.args.image.now)) c.in-Bad.is
+      c.in_ok-sought_verdict.ensures;
+  why = c.in_ok-why-in-Bad.ensures ∙
+      (λ i. reason_text c.in-Bad.reason (c.names_in.ensures.names i) (thread_names (c.names_in.ensures.program i))
+      c.in-Bad.steps);
   said = c.in_ok-schedule-in-Bad.ensures ∙ ap (λ p. schedule_text (thread_names p) c.in-Bad.steps) c.program.ensures;
 }

@@ -8,7 +8,6 @@ use Rattle.ls_types.specs.CheckedFile.{outcome_of}
 use Rattle.ls_translation.specs.Texts.{file_of, program_of}
 use Rattle.ls_source_judge.specs.Judged.{AllLinearizable}
 use Rattle.ls_state_space.specs.Verdicts.{NeverStuck}
-use Rattle.ls_find.specs.Verdicts.{IsGood}
 use Rattle.ls_find.proofs.Goodness.{all_good}
 use Rattle.ls_find.proofs.states.verdict_by_states.Goals as goal
 

@@ -1,0 +1,50 @@
+// Why a schedule is shown.
+
+ghost use Rattle.std.specs.Prelude.{◌≡◌, IfOk, string_bytes};
+ghost use Rattle.ls_find.specs.Found.{names_in, reason_text};
+ghost use Rattle.ls_image.specs.Images.{program_of_image};
+ghost use Rattle.ls_labels.specs.Names.{names_of};
+ghost use Rattle.ls_schedule.specs.Reading.{thread_names};
+
+use crate::verdict::Reason;
+use ls_events::schedule::Schedule;
+use ls_explore_reports::waiting_after;
+use ls_image::image::Image;
+use ls_labels::names::Names;
+use std::alloc::{AllocError, Global};
+
+/// The names of an image's classes and program.
+pub(crate) fn names_in(image: &Image) -> Names<'_>
+    ensures names { names_of result ≡ names_in image.now }
+    ensures program { result.program.now ≡ program_of_image image.now }
+{
+    let checked = image.checked();
+    Names {
+        classes: checked.class_names(),
+        signs: checked.class_signs(),
+        file: checked.file(),
+        program: image.program(),
+    }
+}
+
+/// Why a schedule is shown. Of threads that wait it is said for what they do.
+pub(crate) fn reason_text(
+    alloc: Global,
+    reason: Reason,
+    names: Names<'_>,
+    schedule: &Schedule,
+) -> Result<String, AllocError>
+    ensures { IfOk result (λ text. string_bytes text ≡
+        reason_text reason (names_of names.entry) (thread_names names.entry.program.now) schedule.now) }
+{
+    match reason {
+        Reason::NotLinearizable => String::from_str(alloc, "not linearizable"),
+        Reason::Waits => {
+            let waiting = waiting_after(alloc, names, schedule)?;
+            let mut text = String::from_str(alloc, "threads wait for ever: ")?;
+            text.push_str(waiting.as_str())?;
+            Ok(text)
+        }
+        Reason::Illegal => String::from_str(alloc, "no order of the set calls is legal"),
+    }
+}

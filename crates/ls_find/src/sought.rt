@@ -1,0 +1,51 @@
+// What is looked for in a program.
+
+ghost use Rattle.std.specs.Prelude.{IfOk};
+ghost use Rattle.ls_find.specs.Sought.{AllNamed, IsVerdictFor};
+ghost use Rattle.ls_translation.specs.Texts.{file_of, program_of};
+
+use crate::legal::set_verdict;
+use crate::verdict::{Verdict, verdict_on};
+use ls_image::image::Image;
+use std::alloc::{AllocError, Global};
+
+/// What is looked for in programs, besides a history that isn't linearizable.
+#[derive(Copy)]
+pub struct Sought {
+    /// Whether threads that wait for ever are looked for.
+    pub waiting: bool,
+    /// Whether histories are looked for that are illegal as those of a set.
+    pub set: bool,
+}
+
+impl Clone for Sought {
+    fn clone(&self) -> Result<Sought, AllocError> {
+        Ok(*self)
+    }
+}
+
+/// Says of the program of an image what `verdict_on` does; and if all is well and those of a set are looked for, whether
+/// each history is legal.
+///
+/// The only refusal is that memory ran out.
+pub fn sought_verdict(
+    alloc: Global,
+    image: &Image,
+    cells: usize,
+    states: usize,
+    sought: Sought,
+) -> Result<Verdict, AllocError>
+    requires { AllNamed (file_of image.now) (program_of image.now) }
+    ensures { IfOk result (IsVerdictFor sought (file_of image.now) (program_of image.now)) }
+{
+    match verdict_on(alloc, image, cells, states, sought.waiting)? {
+        Verdict::Good => {
+            if sought.set {
+                return set_verdict(alloc, image, cells, states);
+            }
+            Ok(Verdict::Good)
+        }
+        Verdict::Unknown => Ok(Verdict::Unknown),
+        Verdict::Bad(reason, schedule) => Ok(Verdict::Bad(reason, schedule)),
+    }
+}

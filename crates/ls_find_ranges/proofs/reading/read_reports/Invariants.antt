@@ -1,0 +1,15 @@
+use Rattle.std.proofs.Common.{length, map}
+use denote.Text.{Utf8}
+use denote.Shadow.{shadow}
+use Rattle.ls_find_ranges.specs.Reports.{plain_report}
+use Rattle.ls_find_ranges.proofs.Listed.{IsReading}
+use Rattle.ls_find_ranges.proofs.reading.read_reports.Given as goal
+
+abbrev pub invariant-loop-rest : goal.invariant-loop-rest
+invariant-loop-rest l = record {
+  text : shadow (Utf8 l.rest);
+  reading : IsReading l.text l.rest (map plain_report l.reports.items);
+}
+
+abbrev pub decreases-loop-rest : goal.decreases-loop-rest
+decreases-loop-rest l = length l.rest
