@@ -7,7 +7,8 @@ class Run {
     this.data = data;
     this.from = Math.max(1, data.from);   // `--from 0` tells from step 1 on too
     this.before = readState(data.before);
-    this.after = readState(data.after);
+    // a walk that can go on has no last state, but what each thread asks for, and things of each class
+    this.after = data.after === undefined ? null : readState(data.after);
     this.threads = this.before.threads.map(line => /^[\w$]+/.exec(line)[0]);
     this.number = new Map(this.threads.map((name, thread) => [name, thread]));
     this.names = this.before.names.map(([name]) => name);
@@ -21,14 +22,24 @@ class Run {
     for (const it of this.before.things) this.noteReferences(it);
     this.changes = this.rows.map((row, at) => this.changeAndApply(row, at));
     this.at = this.rows.length;
+    if (this.after === null) this.after = this.endsSo();
     this.disagrees = this.firstDifference();
     this.lookAtThreads();
   }
 
+  // Where the rows end, as `readState` gives it.
+  endsSo() {
+    const things = [...this.things.values()].sort((a, b) => a.number - b.number);
+    return {
+      things: things.map(it => thing(it.id, it.kind, it.cells)), threads: this.data.asks,
+      names: this.names.map(name => [name, this.nameValues.get(name)]),
+    };
+  }
   // Of each class its fields, with what a new object has in them.
   fieldsOfClasses() {
     const fields = new Map();
-    for (const it of [...this.after.things, ...this.before.things]) {
+    const known = this.after === null ? this.data.shapes : this.after.things;
+    for (const it of [...known, ...this.before.things]) {
       const name = classOf(it.id);
       if (it.kind === "object" && !fields.has(name))
         fields.set(name, fieldsOf(it).map(([field, value]) => [field, startOfKind(value)]));

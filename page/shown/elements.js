@@ -27,11 +27,19 @@ const brief = name => name.length > MOST_LETTERS ? name.slice(0, 8) + "…" + na
 // How wide a text is in the page's fixed-width letters, in pixels.
 const textWidth = (text, size) => text.length * size * .605;
 
-const data = JSON.parse(byId("data").textContent);
-const run = new Run(data);
-const following = new Following(run);
-const calls = callsOf(run);
-const callNamed = new Map(calls.map(call => [nameOf(call), call]));
+// What the page is round, and the run that is shown: the one that is given, or on a page of choices the walk so far.
+// Each file that keeps something of the run makes it anew when another one is read, in the order of the files.
+const given = JSON.parse(byId("data").textContent);
+let data, run, following, calls, callNamed;
+const whenRead = [];
+function readRun(of) {
+  data = of;
+  run = new Run(data);
+  following = new Following(run);
+  calls = callsOf(run);
+  callNamed = new Map(calls.map(call => [nameOf(call), call]));
+  for (const make of whenRead) make();
+}
 
 // Six colours in turn; the setup has one of its own. A name always stands beside a colour.
 const colour = thread => "var(--t" + (thread === 0 ? 0 : (thread - 1) % 6 + 1) + ")";

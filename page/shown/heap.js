@@ -103,12 +103,12 @@ function roomOfHeap() {
   const banner = byId("banner"), right = byId("right");
   if (window.matchMedia("(max-width: 820px)").matches) return window.innerHeight * .45;
   const below = getComputedStyle(right).display === "grid" ? 20 : 190;
-  return right.clientHeight - below - (banner.textContent ? banner.offsetHeight : 0);
+  return right.clientHeight - below - byId("challenge").offsetHeight - (banner.textContent ? banner.offsetHeight : 0);
 }
 function scaleOf({ width, height }) {
   const room = Math.max(200, byId("heap").clientWidth - 26);
   if (window.matchMedia("print").matches) return Math.min(1.1, 900 / width);
-  const high = Math.max(220, roomOfHeap());
+  const high = Math.max(graph === null ? 220 : 120, roomOfHeap());
   const fits = room / width < .6 ? Math.min(1, high / height) : Math.min(1.5, room / width, high / height);
   return Math.max(.6, fits);
 }

@@ -59,6 +59,18 @@ const actions = {
   X: () => save(lanesAlone(), "history.svg"),
   "+": () => zoom(1.5), "-": () => zoom(1 / 1.5),
 };
+// On a page of choices a thread has a letter, or a number, before any other key.
+if (graph !== null) {
+  delete actions.a;
+  Object.assign(actions, { Enter: pickSame, u: undo, r: again, h: hint, t: tell, y: copy, Y: link, m: toggleMap });
+  graph.names.forEach((name, thread) => {
+    const letter = letterOf(thread);
+    if (thread < 9) actions[String(thread + 1)] = () => pick(thread);
+    if (letter === "") return;
+    actions[letter] = () => pick(thread);
+    if (letter !== letter.toUpperCase()) actions[letter.toUpperCase()] = () => pickCall(thread);
+  });
+}
 const SHIFTED = { ArrowRight: "PageDown", ArrowLeft: "PageUp" };
 const BUTTONS = {
   first: "Home", back: "ArrowLeft", forth: "ArrowRight", last: "End", play: " ",
@@ -68,12 +80,13 @@ const BUTTONS = {
 document.addEventListener("keydown", event => {
   if (event.ctrlKey || event.altKey || event.metaKey) return;
   if (byId("keys").open && event.key !== "?") return;
-  if (event.key === " " && event.target.tagName === "BUTTON") return;
+  if ([" ", "Enter"].includes(event.key) && event.target.tagName === "BUTTON") return;
+  if (event.target.id === "walk") return;
   const action = actions[event.shiftKey && SHIFTED[event.key] || event.key];
   if (!action) return;
   event.preventDefault();
   action();
 });
 byId("slider").addEventListener("input", event => goTo(Number(event.target.value)));
-for (const id in BUTTONS) byId(id).addEventListener("click", () => actions[BUTTONS[id]]());
+for (const id in BUTTONS) if (actions[BUTTONS[id]]) byId(id).addEventListener("click", () => actions[BUTTONS[id]]());
 byId("title").addEventListener("click", () => byId("title").classList.toggle("open"));

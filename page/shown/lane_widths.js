@@ -9,7 +9,7 @@ function tailOf(call) {
 }
 function weightOf({ start }) {
   const row = run.rows[start];
-  return row.thread === "setup" ? .3 : row.acts ? 1 : .7;
+  return row.thread === "setup" ? (graph === null ? .3 : .1) : row.acts ? 1 : .7;
 }
 
 // A call's words fit over it: where they don't, its last stop is wider.
@@ -31,7 +31,8 @@ function layLanes() {
   const unit = Math.max(count > 2000 ? .6 : 3, (shown - lanes.nameWidth - lanes.tail) / sum) * zoom;
   const least = Math.max(count > 600 ? .4 : 3, zoom > 1 ? unit : Math.min(unit, Math.max(9, unit * .55)));
   const widths = weights.map(weight => weight * least);
-  if (count < 4000) for (const call of calls) widenFor(call, widths);
+  const widened = calls.filter(call => graph === null || call.thread !== "setup");
+  if (count < 4000) for (const call of widened) widenFor(call, widths);
   const free = shown - lanes.nameWidth - lanes.tail - 10 - widths.reduce((a, b) => a + b, 0);
   lanes.x = [12];
   for (let at = 0; at < count; at++) lanes.x.push(lanes.x[at] + widths[at] + Math.max(0, free) / sum * weights[at]);

@@ -17,12 +17,14 @@ function show() {
   showLanes();
   showThreads();
   drawHeap();
+  showChoices();
   // browsers allow few changes of the address in a second, and a page in a frame may not change it
   clearTimeout(addressed);
   addressed = setTimeout(setAddress, ADDRESSED_AFTER);
 }
 function setAddress() {
-  try { history.replaceState(null, "", "#" + view.step); } catch { /* it stays as it is */ }
+  const address = graph === null ? String(view.step) : walk.address() + (isAtEnd() ? "" : "~" + view.step);
+  try { history.replaceState(null, "", "#" + address); } catch { /* it stays as it is */ }
 }
 function goTo(stop) {
   view.stop = Math.max(0, Math.min(stops.count, stop));
@@ -33,8 +35,16 @@ function redraw() {
   show();
 }
 
-// The comment with which the class text begins.
+// The comment with which the class text begins. On a page of choices that may tell what is to be found, so there the
+// classes are named of which the setup makes objects.
 function showTitle() {
+  if (graph !== null) {
+    const made = [...given.program.matchAll(/=\s*new\s+([\w$]+)/g)].map(([, name]) => name);
+    const words = (made.length ? [...new Set(made)].join(", ") + ": " : "") + "which thread steps next?";
+    byId("title").textContent = byId("title").title = words;
+    document.title = "listset: " + shortened(words, 60);
+    return;
+  }
   const comment = /^\s*((?:\/\/[^\n]*\n\s*)+)/.exec(data.classes);
   const lines = comment ? comment[1].split("\n").map(line => line.trim().replace(/^\/\/ ?/, ""))
     : ["A run, step by step"];
@@ -68,6 +78,7 @@ function addressedStop() {
 const endOfSetup = () => run.setupEnd === Infinity ? 0 : stops.at(run.setupEnd);
 
 window.addEventListener("hashchange", () => {
+  if (graph !== null) { remember(); beginWalk(); return; }
   const stop = addressedStop();
   if (stop !== null) goTo(stop);
 });
@@ -76,10 +87,27 @@ window.addEventListener("resize", () => {
   resized = setTimeout(redraw, 80);
 });
 window.addEventListener("beforeprint", redraw);
-beginTheme();
-showTitle();
-showNotes();
-drawOrder();
-byId("foot").hidden = byId("foot").childNodes.length === 0;
-view.stop = addressedStop() ?? endOfSetup();
-redraw();
+function begin() {
+  beginTheme();
+  data = given;
+  showTitle();
+  if (graph === null) {
+    readRun(given);
+    showFoot();
+    view.stop = addressedStop() ?? endOfSetup();
+    redraw();
+    return;
+  }
+  byId("challenge").hidden = false;
+  beginWalk();
+}
+// The walk that the address has, else the one that is given, which is then ahead.
+function beginWalk() {
+  const [words, step] = decodeURIComponent(location.hash.slice(1)).split("~");
+  const isWalk = words !== "" && !/^[0-9]+$/.test(words);
+  const why = walk.read(isWalk ? words.replace(/\./g, " ") : given.schedule);
+  if (isWalk && why !== null) setNote(why);
+  const at = step !== undefined ? Number(step) : isWalk ? Infinity : Number(words || graph.setup.length);
+  showWalk(Math.max(0, Math.min(walk.length, (Number.isNaN(at) ? Infinity : at) - graph.setup.length)));
+}
+begin();

@@ -19,7 +19,7 @@ const keyOf = node => {
   const { key } = heap.nodeClasses.get(classOf(node.id));
   return key === null ? null : node.cells.get(key);
 };
-const allThings = run.after.things;
+let allThings = [];
 
 // --- nodes and their keys -------------------------------------------------------------------------------------------
 function findNodeClasses() {
@@ -208,4 +208,9 @@ function isEverOut() {
   }
   return false;
 }
-layHeap();
+whenRead.push(() => {
+  for (const kept of [heap.nodeClasses, heap.column, heap.band, heap.shared, heap.monitored]) kept.clear();
+  heap.bands = [];
+  allThings = run.after.things;
+  layHeap();
+});

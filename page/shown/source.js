@@ -105,11 +105,17 @@ class Code {
 }
 
 const codes = {
-  classes: new Code("classes", data.classes, true),
-  program: new Code("program", data.program, true),
-  schedule: new Code("schedule", data.schedule, false),
+  classes: new Code("classes", given.classes, true),
+  program: new Code("program", given.program, true),
+  schedule: null,
 };
-const scheduleText = new ScheduleText(data.schedule, run.threads.length - 1);
+let scheduleText = null;
+whenRead.push(() => {
+  if (codes.schedule && codes.schedule.text === data.schedule) return;
+  byId("schedule").replaceChildren();
+  codes.schedule = new Code("schedule", data.schedule, false);
+  scheduleText = new ScheduleText(data.schedule, run.threads.length - 1);
+});
 
 // What a thread does next stands there, and the calls that it is in are named at their own lines.
 function markThread(thread, ranges, signs) {

@@ -10,11 +10,11 @@ const badgeOf = row => badge(row.thread, row.call ? row.thread + "." + row.call 
 
 // Of each row that is an event, which line of the history it is, counted from 1.
 const eventNumbers = new Map();
-run.rows.reduce((number, row, at) => {
-  if (!isEvent(row)) return number;
-  eventNumbers.set(at, number + 1);
-  return number + 1;
-}, pastLines(run).length);
+whenRead.push(() => {
+  eventNumbers.clear();
+  let number = pastLines(run).length;
+  run.rows.forEach((row, at) => { if (isEvent(row)) eventNumbers.set(at, ++number); });
+});
 
 function showStep() {
   const step = byId("step");

@@ -3,19 +3,20 @@
 // request for anything but the page.
 const readline = require("readline");
 const { Browser } = require("./browser.js");
+const choices = require("./choices.js");
 
 const BACK = 10, ELSEWHERE = 30, FEW_ROWS = 400, SHIFT = 8;
 const SHOWN = `JSON.stringify({
   step: view.step, words: byId("step").textContent,
   state: [...byId("text").children].map(line => line.textContent).join("\\n") + "\\n",
 })`;
-let compared = 0;
+const count = { compared: 0 };
 
 // What is wrong with the step that is shown, by the lines of `trace` and by what `state` prints after each step from
 // `first - 1` on.
 async function* lookedAt(page, { first, trace, states }, seen) {
   const shown = JSON.parse(await page.evaluate(SHOWN)), wanted = states[shown.step - first + 1];
-  compared++;
+  count.compared++;
   seen.step = shown.step;
   if (shown.state !== wanted)
     yield `the state after step ${shown.step} is\n${shown.state}where it should be\n${wanted}`;
@@ -173,27 +174,27 @@ async function* sizes(page, { screens }) {
   }
 }
 
-const KINDS = { states, says, keys, clicks, opens, address, theme, locals, sizes };
+const KINDS = { states, says, keys, clicks, opens, address, theme, locals, sizes, ...choices };
 
 async function main() {
   const browser = new Browser(), lines = readline.createInterface({ input: process.stdin });
-  let count = 0, wrong = 0;
+  let made = 0, wrong = 0;
   for await (const line of lines) {
-    const job = JSON.parse(line), found = [], before = compared;
+    const job = JSON.parse(line), found = [], before = count.compared;
     const page = await browser.open(job.page, job);
     try {
-      for await (const words of KINDS[job.kind](page, job)) found.push(words);
+      for await (const words of KINDS[job.kind](page, job, count)) found.push(words);
     } catch (failure) { found.push(failure.message); }
     found.push(...page.problems());
     await page.close();
-    count++;
+    made++;
     if (found.length) wrong++;
-    const told = compared > before ? `, ${compared - before} states compared` : "";
+    const told = count.compared > before ? `, ${count.compared - before} comparisons` : "";
     console.log(`${found.length ? "WRONG" : "ok"} ${job.kind} ${job.name}${told}`);
     for (const words of found.slice(0, 3)) console.log("  " + words);
   }
   browser.stop();
-  console.log(`${count - wrong} trials of pages passed, ${wrong} failed; ${compared} states compared`);
+  console.log(`${made - wrong} trials of pages passed, ${wrong} failed; ${count.compared} comparisons`);
   process.exit(wrong ? 1 : 0);
 }
 main();

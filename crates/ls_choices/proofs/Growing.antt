@@ -1,6 +1,6 @@
 -- Rows, as there are more of them and more states are kept.
 use Rattle.std.proofs.Common.{◌≡◌, ℕ, zero, suc, ◌<◌, ◌≤◌, List, [], ◌∷◌, ◌++◌, length, refl, sym, ap, ◌∙◌, subst}
-use Rattle.std.proofs.Common.{◌⊎◌, ◌+◌, inl, inr, Some, arith, length-append}
+use Rattle.std.proofs.Common.{◌⊎◌, ◌+◌, inl, inr, None, Some, arith, length-append}
 use Rattle.std.specs.Prelude.{map, slice_get}
 use Rattle.std.proofs.lemmas.List.{length-map, map-append}
 use Rattle.ls_labels.specs.Names.{Names}
@@ -8,7 +8,7 @@ use Rattle.ls_trace.specs.Told.{Told}
 use Rattle.ls_transitions.specs.Tables.{Keeps}
 use Rattle.ls_transitions.proofs.Keeping.{below, still_below, there}
 use Rattle.ls_choices.specs.Schedules.{told_after}
-use Rattle.ls_choices.specs.Rows.{AreRows, AreRowsOfAll, IsRow, Row}
+use Rattle.ls_choices.specs.Rows.{AreCut, AreRows, AreRowsCut, AreRowsOfAll, IsRow, Row}
 use Rattle.ls_choices.specs.Seen.{AreSeen, path_of, row_of}
 use Rattle.ls_choices.specs.declared.points.Point.{Point}
 use Rattle.ls_choices.specs.declared.rows.Row.{Row as KeptRow}
@@ -98,3 +98,97 @@ nothing_yet names first points begins seen = record {
   few = omega arith;
   rows = λ n path rows found at. cc;
 }
+
+-- ---- states that are left out
+
+pub keeps_longer : {A : Type 0} (xs ys : List A) → Keeps xs ys → length xs ≤ length ys
+keeps_longer [] ys k = omega arith
+keeps_longer (x ∷ xs) [] k = let h = k 0 x refl in cc
+keeps_longer (x ∷ xs) (y ∷ ys) k = let r = keeps_longer xs ys (λ n z e. k (suc n) z e) in omega (arith, r)
+
+-- what is cut stays so as more states are kept
+cut_keeps : (most n m : ℕ) (rows : List Row) → n ≤ m → AreRowsCut most n rows → AreRowsCut most m rows
+cut_keeps most n m rows more h t row at none = let l = h t row at none in omega (arith, l, more)
+
+-- the row of one more thread
+pub rows_cut_more : (most n m : ℕ) (rows rows' : List KeptRow) (new : KeptRow) → n ≤ m → rows' ≡ rows ++ new ∷ [] →
+    AreRowsCut most n (map row_of rows) → (new.to ≡ None → most ≤ m) → AreRowsCut most m (map row_of rows')
+rows_cut_more most n m rows rows' new more e h here u row at none =
+    by_cases (pushed_at (map row_of rows) (row_of new) u row
+    (ap (λ l. slice_get l u) (sym (ap (map row_of) e ∙ map-append row_of rows (new ∷ []))) ∙ at))
+  where
+    by_cases : (slice_get (map row_of rows) u ≡ Some row) ⊎ ((u ≡ length (map row_of rows)) × (row_of new ≡ row)) →
+        most ≤ m
+    by_cases (inl old) = let l = h u row old none in omega (arith, l, more)
+    by_cases (inr w) = here (ap (λ r. r.to) w.1 ∙ none)
+
+-- the rows of one more state
+all_cut_more : (most n m : ℕ) (all all' : List (List Row)) (new : List Row) → n ≤ m → all' ≡ all ++ new ∷ [] →
+    AreCut most n all → AreRowsCut most m new → AreCut most m all'
+all_cut_more most n m all all' new more e h here i rows at =
+    by_cases (pushed_at all new i rows (ap (λ l. slice_get l i) (sym e) ∙ at))
+  where
+    by_cases : (slice_get all i ≡ Some rows) ⊎ ((i ≡ length all) × (new ≡ rows)) → AreRowsCut most m rows
+    by_cases (inl old) = cut_keeps most n m rows more (h i rows old)
+    by_cases (inr w) = subst (AreRowsCut most m) w.1 here
+
+-- a graph on the way, after so many turns; each has made the rows of a state, or all have theirs
+pub record IsAtTurn (names : Names) (first : List ℕ) (most turn : ℕ) (points : List Point) (all : List (List Row)) :
+    Type 0 where
+  pub way : IsOnTheWay names first points all
+  pub few : 0 < most → length points ≤ most
+  pub made : (length all ≡ turn) ⊎ (length all ≡ length points)
+  pub cut : AreCut most (length points) all
+
+pub at_first_turn : (names : Names) (first : List ℕ) (most : ℕ) (points : List Point) →
+    slice_get (map path_of points) 0 ≡ Some first → AreSeen names points → length points ≡ 1 →
+    IsAtTurn names first most 0 points []
+at_first_turn names first most points begins seen one = record {
+  way = nothing_yet names first points begins seen;
+  few = λ some. omega (arith, one, some);
+  made = inl refl;
+  cut = λ i rows at. cc;
+}
+
+pub at_next_turn : (names : Names) (first : List ℕ) (most turn : ℕ) (xs ys : List Point) (all all' : List (List Row))
+    (new : List Row) →
+    IsAtTurn names first most turn xs all → Keeps xs ys → AreSeen names ys → length all < length xs →
+    all' ≡ all ++ new ∷ [] →
+    ((path : List ℕ) → slice_get (map path_of ys) (length all) ≡ Some path →
+    AreRows names (map path_of ys) (told_after names path) new) →
+    AreRowsCut most (length ys) new → (length xs ≤ most → length ys ≤ most) →
+    IsAtTurn names first most (turn + 1) ys all'
+at_next_turn names first most turn xs ys all all' new h k seen within e here cut few =
+    let longer : length all' ≡ length all + 1 = ap length e ∙ length-append all (new ∷ []) in
+    record {
+      way = goes_on names first xs ys all all' new h.way k seen within e here;
+      few = λ some. few (h.few some);
+      made = by_cases longer h.made;
+      cut = all_cut_more most (length xs) (length ys) all all' new (keeps_longer xs ys k) e h.cut cut;
+    }
+  where
+    by_cases : length all' ≡ length all + 1 → (length all ≡ turn) ⊎ (length all ≡ length xs) →
+        (length all' ≡ turn + 1) ⊎ (length all' ≡ length ys)
+    by_cases longer (inl is) = inl (omega (arith, longer, is))
+    by_cases longer (inr is) = absurd (omega (arith, is, within))
+
+pub at_idle_turn : (names : Names) (first : List ℕ) (most turn : ℕ) (points : List Point) (all : List (List Row)) →
+    IsAtTurn names first most turn points all → length points ≤ length all →
+    IsAtTurn names first most (turn + 1) points all
+at_idle_turn names first most turn points all h over = record {
+  way = h.way;
+  few = h.few;
+  made = let few = h.way.few in inr (omega (arith, few, over));
+  cut = h.cut;
+}
+
+-- after as many turns as states are kept at most, all have their rows
+pub at_last_turn : (names : Names) (first : List ℕ) (most turn : ℕ) (points : List Point) (all : List (List Row)) →
+    IsAtTurn names first most turn points all → most ≤ turn → AreCut most (length all) all
+at_last_turn names first zero turn points all h over i rows at t row is none = omega arith
+at_last_turn names first (suc m) turn points all h over i rows at t row is none =
+    cut_keeps (suc m) (length points) (length all) rows (by_cases h.made) (h.cut i rows at) t row is none
+  where
+    by_cases : (length all ≡ turn) ⊎ (length all ≡ length points) → length points ≤ length all
+    by_cases (inl e) = let few = h.few (omega arith) in omega (arith, few, e, over)
+    by_cases (inr e) = omega (arith, e)

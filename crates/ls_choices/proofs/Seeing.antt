@@ -120,6 +120,7 @@ pub row_keeps : (names : Names) (ps qs : List (List ℕ)) (r : Told) (t : ℕ) (
 row_keeps names ps qs r t row k h = record {
   words = h.words;
   acts = h.acts;
+  waits = h.waits;
   leads = λ n e. let l = h.leads n e in record { path = l.path; found = k n l.path l.found; alike = l.alike };
 }
 

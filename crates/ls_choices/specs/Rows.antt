@@ -1,16 +1,17 @@
 -- The states that are kept, and the next step of each thread in them.
-use Rattle.std.specs.Prelude.{◌≡◌, ℕ, Bool, List, Option, Some, slice_get}
+use Rattle.std.specs.Prelude.{◌≡◌, ◌≤◌, ℕ, Bool, List, Option, None, Some, slice_get}
 use Rattle.ls_report.specs.Events.{Text}
 use Rattle.ls_labels.specs.Names.{Names}
 use Rattle.ls_trace.specs.Told.{Told, after_step}
-use Rattle.ls_choices.specs.Schedules.{acts, told_after, words_of}
+use Rattle.ls_choices.specs.Schedules.{acts, told_after, waits, words_of}
 use Rattle.ls_choices.specs.Alike.{Alike}
 
--- a step of a thread: what is told of it, whether it does anything, and the number of the state after it, if that is
--- kept
+-- a step of a thread: what is told of it, whether it does anything, whether it waits, and the number of the state after
+-- it, if that is kept
 pub record Row : Type 0 where
   pub words : Text
   pub acts : Bool
+  pub waits : Bool
   pub to : Option ℕ
 
 -- for each state the schedule by which it was found first, and a row for each thread, the setup first
@@ -28,6 +29,7 @@ pub record LeadsTo (names : Names) (paths : List (List ℕ)) (r : Told) (number 
 pub record IsRow (names : Names) (paths : List (List ℕ)) (r : Told) (thread : ℕ) (row : Row) : Type 0 where
   pub words : row.words ≡ words_of names r thread
   pub acts : row.acts ≡ acts names r thread
+  pub waits : row.waits ≡ waits names r thread
   pub leads : (number : ℕ) → row.to ≡ Some number → LeadsTo names paths (after_step names r thread) number
 
 -- the rows of the threads after a run
@@ -39,6 +41,13 @@ AreRows names paths r rows = (thread : ℕ) (row : Row) → slice_get rows threa
 abbrev pub AreRowsOfAll : Names → List (List ℕ) → List (List Row) → Type 0
 AreRowsOfAll names paths all = (number : ℕ) (path : List ℕ) (rows : List Row) → slice_get paths number ≡ Some path →
     slice_get all number ≡ Some rows → AreRows names paths (told_after names path) rows
+
+-- a step leads to no state that is kept only if so many are kept
+abbrev pub AreRowsCut : ℕ → ℕ → List Row → Type 0
+AreRowsCut most total rows = (thread : ℕ) (row : Row) → slice_get rows thread ≡ Some row → row.to ≡ None → most ≤ total
+
+abbrev pub AreCut : ℕ → ℕ → List (List Row) → Type 0
+AreCut most total all = (number : ℕ) (rows : List Row) → slice_get all number ≡ Some rows → AreRowsCut most total rows
 
 -- the graph of a program's states from the end of a schedule on
 pub record IsGraphFrom (names : Names) (first : List ℕ) (g : Graph) : Type 0 where

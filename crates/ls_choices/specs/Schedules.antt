@@ -26,6 +26,16 @@ is_action (Acted action answer) = true
 is_action Waits = false
 is_action Idle = false
 
+-- whether a step waits
+abbrev pub is_waiting : Did → Bool
+is_waiting (Acted action answer) = false
+is_waiting Waits = true
+is_waiting Idle = false
+
 -- whether a thread acts after a run
 abbrev pub acts : Names → Told → ℕ → Bool
 acts names r thread = is_action (step_in names r thread).did
+
+-- whether a thread waits after a run
+abbrev pub waits : Names → Told → ℕ → Bool
+waits names r thread = is_waiting (step_in names r thread).did

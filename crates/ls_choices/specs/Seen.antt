@@ -67,7 +67,7 @@ pub record IsFound (points : List Point) (m : Moment) (number : ℕ) : Type 0 wh
   pub same : seen_of point.moment ≡ seen_of m
 
 abbrev pub row_of : KeptRow → Row
-row_of r = record { words = string_bytes r.words; acts = r.acts; to = r.to }
+row_of r = record { words = string_bytes r.words; acts = r.acts; waits = r.waits; to = r.to }
 
 abbrev pub graph_of : Choices → Graph
 graph_of c = record {

@@ -1,9 +1,9 @@
 // All states from a schedule on.
 
-ghost use Rattle.std.specs.Prelude.{◌≡◌, ◌<◌, ℕ, List, IfOk, OnOk, Some, length, map, slice_get};
+ghost use Rattle.std.specs.Prelude.{◌≡◌, ◌<◌, ◌≤◌, ℕ, List, IfOk, OnOk, Some, length, map, slice_get};
 ghost use Rattle.ls_labels.specs.Names.{names_of};
 ghost use Rattle.ls_transitions.specs.Tables.{Keeps};
-ghost use Rattle.ls_choices.specs.Rows.{AreRows, IsGraphFrom};
+ghost use Rattle.ls_choices.specs.Rows.{AreCut, AreRows, AreRowsCut, IsGraphFrom};
 ghost use Rattle.ls_choices.specs.Schedules.{told_after};
 ghost use Rattle.ls_choices.specs.Seen.{AreSeen, graph_of, path_of, row_of};
 
@@ -24,6 +24,7 @@ pub struct Choices<'a> {
 fn first_point<'a>(alloc: Global, names: Names<'a>, first: &[u8]) -> Result<Points<'a>, AllocError>
     ensures begins { IfOk result (λ p. slice_get (map path_of p.points.items) 0 ≡ Some first.now) }
     ensures seen { IfOk result (λ p. AreSeen (names_of names.entry) p.points.items) }
+    ensures one { IfOk result (λ p. length p.points.items ≡ 1) }
 {
     let mut path = Vec::new(alloc);
     path.extend_from_slice(first)?;
@@ -61,6 +62,8 @@ fn next_rows<'a>(
         (map row_of v.items)) }
     ensures seen { OnOk result (AreSeen (names_of names.entry) points.new.points.items) }
     ensures keeps { OnOk result (Keeps points.old.points.items points.new.points.items) }
+    ensures full { IfOk result (λ v. AreRowsCut most (length points.new.points.items) (map row_of v.items)) }
+    ensures few { OnOk result (length points.old.points.items ≤ most → length points.new.points.items ≤ most) }
 {
     let steps = path_at(alloc, points, number)?;
     let rows = rows_after(alloc, names, points, &steps, most)?;
@@ -68,18 +71,20 @@ fn next_rows<'a>(
 }
 
 /// All states of a program from a schedule on, whose steps are numbers of threads. So many are kept at most, and the
-/// first is. The only refusal is that memory ran out.
+/// first is. None is left out if there are fewer. The only refusal is that memory ran out.
 pub fn all_choices<'a>(
     alloc: Global,
     names: Names<'a>,
     first: &[u8],
     most: usize,
 ) -> Result<Choices<'a>, AllocError>
-    ensures { IfOk result (λ c. IsGraphFrom (names_of names.entry) first.now (graph_of c)) }
+    ensures graph { IfOk result (λ c. IsGraphFrom (names_of names.entry) first.now (graph_of c)) }
+    ensures few { 0 < most → IfOk result (λ c. length c.rows.items ≤ most) }
+    ensures cut { IfOk result (λ c. AreCut most (length c.rows.items) (graph_of c).rows) }
 {
     let mut points = first_point(alloc, names, first)?;
     let mut rows = Vec::new(alloc);
-    for _ in 0..most.max(1) {
+    for turn in 0..most.max(1) {
         let number = rows.len();
         if number < points.points.len() {
             rows.push(next_rows(alloc, names, &mut points, number, most)?)?;

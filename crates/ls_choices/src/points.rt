@@ -19,7 +19,7 @@ pub struct Points<'a> {
 }
 
 impl<'a> Points<'a> {
-    ghost use Rattle.std.specs.Prelude.{◌≡◌, ◌++◌, ◌∷◌, [], IfOk, IfSome, OnOk, length};
+    ghost use Rattle.std.specs.Prelude.{◌≡◌, ◌≤◌, ◌++◌, ◌∷◌, [], IfOk, IfSome, None, OnOk, length};
     ghost use Rattle.ls_labels.specs.Names.{Names as Named};
     ghost use Rattle.ls_transitions.specs.Tables.{Keeps};
     ghost use Rattle.ls_choices.specs.Schedules.{told_after};
@@ -83,6 +83,8 @@ impl<'a> Points<'a> {
             IsSeen names (seen_of moment.entry) (told_after names path.items) →
             AreSeen names self.new.points.items) }
         ensures keeps { OnOk result (Keeps self.old.points.items self.new.points.items) }
+        ensures full { IfOk result (λ o. o ≡ None → most ≤ length self.new.points.items) }
+        ensures few { OnOk result (length self.old.points.items ≤ most → length self.new.points.items ≤ most) }
     {
         let sum = moment.sum();
         if let Some(number) = self.find(sum, &moment) {

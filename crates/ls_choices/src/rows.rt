@@ -1,12 +1,12 @@
 // What each thread's next step does after a schedule.
 
-ghost use Rattle.std.specs.Prelude.{◌≡◌, ◌∷◌, ◌++◌, [], ℕ, IfOk, OnOk, Some, map, string_bytes};
+ghost use Rattle.std.specs.Prelude.{◌≡◌, ◌≤◌, ◌∷◌, ◌++◌, [], ℕ, IfOk, None, OnOk, Some, length, map, string_bytes};
 ghost use Rattle.ls_labels.specs.Names.{names_of};
 ghost use Rattle.ls_trace.specs.SeenTeller.{RunsNamed, names_in, told_of};
 ghost use Rattle.ls_trace.specs.Told.{after_step};
 ghost use Rattle.ls_transitions.specs.Tables.{Keeps};
-ghost use Rattle.ls_choices.specs.Rows.{AreRows, IsRow, LeadsTo};
-ghost use Rattle.ls_choices.specs.Schedules.{acts, is_action, told_after, words_of};
+ghost use Rattle.ls_choices.specs.Rows.{AreRows, AreRowsCut, IsRow, LeadsTo};
+ghost use Rattle.ls_choices.specs.Schedules.{acts, is_action, is_waiting, told_after, waits, words_of};
 ghost use Rattle.ls_choices.specs.Seen.{AreSeen, path_of, row_of};
 
 use crate::moment::Moment;
@@ -16,20 +16,22 @@ use ls_meaning::step::Did;
 use ls_trace::teller::Teller;
 use std::alloc::{AllocError, Global};
 
-/// A step of a thread: what is told of it, whether it does anything, and the number of the state after it. There is
-/// none if that state isn't kept.
+/// A step of a thread: what is told of it, whether it does anything, whether it waits, and the number of the state
+/// after it. There is none if that state isn't kept.
 #[derive(Drop)]
 pub struct Row {
     pub words: String,
     pub acts: bool,
+    pub waits: bool,
     pub to: Option<usize>,
 }
 
-// What is told of a step, and whether it does anything.
+// What is told of a step, whether it does anything, and whether it waits.
 #[derive(Drop)]
 struct Told {
     words: String,
     acts: bool,
+    waits: bool,
 }
 
 // Whether a step does more than wait, or nothing.
@@ -39,6 +41,17 @@ fn is_action(did: &Did) -> bool
     match did {
         Did::Acted(_, _) => true,
         Did::Waits => false,
+        Did::Idle => false,
+    }
+}
+
+// Whether a step waits.
+fn is_waiting(did: &Did) -> bool
+    ensures { result ≡ is_waiting did.now }
+{
+    match did {
+        Did::Acted(_, _) => false,
+        Did::Waits => true,
         Did::Idle => false,
     }
 }
@@ -67,6 +80,8 @@ fn tell<'a>(
         words_of (names_of names.entry) (told_after (names_of names.entry) steps.now) thread) }
     ensures acts { IfOk result (λ t. t.acts ≡
         acts (names_of names.entry) (told_after (names_of names.entry) steps.now) thread) }
+    ensures waits { IfOk result (λ t. t.waits ≡
+        waits (names_of names.entry) (told_after (names_of names.entry) steps.now) thread) }
 {
     let mut teller = teller_after(alloc, names, steps)?;
     let did = teller.step(alloc, thread)?;
@@ -75,6 +90,7 @@ fn tell<'a>(
     Ok(Told {
         words,
         acts: is_action(&did),
+        waits: is_waiting(&did),
     })
 }
 
@@ -103,6 +119,8 @@ fn lead<'a>(
         (after_step (names_of names.entry) (told_after (names_of names.entry) steps.now) thread) n) }
     ensures seen { OnOk result (AreSeen (names_of names.entry) points.new.points.items) }
     ensures keeps { OnOk result (Keeps points.old.points.items points.new.points.items) }
+    ensures full { IfOk result (λ o. o ≡ None → most ≤ length points.new.points.items) }
+    ensures few { OnOk result (length points.old.points.items ≤ most → length points.new.points.items ≤ most) }
 {
     let path = path_with(alloc, steps, thread)?;
     let moment = Moment::after(alloc, names, &path)?;
@@ -124,10 +142,17 @@ fn row_of_thread<'a>(
         (told_after (names_of names.entry) steps.now) thread (row_of r)) }
     ensures seen { OnOk result (AreSeen (names_of names.entry) points.new.points.items) }
     ensures keeps { OnOk result (Keeps points.old.points.items points.new.points.items) }
+    ensures full { IfOk result (λ r. r.to ≡ None → most ≤ length points.new.points.items) }
+    ensures few { OnOk result (length points.old.points.items ≤ most → length points.new.points.items ≤ most) }
 {
-    let Told { words, acts } = tell(alloc, names, steps, thread as usize)?;
+    let Told { words, acts, waits } = tell(alloc, names, steps, thread as usize)?;
     let to = lead(alloc, names, points, steps, thread, most)?;
-    Ok(Row { words, acts, to })
+    Ok(Row {
+        words,
+        acts,
+        waits,
+        to,
+    })
 }
 
 /// The rows of all threads after a schedule, the setup first. The only refusal is that memory ran out.
@@ -143,6 +168,8 @@ pub fn rows_after<'a>(
         (told_after (names_of names.entry) steps.now) (map row_of v.items)) }
     ensures seen { OnOk result (AreSeen (names_of names.entry) points.new.points.items) }
     ensures keeps { OnOk result (Keeps points.old.points.items points.new.points.items) }
+    ensures full { IfOk result (λ v. AreRowsCut most (length points.new.points.items) (map row_of v.items)) }
+    ensures few { OnOk result (length points.old.points.items ≤ most → length points.new.points.items ≤ most) }
 {
     let mut rows = Vec::new(alloc);
     for thread in 0..names.program.threads.len().min(256) {

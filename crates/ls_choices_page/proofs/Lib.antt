@@ -1,1 +1,4 @@
 pub mod Numbered
+pub mod Numbering
+pub mod Doubting
+pub mod Joined

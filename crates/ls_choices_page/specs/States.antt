@@ -1,48 +1,41 @@
 -- The states of a graph as JSON.
-use Rattle.std.specs.Prelude.{ℕ, ◌==◌, Bool, not, List, [], ◌∷◌, ◌++◌, Option, Some, None, codes, slice_index_or}
+use Rattle.std.specs.Prelude.{ℕ, ◌+◌, Bool, not, List, [], ◌∷◌, ◌++◌, codes, slice_index_or}
 use Rattle.std.specs.Prelude.{if◌then◌else◌}
-use Rattle.std.specs.List.{list_all}
+use Rattle.std.specs.List.{list_all, list_any}
 use Rattle.std.specs.Fmt.{decimal}
 use Rattle.ls_report.specs.Events.{Text}
 use Rattle.ls_labels.specs.Names.{Names}
-use Rattle.ls_state.specs.Parts.{numbered}
 use Rattle.ls_state.specs.State.{state_text}
 use Rattle.ls_page.specs.Quoted.{quoted}
 use Rattle.ls_choices.specs.Rows.{Graph, Row}
+use Rattle.ls_choices_page.specs.Lists.{listed, number_text, truth_text}
 
--- what stands before an element of a list
-abbrev pub comma : ℕ → Text
-comma place = if place == 0 then [] else 44 ∷ []
-
--- the number of a state, and -1 for one that isn't kept
-abbrev pub number_text : Option ℕ → Text
-number_text None = codes "-1"
-number_text (Some number) = decimal number
-
--- as `["A.1 reads Node#3.next: null",7]`
-abbrev pub row_text : ℕ → Row → Text
-row_text place row =
-    comma place ++ (codes "[" ++ (quoted row.words ++ (codes "," ++ (number_text row.to ++ codes "]"))))
-
--- the rows of a state, the setup's first
-abbrev pub rows_text : ℕ → List Row → Text
-rows_text place rows = comma place ++ (codes "[" ++ (numbered row_text 0 rows ++ codes "]"))
-
--- the rows of each state
-abbrev pub states_text : List (List Row) → Text
-states_text all = codes ",\"states\":[" ++ (numbered rows_text 0 all ++ codes "]")
+-- the states to which the steps lead
+abbrev pub targets_text : List (List Row) → Text
+targets_text all = listed (listed (λ row. number_text row.to)) all
 
 -- no thread acts
 abbrev pub is_end : List Row → Bool
 is_end rows = list_all (λ row. not row.acts) rows
 
--- what `state` prints of an end; nothing of another state
-abbrev pub end_words : Names → List ℕ → List Row → Text
-end_words names path rows = if is_end rows then state_text names path else []
+-- a thread waits
+abbrev pub waits_in : List Row → Bool
+waits_in rows = list_any (λ row. row.waits) rows
 
-abbrev pub end_text : Names → List (List Row) → ℕ → List ℕ → Text
-end_text names all number path = comma number ++ quoted (end_words names path (slice_index_or all number []))
+-- the numbers of the ends among some states; the first of the states has this number
+abbrev pub ends_from : ℕ → List (List Row) → List ℕ
+ends_from number [] = []
+ends_from number (rows ∷ all) = if is_end rows then number ∷ ends_from (number + 1) all else ends_from (number + 1) all
 
--- a string for each state
+-- an end: its number, what `state` prints of it, and whether a thread waits
+abbrev pub told_text : ℕ → Text → Bool → Text
+told_text number words waits =
+    codes "[" ++ (decimal number ++ (codes "," ++ (quoted words ++ (codes "," ++ (truth_text waits ++ codes "]")))))
+
+abbrev pub end_text : Names → Graph → ℕ → Text
+end_text names g number = told_text number (state_text names (slice_index_or g.paths number []))
+    (waits_in (slice_index_or g.rows number []))
+
+-- all ends
 abbrev pub ends_text : Names → Graph → Text
-ends_text names g = codes ",\"ends\":[" ++ (numbered (end_text names g.rows) 0 g.paths ++ codes "]")
+ends_text names g = listed (end_text names g) (ends_from 0 g.rows)

@@ -1,17 +1,22 @@
 // The data of a page on which one chooses.
 
-ghost use Rattle.std.specs.Prelude.{◌≡◌, ◌++◌, IfOk, OnOk, string_bytes};
+ghost use Rattle.std.specs.Prelude.{◌≡◌, ◌<◌, ◌++◌, IfOk, OnOk, string_bytes};
 ghost use Rattle.ls_labels.specs.Names.{names_of};
 ghost use Rattle.ls_page.specs.Data.{texts_of, texts_text};
 ghost use Rattle.ls_choices.specs.Seen.{graph_of};
-ghost use Rattle.ls_choices_page.specs.Data.{IsData, data_text, first_text, graph_text, reach_text};
+ghost use Rattle.ls_choices_page.specs.Data.{IsData, data_text, doubt_text, first_text, graph_text, head_text};
+ghost use Rattle.ls_choices_page.specs.Data.{lines_text, reach_text, serial_text, tables_text};
+ghost use Rattle.ls_choices_page.specs.Tabled.{tables_of};
 
+use crate::lists::{push_lists, push_targets, push_texts as push_table};
 use crate::parts::{push_field, whole_trace};
-use crate::states::{push_ends, push_states};
+use crate::states::push_ends;
+use crate::tables::{Tables, serial_of, tables_of};
 use ls_choices::graph::{Choices, all_choices};
 use ls_choices::reach::{Reach, reach_of};
 use ls_labels::names::Names;
 use ls_page::Texts;
+use ls_serial_search::telling::Doubt;
 use ls_state::state::state;
 use std::alloc::{AllocError, Global};
 use std::fmt::Write;
@@ -36,6 +41,23 @@ fn push_first(alloc: Global, out: &mut String, names: Names, first: &[u8]) -> Re
     push_field(out, "setup", setup.as_str())
 }
 
+// Adds the texts and the first steps.
+fn push_head(
+    alloc: Global,
+    out: &mut String,
+    names: Names,
+    texts: Texts,
+    first: &[u8],
+) -> Result<(), AllocError>
+    ensures { OnOk result (string_bytes out.new ≡ string_bytes out.old ++
+        head_text (names_of names.entry) (texts_of texts.entry) first.now) }
+{
+    out.push_str("{\"listset\":1,\"choose\":1")?;
+    push_texts(out, texts)?;
+    push_first(alloc, out, names, first)?;
+    Ok(())
+}
+
 // Adds how far the walks go.
 fn push_reach(out: &mut String, reach: Reach) -> Result<(), AllocError>
     ensures { OnOk result (string_bytes out.new ≡ string_bytes out.old ++ reach_text reach) }
@@ -46,7 +68,18 @@ fn push_reach(out: &mut String, reach: Reach) -> Result<(), AllocError>
     }
 }
 
-// Adds the states and how far the walks go.
+// Adds the texts by number, and the lines of the rows.
+fn push_lines(out: &mut String, tables: &Tables) -> Result<(), AllocError>
+    ensures { OnOk result (string_bytes out.new ≡ string_bytes out.old ++ lines_text (tables_of tables.now)) }
+{
+    out.push_str(",\"texts\":")?;
+    push_table(out, &tables.table.texts)?;
+    out.push_str(",\"lines\":")?;
+    push_lists(out, &tables.lines)?;
+    Ok(())
+}
+
+// Adds where the rows lead, the ends, and how far the walks go.
 fn push_graph(
     alloc: Global,
     out: &mut String,
@@ -57,9 +90,59 @@ fn push_graph(
     ensures { OnOk result (string_bytes out.new ≡ string_bytes out.old ++
         graph_text (names_of names.entry) (graph_of choices.now) reach) }
 {
-    push_states(out, &choices.rows)?;
+    out.push_str(",\"to\":")?;
+    push_targets(out, &choices.rows)?;
+    out.push_str(",\"ends\":")?;
     push_ends(alloc, out, names, choices)?;
-    push_reach(out, reach)
+    push_reach(out, reach)?;
+    Ok(())
+}
+
+// Adds whether the serial histories are all.
+fn push_doubt(out: &mut String, doubt: Option<Doubt>) -> Result<(), AllocError>
+    ensures { OnOk result (string_bytes out.new ≡ string_bytes out.old ++ doubt_text doubt) }
+{
+    match doubt {
+        None => out.push_str(",\"known\":true"),
+        Some(Doubt::LongCall) => out.push_str(",\"known\":false,\"why\":\"long call\""),
+        Some(Doubt::ManyOrders) => out.push_str(",\"known\":false,\"why\":\"many orders\""),
+    }
+}
+
+// Adds the serial histories.
+fn push_serial(out: &mut String, tables: &Tables) -> Result<(), AllocError>
+    ensures { OnOk result (string_bytes out.new ≡ string_bytes out.old ++ serial_text (tables_of tables.now)) }
+{
+    out.push_str(",\"serial\":")?;
+    push_lists(out, &tables.serial)?;
+    push_doubt(out, tables.doubt)?;
+    Ok(())
+}
+
+// Adds all that is told of the graph and of serial histories.
+fn push_tables(
+    alloc: Global,
+    out: &mut String,
+    names: Names,
+    choices: &Choices,
+    reach: Reach,
+    tables: &Tables,
+) -> Result<(), AllocError>
+    ensures { OnOk result (string_bytes out.new ≡ string_bytes out.old ++
+        tables_text (names_of names.entry) (graph_of choices.now) reach (tables_of tables.now)) }
+{
+    push_lines(out, tables)?;
+    push_graph(alloc, out, names, choices, reach)?;
+    push_serial(out, tables)?;
+    Ok(())
+}
+
+// What is known of the states.
+#[derive(Clone, Copy)]
+struct Told<'a, 't> {
+    choices: &'t Choices<'a>,
+    reach: Reach,
+    tables: &'t Tables,
 }
 
 // The whole object, of a graph that is known.
@@ -68,17 +151,22 @@ fn data_of(
     names: Names,
     texts: Texts,
     first: &[u8],
-    choices: &Choices,
-    reach: Reach,
+    told: &Told,
 ) -> Result<String, AllocError>
     ensures { IfOk result (λ text. string_bytes text ≡
-        data_text (names_of names.entry) (texts_of texts.entry) first.now (graph_of choices.now) reach) }
+        data_text (names_of names.entry) (texts_of texts.entry) first.now (graph_of told.now.choices.now) told.now.reach
+        (tables_of told.now.tables.now)) }
 {
     let mut out = String::new(alloc);
-    out.push_str("{\"listset\":1,\"choose\":1")?;
-    push_texts(&mut out, texts)?;
-    push_first(alloc, &mut out, names, first)?;
-    push_graph(alloc, &mut out, names, choices, reach)?;
+    push_head(alloc, &mut out, names, texts, first)?;
+    push_tables(
+        alloc,
+        &mut out,
+        names,
+        told.choices,
+        told.reach,
+        told.tables,
+    )?;
     out.push_str("}\n")?;
     Ok(out)
 }
@@ -92,11 +180,18 @@ pub fn choices_data(
     first: &[u8],
     most: usize,
 ) -> Result<String, AllocError>
-    ensures { IfOk result (λ text.
-        IsData (names_of names.entry) (texts_of texts.entry) first.now (string_bytes text)) }
+    ensures { 0 < most → IfOk result (λ text.
+        IsData (names_of names.entry) (texts_of texts.entry) first.now most (string_bytes text)) }
 {
     let choices = all_choices(alloc, names, first, most)?;
     let reach = reach_of(alloc, &choices, names.program.threads.len())?;
-    let text = data_of(alloc, names, texts, first, &choices, reach)?;
+    let serial = serial_of(alloc, names)?;
+    let tables = tables_of(alloc, names, &choices, &serial)?;
+    let told = Told {
+        choices: &choices,
+        reach,
+        tables: &tables,
+    };
+    let text = data_of(alloc, names, texts, first, &told)?;
     Ok(text)
 }

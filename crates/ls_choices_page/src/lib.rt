@@ -2,9 +2,13 @@
 #![tactic(auto)]
 
 mod data;
+mod lists;
+mod numbers;
 mod parts;
 mod setup;
 mod states;
+mod table;
+mod tables;
 
 pub use data::choices_data;
 pub use setup::setup_steps;

@@ -4,7 +4,7 @@ ghost use Rattle.std.specs.Prelude.{◌≡◌, ◌++◌, IfOk, OnOk, length, str
 ghost use Rattle.ls_labels.specs.Names.{names_of};
 ghost use Rattle.ls_choices.specs.Laws.{whole_trace};
 ghost use Rattle.ls_page.specs.Data.{field};
-ghost use Rattle.ls_choices_page.specs.States.{comma, number_text};
+ghost use Rattle.ls_choices_page.specs.Lists.{comma, number_text, truth_text};
 
 use ls_labels::names::Names;
 use ls_page::push_quoted;
@@ -38,6 +38,16 @@ pub(crate) fn push_number(out: &mut String, number: Option<usize>) -> Result<(),
         None => out.push_str("-1"),
         Some(number) => write!(out, "{number}"),
     }
+}
+
+/// Adds a truth value.
+pub(crate) fn push_truth(out: &mut String, truth: bool) -> Result<(), AllocError>
+    ensures { OnOk result (string_bytes out.new ≡ string_bytes out.old ++ truth_text truth) }
+{
+    if truth {
+        return out.push_str("true");
+    }
+    out.push_str("false")
 }
 
 /// What `trace` prints of all steps of a schedule. The only refusal is that memory ran out.

@@ -1,34 +1,40 @@
-use Rattle.std.proofs.Common.{◌≡◌, [], ◌∷◌, ◌∙◌, ap, arith, length, rules, subst, sym}
+use Rattle.std.proofs.Common.{◌≡◌, ◌≤◌, ◌+◌, [], ◌∷◌, ◌∙◌, ap, arith, length, rules, subst, sym}
 use Rattle.std.specs.Prelude.{map, slice_get}
 use Rattle.std.proofs.lemmas.List.{length-map, map-append}
 use Rattle.ls_labels.specs.Names.{names_of}
+use Rattle.ls_choices.specs.Rows.{AreCut}
 use Rattle.ls_choices.specs.Seen.{path_of, row_of}
-use Rattle.ls_choices.proofs.Growing.{IsOnTheWay, goes_on, nothing_yet}
+use Rattle.ls_choices.proofs.Growing.{IsAtTurn, at_first_turn, at_idle_turn, at_last_turn, at_next_turn}
 use Rattle.ls_choices.proofs.graph.all_choices.Goals as goal
 use Rattle.ls_choices.proofs.graph.all_choices.Goals.{then-number-len+in_ok-next_rows+in_ok-push, else-number-len}
 
-pub loop-init : goal.loop-init
-loop-init c =
+pub loop-turn-init : goal.loop-turn-init
+loop-turn-init c =
     let names = names_of c.args.names in
     let points = c.in_ok-points.points.points.items in
-    subst (IsOnTheWay names c.args.first.now points) (sym (ap (map (λ v. map row_of v.items)) c.new-rows.ensures.items))
-    (nothing_yet names c.args.first.now points c.in_ok-points.ensures.begins c.in_ok-points.ensures.seen)
+    let begun = c.in_ok-points.ensures in
+    subst (IsAtTurn names c.args.first.now c.args.most 0 points)
+    (sym (ap (map (λ v. map row_of v.items)) c.new-rows.ensures.items))
+    (at_first_turn names c.args.first.now c.args.most points begun.begins begun.seen begun.one)
 
-pub loop-preserved : goal.loop-preserved
-loop-preserved c =
+pub loop-turn-preserved : goal.loop-turn-preserved
+loop-turn-preserved c =
     let names = names_of c.args.names in
     let first = c.args.first.now in
-    let inv = c.loop.invariant in
-    let old = c.loop.rows.items in
+    let most = c.args.most in
+    let turn = c.loop-turn.turn in
+    let inv = c.loop-turn.invariant in
+    let old = c.loop-turn.rows.items in
     let number : c.len-number.result ≡ length old = search rules in
     elim c.if-number-len.branch [
       | then-number-len+in_ok-next_rows+in_ok-push w ↦
-          subst (λ p. IsOnTheWay names first p.points.items (map (λ v. map row_of v.items) c.if-number-len.rows.items))
+          subst (λ p. IsAtTurn names first most (turn + 1) p.points.items
+          (map (λ v. map row_of v.items) c.if-number-len.rows.items))
           (sym w.points-is)
-          (subst (λ r. IsOnTheWay names first w.next_rows.new.points.points.items
+          (subst (λ r. IsAtTurn names first most (turn + 1) w.next_rows.new.points.points.items
           (map (λ v. map row_of v.items) r.items))
           (sym w.rows-is)
-          (goes_on names first c.loop.points.points.items w.next_rows.new.points.points.items
+          (at_next_turn names first most turn c.loop-turn.points.points.items w.next_rows.new.points.points.items
           (map (λ v. map row_of v.items) old) (map (λ v. map row_of v.items) w.push.new.self.items)
           (map row_of w.in_ok-next_rows.field-0.items) inv w.in_ok-next_rows.ensures.keeps
           w.in_ok-next_rows.ensures.seen
@@ -37,13 +43,34 @@ loop-preserved c =
           ∙ map-append (λ v. map row_of v.items) old (w.in_ok-next_rows.field-0 ∷ []))
           (λ path at. w.in_ok-next_rows.ensures.rows path
           (ap (slice_get (map path_of w.next_rows.new.points.points.items))
-          (number ∙ sym (length-map old (λ v. map row_of v.items))) ∙ at))))
+          (number ∙ sym (length-map old (λ v. map row_of v.items))) ∙ at))
+          w.in_ok-next_rows.ensures.full w.in_ok-next_rows.ensures.few))
       | else-number-len w ↦
-          subst (λ p. IsOnTheWay names first p.points.items (map (λ v. map row_of v.items) c.if-number-len.rows.items))
+          subst (λ p. IsAtTurn names first most (turn + 1) p.points.items
+          (map (λ v. map row_of v.items) c.if-number-len.rows.items))
           (sym w.points-is)
-          (subst (λ r. IsOnTheWay names first c.loop.points.points.items (map (λ v. map row_of v.items) r.items))
-          (sym w.rows-is) inv)
+          (subst (λ r. IsAtTurn names first most (turn + 1) c.loop-turn.points.points.items
+          (map (λ v. map row_of v.items) r.items))
+          (sym w.rows-is)
+          (at_idle_turn names first most turn c.loop-turn.points.points.items (map (λ v. map row_of v.items) old) inv
+          (omega (arith, length-map old (λ v. map row_of v.items)))))
     ]
 
-pub returns : goal.returns
-returns c = record { begins = c.loop.invariant.begins; rows = c.loop.invariant.rows }
+pub returns-clause-graph : goal.returns-clause-graph
+returns-clause-graph c = record { begins = c.loop-turn.invariant.way.begins; rows = c.loop-turn.invariant.way.rows }
+
+pub returns-clause-few : goal.returns-clause-few
+returns-clause-few c = λ some.
+    let inv = c.loop-turn.invariant in
+    let few = inv.few some in
+    let rows = inv.way.few in
+    omega (arith, few, rows, length-map c.loop-turn.rows.items (λ v. map row_of v.items))
+
+pub returns-clause-cut : goal.returns-clause-cut
+returns-clause-cut c =
+    let names = names_of c.args.names in
+    let rows = map (λ v. map row_of v.items) c.loop-turn.rows.items in
+    let over : c.args.most ≤ c.loop-turn.turn = search rules in
+    subst (λ n. AreCut c.args.most n rows) (length-map c.loop-turn.rows.items (λ v. map row_of v.items))
+    (at_last_turn names c.args.first.now c.args.most c.loop-turn.turn c.loop-turn.points.points.items rows
+    c.loop-turn.invariant over)

@@ -3,7 +3,7 @@ use Rattle.std.specs.Prelude.{map}
 use Rattle.ls_labels.specs.Names.{names_of}
 use Rattle.ls_choices.specs.Schedules.{told_after}
 use Rattle.ls_choices.specs.Seen.{path_of, row_of}
-use Rattle.ls_choices.proofs.Growing.{keeps_then, rows_more}
+use Rattle.ls_choices.proofs.Growing.{keeps_longer, keeps_then, rows_cut_more, rows_more}
 use Rattle.ls_choices.proofs.Seeing.{keeps_mapped, rows_keep}
 use Rattle.ls_choices.proofs.rows.rows_after.Goals as goal
 
@@ -26,4 +26,7 @@ loop-thread-preserved c =
           inv.rows) more.row;
       seen = more.seen;
       keeps = keeps_then c.args.points.now.points.items xs ys inv.keeps more.keeps;
+      cut = rows_cut_more c.args.most (length xs) (length ys) old c.push.new.self.items new
+          (keeps_longer xs ys more.keeps) pushed inv.cut more.full;
+      few = λ fits. more.few (inv.few fits);
     }

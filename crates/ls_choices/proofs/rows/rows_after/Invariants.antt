@@ -1,8 +1,8 @@
-use Rattle.std.proofs.Common.{◌≡◌, length}
+use Rattle.std.proofs.Common.{◌≡◌, ◌≤◌, length}
 use Rattle.std.specs.Prelude.{map}
 use Rattle.ls_labels.specs.Names.{names_of}
 use Rattle.ls_transitions.specs.Tables.{Keeps}
-use Rattle.ls_choices.specs.Rows.{AreRows}
+use Rattle.ls_choices.specs.Rows.{AreRows, AreRowsCut}
 use Rattle.ls_choices.specs.Schedules.{told_after}
 use Rattle.ls_choices.specs.Seen.{AreSeen, path_of, row_of}
 use Rattle.ls_choices.proofs.rows.rows_after.Given as goal
@@ -14,4 +14,6 @@ invariant-loop-thread l = record {
       (told_after (names_of l.fn.names) l.steps) (map row_of l.rows.items);
   seen : AreSeen (names_of l.fn.names) l.points.points.items;
   keeps : Keeps l.fn.points.points.items l.points.points.items;
+  cut : AreRowsCut l.most (length l.points.points.items) (map row_of l.rows.items);
+  few : length l.fn.points.points.items ≤ l.most → length l.points.points.items ≤ l.most;
 }

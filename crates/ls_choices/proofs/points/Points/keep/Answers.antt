@@ -1,3 +1,4 @@
+use Rattle.std.proofs.Common.{[], ◌∷◌, ◌∙◌, ap, arith, length, length-append}
 use Rattle.ls_choices.specs.declared.points.Point.{Point}
 use Rattle.ls_choices.proofs.Seeing.{found_pushed, keeps_pushed, seen_pushed}
 use Rattle.ls_choices.proofs.points.Points.keep.Goals as goal
@@ -17,3 +18,10 @@ pub returns-clause-keeps : goal.returns-clause-keeps
 returns-clause-keeps c =
     let p : Point = record { path = c.args.path; moment = c.args.moment } in
     keeps_pushed c.args.self.now.points.items c.add.new.self.points.items p c.in_ok-number.ensures.added
+
+pub returns-clause-few : goal.returns-clause-few
+returns-clause-few c = λ fits.
+    let p : Point = record { path = c.args.path; moment = c.args.moment } in
+    let old = c.args.self.now.points.items in
+    let longer = ap length c.in_ok-number.ensures.added ∙ length-append old (p ∷ []) in
+    omega (arith, longer)

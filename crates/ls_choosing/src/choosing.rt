@@ -1,0 +1,99 @@
+// The command `page` where one chooses who steps next.
+
+ghost use Rattle.std.specs.Prelude.{◌≡◌, ◌↔◌, IsTrue};
+ghost use Rattle.ls_types.specs.CheckedFile.{outcome_of};
+ghost use Rattle.ls_labels.specs.Names.{names_of};
+ghost use Rattle.ls_faults.specs.Given.{GivesText};
+ghost use Rattle.ls_choosing.specs.Chosen.{AreBadStates, ChoosesTo, Chooses, FollowsTo, RunsTo, ShowsTo, wanted_of};
+
+use crate::wanted::Wanted;
+use ls_choices_page::{choices_data, setup_steps};
+use ls_explore_images::ExploreFault;
+use ls_faults::fault::ToolFault;
+use ls_labels::names::Names;
+use ls_page::Texts;
+use ls_parser::parse::parse_text;
+use ls_schedule::read_schedule;
+use ls_types::checked::Checked;
+use ls_types_files::check::check;
+use ls_types_reading::program::read_program;
+use ls_views::view::names_in;
+use std::alloc::Global;
+
+/// The most states that may be kept.
+const MOST_STATES: usize = 200_000;
+
+/// The most steps of a setup.
+const MOST_STEPS: usize = 100_000;
+
+// Whether no states may be kept, or too many.
+fn are_bad_states(states: usize) -> bool
+    ensures { IsTrue result ↔ AreBadStates states }
+{
+    states == 0 || states > MOST_STATES
+}
+
+// The page of the states after the setup.
+fn shown(alloc: Global, wanted: Wanted, names: Names) -> Result<String, ToolFault>
+    ensures { GivesText (ShowsTo (wanted_of wanted.entry) (names_of names.entry)) result }
+{
+    if are_bad_states(wanted.states) {
+        return Err(ToolFault::Explore(ExploreFault::BadStates));
+    }
+    match setup_steps(alloc, names, MOST_STEPS)? {
+        Some(first) => {
+            let page = choices_data(alloc, names, wanted.texts, &first, wanted.states)?;
+            Ok(page)
+        }
+        None => Err(ToolFault::Explore(ExploreFault::SetupEndless)),
+    }
+}
+
+// The same, once the schedule is read.
+fn followed(alloc: Global, wanted: Wanted, names: Names) -> Result<String, ToolFault>
+    ensures { GivesText (FollowsTo (wanted_of wanted.entry) (names_of names.entry)) result }
+{
+    read_schedule(alloc, wanted.texts.schedule, names.program)?;
+    shown(alloc, wanted, names)
+}
+
+// The page of the program that the text is for the checked file.
+fn run(alloc: Global, wanted: Wanted, checked: &Checked) -> Result<String, ToolFault>
+    ensures { GivesText (RunsTo (wanted_of wanted.entry) (outcome_of checked.now)) result }
+{
+    let program = read_program(alloc, wanted.texts.program, checked)?;
+    followed(alloc, wanted, names_in(checked, &program))
+}
+
+// The page of the file that the class text is.
+fn chosen(alloc: Global, wanted: Wanted) -> Result<String, ToolFault>
+    ensures { GivesText (Chooses (wanted_of wanted.entry)) result }
+{
+    let parsed = parse_text(alloc, wanted.texts.classes)?;
+    let checked = check(alloc, parsed)?;
+    run(alloc, wanted, &checked)
+}
+
+/// The data of a page on which one chooses who steps next, from the Java text: a JSON object in one line. It has the
+/// texts, the states after the setup, of which so many are kept at most, and serial histories. The schedule is empty,
+/// or that of a run with which the page begins.
+///
+/// The first text that breaks is refused with its fault: first the class text, then the program, then the schedule. It
+/// is refused with 61 if no states may be kept, or more than 200,000; with 62 if the setup has not ended in 100,000
+/// steps; and if memory runs out.
+pub fn choose(
+    alloc: Global,
+    states: usize,
+    classes: &str,
+    program: &str,
+    schedule: &str,
+) -> Result<String, ToolFault>
+    ensures { GivesText (ChoosesTo states classes.now program.now schedule.now) result }
+{
+    let texts = Texts {
+        classes,
+        program,
+        schedule,
+    };
+    chosen(alloc, Wanted { texts, states })
+}
