@@ -1,7 +1,6 @@
 -- Schedules each of whose steps acts.
-use Rattle.ls_events.specs.Limits.{most_steps}
 use Rattle.std.proofs.Common.{◌≡◌, ◌<◌, ◌≤◌, ◌∙◌, ◌⊎◌, inl, inr, ℕ, suc, zero, List, [], ◌∷◌, length, map, refl, sym, ap, subst}
-use Rattle.std.proofs.Common.{arith, Bool, true, false, Option, None, slice_get}
+use Rattle.std.proofs.Common.{arith, Bool, true, false, None, slice_get}
 use Rattle.std.specs.Prelude.{All, if◌then◌else◌}
 use Rattle.std.proofs.lemmas.Bool.{cases_lt}
 use Rattle.std.proofs.lemmas.List.{length-map}
@@ -12,10 +11,8 @@ use Rattle.ls_checked.specs.CheckedProgram.{Program}
 use Rattle.ls_checked.specs.PlainProgram.{plain_thread}
 use Rattle.ls_meaning.specs.Steps.{Entry, Stepped, Same, Moved, Acted, after, trace, traced}
 use Rattle.ls_meaning.specs.Threads.{all_calls, calls_in, next}
-use Rattle.ls_meaning.specs.Runs.{State, answers_of, has_started, idle, source_step, start, step, step_of, stepped}
-use Rattle.ls_meaning.specs.declared.step.Did.{Did}
-use Rattle.ls_meaning.specs.declared.step.Did.TheVariants as did
-use Rattle.ls_image.specs.Images.{Compiles, checked_of, program_of_image}
+use Rattle.ls_meaning.specs.Runs.{State, answers_of, has_started, idle, source_step, start, step_of, stepped}
+use Rattle.ls_image.specs.Images.{checked_of, program_of_image}
 use Rattle.ls_types.specs.CheckedFile.{outcome_of}
 use Rattle.ls_translation.specs.Texts.{file_of, program_of}
 use Rattle.ls_schedule.specs.Reading.{thread_name}

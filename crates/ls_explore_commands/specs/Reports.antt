@@ -2,6 +2,7 @@
 use Rattle.std.specs.Prelude.{ℕ, Bool, true, false, List, [], ◌∷◌, ◌++◌, codes}
 use Rattle.std.specs.Fmt.{decimal}
 use Rattle.ls_meaning.specs.Runs.{source_history}
+use Rattle.ls_fewest_switches.specs.Switches.{switches}
 use Rattle.ls_report.specs.Events.{Text}
 use Rattle.ls_report.specs.Printing.{run_text}
 use Rattle.ls_labels.specs.Names.{Names}
@@ -19,21 +20,26 @@ end_text false = codes " cut\n"
 abbrev pub last_text : ℕ → Bool → Text
 last_text states complete = codes "states " ++ (decimal states ++ end_text complete)
 
--- what is wrong with a run, its schedule, its history's lines, an empty line
-abbrev pub run_report : Names → List Text → Text → List ℕ → Text
-run_report names threads head schedule =
-    head ++ (10 ∷ (schedule_text threads schedule ++
-    (run_text names.program (source_history names.file names.program schedule) ++ 10 ∷ [])))
+-- how many context switches a schedule has, if none with its history has fewer, as `; context switches 2`
+abbrev pub switches_text : Bool → List ℕ → Text
+switches_text true schedule = codes "; context switches " ++ decimal (switches schedule)
+switches_text false schedule = []
+
+-- what is wrong with a run, its context switches, its schedule, its history's lines, an empty line
+abbrev pub run_report : Bool → Names → List Text → Text → List ℕ → Text
+run_report fewest names threads head schedule =
+    head ++ (switches_text fewest schedule ++ (10 ∷ (schedule_text threads schedule ++
+    (run_text names.program (source_history names.file names.program schedule) ++ 10 ∷ []))))
 
 -- a run whose history isn't linearizable
-abbrev pub bad_text : Names → List Text → List ℕ → ℕ → Bool → Text
-bad_text names threads schedule states complete =
-    run_report names threads (codes "not linearizable") schedule ++ last_text states complete
+abbrev pub bad_text : Bool → Names → List Text → List ℕ → ℕ → Bool → Text
+bad_text fewest names threads schedule states complete =
+    run_report fewest names threads (codes "not linearizable") schedule ++ last_text states complete
 
 -- a run after which threads wait for ever
-abbrev pub stuck_text : Names → List Text → List ℕ → ℕ → Bool → Text
-stuck_text names threads schedule states complete =
-    run_report names threads (waiting names (scene_of names schedule) 0 threads) schedule ++ last_text states complete
+abbrev pub stuck_text : Bool → Names → List Text → List ℕ → ℕ → Bool → Text
+stuck_text fewest names threads schedule states complete =
+    run_report fewest names threads (waiting names (scene_of names schedule) 0 threads) schedule ++ last_text states complete
 
 -- why serial runs may not all have been found
 abbrev pub doubt_text : Doubt → Text
@@ -41,15 +47,15 @@ doubt_text doubts.LongCall = codes "not judged: a call goes on"
 doubt_text doubts.ManyOrders = codes "not judged: too many orders"
 
 -- a run whose history no serial run explains that was found, where these may not be all
-abbrev pub doubtful_text : Doubt → Names → List Text → List ℕ → ℕ → Bool → Text
-doubtful_text doubt names threads schedule states complete =
-    run_report names threads (doubt_text doubt) schedule ++ last_text states complete
+abbrev pub doubtful_text : Doubt → Bool → Names → List Text → List ℕ → ℕ → Bool → Text
+doubtful_text doubt fewest names threads schedule states complete =
+    run_report fewest names threads (doubt_text doubt) schedule ++ last_text states complete
 
 -- a run after which threads wait for ever, and then such a run
-abbrev pub stuck_and_doubtful_text : List ℕ → Doubt → Names → List Text → List ℕ → ℕ → Bool → Text
-stuck_and_doubtful_text stuck doubt names threads schedule states complete =
-    run_report names threads (waiting names (scene_of names stuck) 0 threads) stuck ++
-    doubtful_text doubt names threads schedule states complete
+abbrev pub stuck_and_doubtful_text : List ℕ → Bool → Doubt → Bool → Names → List Text → List ℕ → ℕ → Bool → Text
+stuck_and_doubtful_text stuck stuck_fewest doubt fewest names threads schedule states complete =
+    run_report stuck_fewest names threads (waiting names (scene_of names stuck) 0 threads) stuck ++
+    doubtful_text doubt fewest names threads schedule states complete
 
 -- no run is bad
 abbrev pub free_text : ℕ → Bool → Text

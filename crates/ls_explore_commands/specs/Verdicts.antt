@@ -9,6 +9,7 @@ use Rattle.ls_report.specs.Events.{Text}
 use Rattle.ls_faults.specs.declared.fault.ToolFault.{ToolFault}
 use Rattle.ls_faults.specs.declared.fault.ToolFault.TheVariants as faults
 use Rattle.ls_commands.specs.Compiled.{AnswersOn, names_of_image}
+use Rattle.ls_fewest_switches.specs.Switches.{HasFewest}
 use Rattle.ls_serial_search.specs.Told.{IsDoubt, usual}
 use Rattle.ls_serial_search.specs.declared.telling.Doubt.{Doubt}
 use Rattle.ls_source_judge.specs.Judged.{AllLinearizable, IsNotLinearizable}
@@ -21,37 +22,45 @@ pub record IsExtent (limit states : ℕ) (complete : Bool) : Type 0 where
   pub within : states ≤ limit
   pub cut : complete ≡ false → states ≡ limit
 
--- The text of a verdict, or why there is none. If all states were kept, it is said of each schedule, of any length.
+-- The text of a verdict, or why there is none. If all states were kept, it is said of each schedule, of any length. If the
+-- context switches of a run are printed, no schedule with its history has fewer; and of runs after which threads wait, none
+-- after which they wait.
 pub data Decided (i : Image) (limit : ℕ) : Result Text ToolFault → Type 0 where
   NoStates : AreBadStates limit → Decided i limit (Err (faults.Explore explore.BadStates))
   -- the history of this schedule isn't linearizable
-  IsBad : (schedule : List ℕ) (states : ℕ) (complete : Bool) →
+  IsBad : (schedule : List ℕ) (fewest : Bool) (states : ℕ) (complete : Bool) →
       ¬ AreBadStates limit →
       IsExtent limit states complete →
       IsNotLinearizable (file_of i) (program_of i) schedule →
-      Decided i limit (Ok (bad_text (names_in i) (names_of_image i) schedule states complete))
+      (fewest ≡ true → HasFewest false (file_of i) (program_of i) schedule) →
+      Decided i limit (Ok (bad_text fewest (names_in i) (names_of_image i) schedule states complete))
   -- no serial history that was found explains it, and some may not have been found, for this reason
-  IsDoubtful : (doubt : Doubt) (schedule : List ℕ) (states : ℕ) (complete : Bool) →
+  IsDoubtful : (doubt : Doubt) (schedule : List ℕ) (fewest : Bool) (states : ℕ) (complete : Bool) →
       ¬ AreBadStates limit →
       IsExtent limit states complete →
       IsDoubt (file_of i) (program_of i) usual doubt →
       (complete ≡ true → NeverStuck (file_of i) (program_of i)) →
-      Decided i limit (Ok (doubtful_text doubt (names_in i) (names_of_image i) schedule states complete))
+      (fewest ≡ true → HasFewest false (file_of i) (program_of i) schedule) →
+      Decided i limit (Ok (doubtful_text doubt fewest (names_in i) (names_of_image i) schedule states complete))
   -- the same of this schedule, and after the first no thread acts, and one waits for a lock
-  IsStuckAndDoubtful : (stuck : List ℕ) (doubt : Doubt) (schedule : List ℕ) (states : ℕ) (complete : Bool) →
+  IsStuckAndDoubtful : (stuck : List ℕ) (stuck_fewest : Bool) (doubt : Doubt) (schedule : List ℕ) (fewest : Bool)
+      (states : ℕ) (complete : Bool) →
       ¬ AreBadStates limit →
       IsExtent limit states complete →
       LeavesStuck (file_of i) (program_of i) stuck →
       IsDoubt (file_of i) (program_of i) usual doubt →
-      Decided i limit
-      (Ok (stuck_and_doubtful_text stuck doubt (names_in i) (names_of_image i) schedule states complete))
+      (stuck_fewest ≡ true → HasFewest true (file_of i) (program_of i) stuck) →
+      (fewest ≡ true → HasFewest false (file_of i) (program_of i) schedule) →
+      Decided i limit (Ok (stuck_and_doubtful_text stuck stuck_fewest doubt fewest (names_in i) (names_of_image i)
+      schedule states complete))
   -- after this schedule no thread acts, and one waits for a lock
-  IsStuck : (schedule : List ℕ) (states : ℕ) (complete : Bool) →
+  IsStuck : (schedule : List ℕ) (fewest : Bool) (states : ℕ) (complete : Bool) →
       ¬ AreBadStates limit →
       IsExtent limit states complete →
       LeavesStuck (file_of i) (program_of i) schedule →
+      (fewest ≡ true → HasFewest true (file_of i) (program_of i) schedule) →
       (complete ≡ true → AllLinearizable (file_of i) (program_of i)) →
-      Decided i limit (Ok (stuck_text (names_in i) (names_of_image i) schedule states complete))
+      Decided i limit (Ok (stuck_text fewest (names_in i) (names_of_image i) schedule states complete))
   IsFree : (states : ℕ) (complete : Bool) →
       ¬ AreBadStates limit →
       IsExtent limit states complete →

@@ -1,9 +1,12 @@
 // What `explore --verdict` says.
 
 ghost use Rattle.std.specs.Prelude.{◌≡◌, ◌++◌, ◌∷◌, [], ◌↔◌, ◌⊎◌, ℕ, IfErr, IfNone, IfOk, IfSome, IsTrue, OnOk, replicate};
+ghost use Rattle.std.specs.Prelude.{true};
 ghost use Rattle.ls_explore_images.specs.Faults.{AreBadStates};
 ghost use Rattle.ls_faults.specs.Given.{GivesText};
 ghost use Rattle.ls_explore_commands.specs.Verdicts.{Decided, IsExtent, VerdictsTo};
+ghost use Rattle.ls_fewest_switches.specs.Switches.{EndsSo, HasFewest};
+ghost use Rattle.ls_meaning.specs.Runs.{source_history};
 ghost use Rattle.ls_serial_search.specs.Told.{IsDoubt, usual};
 ghost use Rattle.ls_source_judge.specs.Judged.{AllLinearizable, IsNotLinearizable};
 ghost use Rattle.ls_state_space.specs.Verdicts.{LeavesStuck, NeverStuck};
@@ -18,11 +21,15 @@ use ls_compiler::compile::compile;
 use ls_events::schedule::{MOST_STEPS, Schedule};
 use ls_explore_images::{ExploreFault, MOST_STATES};
 use ls_faults::fault::ToolFault;
+use ls_fewest_switches::{SimpleRun, simplest};
 use ls_image::image::Image;
 use ls_serial_search::telling::Doubt;
 use ls_source_judge::{Judged, judge_schedules};
 use ls_translation::fault::TranslationFault;
 use std::alloc::{AllocError, Global};
+
+/// The most states of a search along one history, for each number of changes of thread.
+const MOST_ALONG: usize = 1_000_000;
 
 /// Whether no states may be kept, or too many.
 fn are_bad_states(states: usize) -> bool
@@ -58,6 +65,30 @@ fn schedule_of(alloc: Global, setup: usize, path: &[u8]) -> Result<Schedule, Tra
     Ok(schedule)
 }
 
+/// A run with the history of a path after so many steps of the setup, and the fewest context switches. With `stuck` no
+/// thread acts after it and one waits, where that is so after the path.
+fn run_of(
+    alloc: Global,
+    image: &Image,
+    setup: usize,
+    path: &[u8],
+    stuck: bool,
+) -> Result<SimpleRun, TranslationFault>
+    ensures history { IfOk result (λ r. source_history (file_of image.now) (program_of image.now) r.schedule ≡
+        source_history (file_of image.now) (program_of image.now) (replicate setup 0 ++ path.now)) }
+    ensures ends { IfOk result (λ r.
+        EndsSo stuck (file_of image.now) (program_of image.now) (replicate setup 0 ++ path.now) →
+        EndsSo stuck (file_of image.now) (program_of image.now) r.schedule) }
+    ensures fewest { IfOk result (λ r. r.fewest ≡ true →
+        HasFewest stuck (file_of image.now) (program_of image.now) r.schedule) }
+    ensures only { IfErr result (λ e. (e ≡ Memory) ⊎ (e ≡ ResultTooLong)) }
+{
+    let found = schedule_of(alloc, setup, path)?;
+    let file = image.checked().file();
+    let run = simplest(alloc, file, image.program(), stuck, &found, MOST_ALONG)?;
+    Ok(run)
+}
+
 /// How many states were kept, and whether these are all.
 fn extent_of(judged: &Judged) -> Extent
     ensures states { result.states ≡ judged.now.states }
@@ -80,8 +111,8 @@ fn bad_answer(
         IsNotLinearizable (file_of image.now) (program_of image.now) (replicate judged.now.setup 0 ++ path.now) →
         GivesText (Decided image.now limit) result }
 {
-    let schedule = schedule_of(alloc, judged.setup, path)?;
-    let text = print_bad(alloc, names_in(image), &schedule, extent_of(judged))?;
+    let run = run_of(alloc, image, judged.setup, path, false)?;
+    let text = print_bad(alloc, names_in(image), &run, extent_of(judged))?;
     Ok(text)
 }
 
@@ -98,8 +129,8 @@ fn doubtful_answer(
         (IsTrue judged.now.complete → NeverStuck (file_of image.now) (program_of image.now)) →
         GivesText (Decided image.now limit) result }
 {
-    let schedule = schedule_of(alloc, judged.setup, path)?;
-    let text = print_doubtful(alloc, names_in(image), doubt, &schedule, extent_of(judged))?;
+    let run = run_of(alloc, image, judged.setup, path, false)?;
+    let text = print_doubtful(alloc, names_in(image), doubt, &run, extent_of(judged))?;
     Ok(text)
 }
 
@@ -117,10 +148,10 @@ fn stuck_and_doubtful_answer(
         IsDoubt (file_of image.now) (program_of image.now) usual doubt →
         GivesText (Decided image.now limit) result }
 {
-    let first = schedule_of(alloc, judged.setup, stuck)?;
-    let schedule = schedule_of(alloc, judged.setup, path)?;
+    let first = run_of(alloc, image, judged.setup, stuck, true)?;
+    let run = run_of(alloc, image, judged.setup, path, false)?;
     let extent = extent_of(judged);
-    let text = print_stuck_and_doubtful(alloc, names_in(image), &first, &schedule, doubt, extent)?;
+    let text = print_stuck_and_doubtful(alloc, names_in(image), &first, &run, doubt, extent)?;
     Ok(text)
 }
 
@@ -136,8 +167,8 @@ fn stuck_answer(
         (IsTrue judged.now.complete → AllLinearizable (file_of image.now) (program_of image.now)) →
         GivesText (Decided image.now limit) result }
 {
-    let schedule = schedule_of(alloc, judged.setup, path)?;
-    let text = print_stuck(alloc, names_in(image), &schedule, extent_of(judged))?;
+    let run = run_of(alloc, image, judged.setup, path, true)?;
+    let text = print_stuck(alloc, names_in(image), &run, extent_of(judged))?;
     Ok(text)
 }
 
@@ -239,7 +270,8 @@ fn decided(alloc: Global, image: &Image, states: usize) -> Result<String, ToolFa
 }
 
 /// A wrong run of the compiled program, over all schedules of source steps, where at most so many states of the source
-/// are kept: its schedule and its history. A run is wrong if its history isn't linearizable, or else if no
+/// are kept: its schedule and its history. Of the schedules with its history it is one with the fewest context switches,
+/// if at most 1,000,000 states are needed to find it. A run is wrong if its history isn't linearizable, or else if no
 /// thread acts after it and one waits. Or that there is none. The last line has how many states were kept, and whether
 /// these are all.
 ///

@@ -6,10 +6,11 @@ ghost use Rattle.ls_meaning.specs.Runs.{source_history};
 ghost use Rattle.ls_report.specs.Printing.{run_text};
 ghost use Rattle.ls_schedule.specs.Reading.{thread_names};
 ghost use Rattle.ls_explore_commands.specs.Reports.{bad_text, doubt_text, doubtful_text, end_text, free_text, last_text};
-ghost use Rattle.ls_explore_commands.specs.Reports.{run_report, stuck_and_doubtful_text, stuck_text};
+ghost use Rattle.ls_explore_commands.specs.Reports.{run_report, stuck_and_doubtful_text, stuck_text, switches_text};
 
 use ls_events::schedule::Schedule;
 use ls_explore_reports::waiting_after;
+use ls_fewest_switches::{SimpleRun, switches};
 use ls_labels::names::Names;
 use ls_report::print_history;
 use ls_schedule::print_schedule;
@@ -65,20 +66,34 @@ fn history_after(alloc: Global, names: Names<'_>, schedule: &Schedule) -> Result
     Ok(text)
 }
 
-/// Adds what is wrong with a run, its schedule, its history's lines, an empty line.
+/// Adds how many context switches a run has, if none with its history has fewer.
+fn push_switches(out: &mut String, run: &SimpleRun) -> Result<(), AllocError>
+    ensures { OnOk result (string_bytes out.new ≡ string_bytes out.old ++
+        switches_text run.now.fewest run.now.schedule) }
+{
+    if run.fewest {
+        let count = switches(&run.schedule);
+        write!(out, "; context switches {count}")?;
+    }
+    Ok(())
+}
+
+/// Adds what is wrong with a run, its context switches, its schedule, its history's lines, an empty line.
 fn push_run(
     alloc: Global,
     out: &mut String,
     names: Names<'_>,
     head: &str,
-    schedule: &Schedule,
+    run: &SimpleRun,
 ) -> Result<(), AllocError>
     ensures { OnOk result (string_bytes out.new ≡ string_bytes out.old ++
-        run_report (names_of names.entry) (thread_names names.entry.program.now) head.now schedule.now) }
+        run_report run.now.fewest (names_of names.entry) (thread_names names.entry.program.now) head.now
+        run.now.schedule) }
 {
-    let steps = print_schedule(alloc, schedule, names.program)?;
-    let history = history_after(alloc, names, schedule)?;
+    let steps = print_schedule(alloc, &run.schedule, names.program)?;
+    let history = history_after(alloc, names, &run.schedule)?;
     out.push_str(head)?;
+    push_switches(out, run)?;
     out.push_str("\n")?;
     out.push_str(steps.as_str())?;
     out.push_str(history.as_str())?;
@@ -89,15 +104,15 @@ fn push_run(
 pub(crate) fn print_bad(
     alloc: Global,
     names: Names<'_>,
-    schedule: &Schedule,
+    run: &SimpleRun,
     extent: Extent,
 ) -> Result<String, AllocError>
     ensures { IfOk result (λ text. string_bytes text ≡
-        bad_text (names_of names.entry) (thread_names names.entry.program.now) schedule.now extent.states
-        extent.complete) }
+        bad_text run.now.fewest (names_of names.entry) (thread_names names.entry.program.now) run.now.schedule
+        extent.states extent.complete) }
 {
     let mut out = String::new(alloc);
-    push_run(alloc, &mut out, names, "not linearizable", schedule)?;
+    push_run(alloc, &mut out, names, "not linearizable", run)?;
     push_last(&mut out, extent)?;
     Ok(out)
 }
@@ -108,15 +123,15 @@ pub(crate) fn print_doubtful(
     alloc: Global,
     names: Names<'_>,
     doubt: Doubt,
-    schedule: &Schedule,
+    run: &SimpleRun,
     extent: Extent,
 ) -> Result<String, AllocError>
     ensures { IfOk result (λ text. string_bytes text ≡
-        doubtful_text doubt (names_of names.entry) (thread_names names.entry.program.now) schedule.now extent.states
-        extent.complete) }
+        doubtful_text doubt run.now.fewest (names_of names.entry) (thread_names names.entry.program.now) run.now.schedule
+        extent.states extent.complete) }
 {
     let mut out = String::new(alloc);
-    push_run(alloc, &mut out, names, doubt_words(doubt), schedule)?;
+    push_run(alloc, &mut out, names, doubt_words(doubt), run)?;
     push_last(&mut out, extent)?;
     Ok(out)
 }
@@ -125,16 +140,16 @@ pub(crate) fn print_doubtful(
 pub(crate) fn print_stuck(
     alloc: Global,
     names: Names<'_>,
-    schedule: &Schedule,
+    run: &SimpleRun,
     extent: Extent,
 ) -> Result<String, AllocError>
     ensures { IfOk result (λ text. string_bytes text ≡
-        stuck_text (names_of names.entry) (thread_names names.entry.program.now) schedule.now extent.states
-        extent.complete) }
+        stuck_text run.now.fewest (names_of names.entry) (thread_names names.entry.program.now) run.now.schedule
+        extent.states extent.complete) }
 {
-    let waiting = waiting_after(alloc, names, schedule)?;
+    let waiting = waiting_after(alloc, names, &run.schedule)?;
     let mut out = String::new(alloc);
-    push_run(alloc, &mut out, names, waiting.as_str(), schedule)?;
+    push_run(alloc, &mut out, names, waiting.as_str(), run)?;
     push_last(&mut out, extent)?;
     Ok(out)
 }
@@ -144,16 +159,16 @@ pub(crate) fn print_stuck(
 pub(crate) fn print_stuck_and_doubtful(
     alloc: Global,
     names: Names<'_>,
-    stuck: &Schedule,
-    doubtful: &Schedule,
+    stuck: &SimpleRun,
+    doubtful: &SimpleRun,
     doubt: Doubt,
     extent: Extent,
 ) -> Result<String, AllocError>
     ensures { IfOk result (λ text. string_bytes text ≡
-        stuck_and_doubtful_text stuck.now doubt (names_of names.entry) (thread_names names.entry.program.now)
-        doubtful.now extent.states extent.complete) }
+        stuck_and_doubtful_text stuck.now.schedule stuck.now.fewest doubt doubtful.now.fewest (names_of names.entry)
+        (thread_names names.entry.program.now) doubtful.now.schedule extent.states extent.complete) }
 {
-    let waiting = waiting_after(alloc, names, stuck)?;
+    let waiting = waiting_after(alloc, names, &stuck.schedule)?;
     let mut out = String::new(alloc);
     push_run(alloc, &mut out, names, waiting.as_str(), stuck)?;
     push_run(alloc, &mut out, names, doubt_words(doubt), doubtful)?;

@@ -33,7 +33,7 @@ no_events t did.Idle still = refl
 
 module _ (file : File) (program : Program) where
   -- the run after one step more
-  gone : (schedule : List ℕ) (t : ℕ) →
+  pub gone : (schedule : List ℕ) (t : ℕ) →
       gone_on (progress_at file program schedule) t ≡ progress_at file program (schedule ++ t ∷ [])
   gone schedule t =
       let s : State = source_run file program schedule in

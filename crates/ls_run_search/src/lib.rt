@@ -1,7 +1,7 @@
 //! The search from where the setup leads to.
 #![tactic(auto)]
 
-mod numbering;
+pub mod numbering;
 mod observing;
 pub mod running;
 mod setting_up;

@@ -18,10 +18,10 @@ use std::alloc::{AllocError, Global};
 
 /// The numbers of a run's store and of its threads' works.
 #[derive(Drop)]
-pub(crate) struct Numbered<'a> {
-    pub(crate) transitions: Transitions<'a>,
-    pub(crate) store: usize,
-    pub(crate) works: Vec<usize>,
+pub struct Numbered<'a> {
+    pub transitions: Transitions<'a>,
+    pub store: usize,
+    pub works: Vec<usize>,
 }
 
 /// The numbers of threads' works.
@@ -43,8 +43,9 @@ fn number_works<'a>(
     Ok(works)
 }
 
-/// The numbers of a run's store and of its threads' works, in tables of their own.
-pub(crate) fn number<'a>(alloc: Global, playing: &Playing<'a>) -> Result<Numbered<'a>, AllocError>
+/// The numbers of a run's store and of its threads' works, in tables of their own. A refusal is that memory ran out, or
+/// that a store or a work has no number left.
+pub fn number<'a>(alloc: Global, playing: &Playing<'a>) -> Result<Numbered<'a>, AllocError>
     ensures there { IfOk result (λ n. AreThere (table_of n.transitions) n.store n.works.items) }
     ensures file { IfOk result (λ n. (table_of n.transitions).file ≡ plain_file playing.now.file.now) }
     ensures width { IfOk result (λ n. length n.works.items ≡ length playing.now.threads.items) }

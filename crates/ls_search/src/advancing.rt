@@ -39,7 +39,7 @@ fn step_at_once(made: Move) -> Option<Step>
 }
 
 /// Goes to the state after a step of a thread.
-pub(crate) fn take(place: &mut Place, thread: usize, step: &Step)
+pub fn take(place: &mut Place, thread: usize, step: &Step)
     requires { thread < length place.old.works.items }
     ensures store { place.new.store ≡ step.now.store }
     ensures works { place.new.works.items ≡ slice_set place.old.works.items thread step.now.work }

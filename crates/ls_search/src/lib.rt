@@ -1,11 +1,11 @@
 //! The search over the states of a source run: by the numbers of a store and of works, and of what is noted.
 #![tactic(auto)]
 
-mod advancing;
+pub mod advancing;
 pub mod answers;
 mod closing;
 pub mod keeping;
-mod moving;
+pub mod moving;
 pub mod noting;
 pub mod paths;
 pub mod places;

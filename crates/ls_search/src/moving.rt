@@ -24,7 +24,7 @@ fn work_at(works: &[usize], thread: usize) -> Option<usize>
 }
 
 /// Whether the setup has ended without a trap.
-pub(crate) fn has_setup_ended<'a>(
+pub fn has_setup_ended<'a>(
     alloc: Global,
     transitions: &mut Transitions<'a>,
     place: &Place,

@@ -35,7 +35,7 @@ impl<N: Drop> Pool<N> {
 }
 
 /// The event of a history that an action of a thread is, or none.
-fn event_of(thread: usize, action: &Action<Value>) -> Option<Event>
+pub fn event_of(thread: usize, action: &Action<Value>) -> Option<Event>
     ensures { result ≡ event_of thread action.now }
 {
     let (call, happening) = match action {

@@ -80,8 +80,8 @@ fn copy_works(alloc: Global, works: &[usize]) -> Result<Vec<usize>, AllocError>
     Ok(copies)
 }
 
-/// The same state.
-fn copy_place(alloc: Global, place: &Place) -> Result<Place, AllocError>
+/// The same state. The only refusal is that memory ran out.
+pub fn copy_place(alloc: Global, place: &Place) -> Result<Place, AllocError>
     ensures store { IfOk result (λ p. p.store ≡ place.now.store) }
     ensures works { IfOk result (λ p. p.works.items ≡ place.now.works.items) }
     ensures noted { IfOk result (λ p. p.noted ≡ place.now.noted) }
@@ -101,8 +101,9 @@ fn has_started(thread: usize, ended: bool) -> bool
     thread == 0 || ended
 }
 
-/// What a thread's next step does, where it is known whether the setup has ended.
-fn step_from<'a>(
+/// What a thread's next step does, where it is known whether the setup has ended. A refusal is that memory ran out, or
+/// that a store or a work has no number left.
+pub fn step_from<'a>(
     alloc: Global,
     transitions: &mut Transitions<'a>,
     place: &Place,
@@ -287,7 +288,7 @@ pub(crate) fn look<O: Observer>(
 }
 
 /// What is seen with one more thread.
-pub(crate) fn seen_with(seen: Seen, looked: Looked) -> Seen
+pub fn seen_with(seen: Seen, looked: Looked) -> Seen
     ensures { result ≡ seen_with seen looked }
 {
     match looked {

@@ -1,4 +1,4 @@
-use Rattle.std.proofs.Common.{◌≡◌, ◌++◌, replicate, subst, sym}
+use Rattle.std.proofs.Common.{◌++◌, replicate, subst, sym}
 use Rattle.std.specs.Prelude.{IfNone, IfSome}
 use Rattle.ls_explore_images.specs.Faults.{AreBadStates}
 use Rattle.ls_source_judge.specs.Judged.{AllLinearizable, IsNotLinearizable}
@@ -18,10 +18,12 @@ returns-in-Some c =
     let good : ¬ AreBadStates c.args.states =
     λ bad. not_both (c.are_bad_states.ensures.1 bad) c.if-are_bad_states.false in
     c.wrong_answer.ensures c.args.states good c.in_ok-judged.ensures.extent
-    (λ known. subst (λ s. IsNotLinearizable (file_of i) (program_of i) (replicate j.setup 0 ++ s))
+    (subst (λ s. IfNone j.doubt (IsNotLinearizable (file_of i) (program_of i) (replicate j.setup 0 ++ s)))
     (sym c.as_slice.ensures.value)
-    (subst (λ o. IfSome o (λ path. IsNotLinearizable (file_of i) (program_of i) (replicate j.setup 0 ++ path.items)))
-    c.in-Some.is (c.in_ok-judged.ensures.bad known)))
+    (subst (λ o. IfNone j.doubt
+    (IfSome o (λ path. IsNotLinearizable (file_of i) (program_of i) (replicate j.setup 0 ++ path.items))))
+    c.in-Some.is c.in_ok-judged.ensures.bad)) c.in_ok-judged.ensures.doubt c.in_ok-judged.ensures.free
+    c.in_ok-judged.ensures.stuck
 
 pub returns-in-Some-stuck : goal.returns-in-Some-stuck
 returns-in-Some-stuck c =

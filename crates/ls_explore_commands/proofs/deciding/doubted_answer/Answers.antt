@@ -13,8 +13,8 @@ returns-in-Some c = λ limit good extent doubt free stuck.
     (subst (λ o. IfSome o (λ path. LeavesStuck (file_of i) (program_of i) (replicate j.setup 0 ++ path.items)))
     c.in-Some.is stuck)) doubt
 
-pub returns : goal.returns
-returns c = λ limit good extent doubt free stuck.
+pub returns-in-None : goal.returns-in-None
+returns-in-None c = λ limit good extent doubt free stuck.
     let i = c.args.image.now in
     c.doubtful_answer.ensures limit good extent doubt
     (λ complete. subst (λ o. IfNone o (NeverStuck (file_of i) (program_of i))) c.in-None.is (free complete))

@@ -1,4 +1,4 @@
-use Rattle.std.proofs.Common.{◌≡◌, ◌∙◌, ap, List, ℕ}
+use Rattle.std.proofs.Common.{◌∙◌, ap, List, ℕ}
 use Rattle.ls_meaning.specs.Runs.{source_history}
 use Rattle.ls_labels.specs.Names.{names_of}
 use Rattle.ls_report.specs.Printing.{run_text}

@@ -1,0 +1,9 @@
+pub mod Changes
+pub mod Paths
+pub mod Forward
+pub mod Growing
+pub mod Passing
+pub mod Ending
+pub mod Roots
+pub mod Reaching
+pub mod Running

@@ -1,0 +1,4 @@
+pub mod Switches
+pub mod Reached
+pub mod Spots
+pub mod Levels

@@ -1,0 +1,98 @@
+// What a schedule comes to.
+
+ghost use Rattle.std.specs.Prelude.{◌≡◌, ◌⊎◌, IfOk, IsTrue, length, true};
+ghost use Rattle.ls_checked.specs.Plain.{plain_file};
+ghost use Rattle.ls_checked.specs.PlainProgram.{plain_program};
+ghost use Rattle.ls_meaning.specs.Runs.{source_history};
+ghost use Rattle.ls_meaning.specs.Still.{IsStill};
+ghost use Rattle.ls_meaning.specs.declared.step.Did.TheVariants.{Waits};
+ghost use Rattle.ls_run_search.specs.Runs.{progress_at};
+ghost use Rattle.ls_source.specs.Shown.{progress_of};
+ghost use Rattle.ls_fewest_switches.specs.Switches.{EndsSo};
+ghost use Rattle.ls_fewest_switches.specs.Levels.{IsWaiting};
+
+use ls_checked::program::Program;
+use ls_checked::tree::File;
+use ls_events::event::Event;
+use ls_events::same::are_same_events;
+use ls_meaning::step::Did;
+use ls_source::run::SourceRun;
+use std::alloc::{AllocError, Global};
+
+/// The run after a schedule.
+fn run_after<'a>(
+    alloc: Global,
+    file: &'a File,
+    program: &'a Program,
+    steps: &[u8],
+) -> Result<SourceRun<'a>, AllocError>
+    ensures { IfOk result (λ r. progress_of r ≡
+        progress_at (plain_file file.now) (plain_program program.now) steps.now) }
+{
+    let mut run = SourceRun::new(alloc, file, program)?;
+    for thread in steps {
+        let _did = run.step(alloc, *thread as usize)?;
+    }
+    Ok(run)
+}
+
+/// Whether a step didn't act.
+fn is_still(did: Did) -> bool
+    ensures { IsTrue result → IsStill did }
+{
+    match did {
+        Did::Acted(_, _) => false,
+        Did::Waits | Did::Idle => true,
+    }
+}
+
+/// Whether a thread has waited, with one step more.
+fn waits_with(waits: bool, did: Did) -> bool
+    ensures { IsTrue result → (waits ≡ true) ⊎ (did ≡ Waits) }
+{
+    match did {
+        Did::Waits => true,
+        Did::Acted(_, _) | Did::Idle => waits,
+    }
+}
+
+/// Whether no thread acts and one waits. True only where it is so.
+fn is_stuck(alloc: Global, run: &mut SourceRun<'_>, threads: usize) -> Result<bool, AllocError>
+    requires { threads ≡ length (progress_of run.old).program.threads }
+    ensures { IfOk result (λ b. IsTrue b → IsWaiting (progress_of run.old)) }
+{
+    let mut waits = false;
+    for thread in 0..threads {
+        let did = run.step(alloc, thread)?;
+        if !is_still(did) {
+            return Ok(false);
+        }
+        waits = waits_with(waits, did);
+    }
+    Ok(waits)
+}
+
+/// Whether a schedule has a history and ends as is asked. True only where it is so.
+pub(crate) fn is_alike(
+    alloc: Global,
+    file: &File,
+    program: &Program,
+    steps: &[u8],
+    history: &[Event],
+    stuck: bool,
+) -> Result<bool, AllocError>
+    ensures history { IfOk result (λ b. IsTrue b →
+        source_history (plain_file file.now) (plain_program program.now) steps.now ≡ history.now) }
+    ensures ends { IfOk result (λ b. IsTrue b →
+        EndsSo stuck (plain_file file.now) (plain_program program.now) steps.now) }
+{
+    let mut run = run_after(alloc, file, program, steps)?;
+    if !are_same_events(run.history(), history) {
+        return Ok(false);
+    }
+    if !stuck {
+        return Ok(true);
+    }
+    let waits = is_stuck(alloc, &mut run, program.threads.len())?;
+    Ok(waits)
+}

@@ -1,0 +1,142 @@
+// The search for a schedule with so many changes of thread.
+
+ghost use Rattle.std.specs.Prelude.{◌≡◌, IfOk, length};
+ghost use Rattle.ls_checked.specs.CheckedProgram.{Program as ProgramValue};
+ghost use Rattle.ls_checked.specs.Plain.{plain_file};
+ghost use Rattle.ls_checked.specs.PlainProgram.{plain_program};
+ghost use Rattle.ls_meaning.specs.Runs.{start};
+ghost use Rattle.ls_search_laws.specs.Configuration.{configuration_of};
+ghost use Rattle.ls_search.specs.Places.{AreThere, configuration_at};
+ghost use Rattle.ls_transitions.specs.Seen.{table_of};
+ghost use Rattle.ls_transitions.specs.Tables.{Grows};
+ghost use Rattle.ls_fewest_switches.specs.Switches.{NoneWithin};
+ghost use Rattle.ls_fewest_switches.specs.Levels.{IsLevel};
+ghost use Rattle.ls_fewest_switches.specs.declared.levels.Level.TheVariants.{Nothing};
+
+use crate::changing::changes;
+use crate::checking::is_alike;
+use crate::closing::{Closing, close};
+use crate::following::Ground;
+use crate::spots::{Spot, Spots};
+use ls_checked::program::Program;
+use ls_checked::tree::File;
+use ls_events::schedule::MOST_STEPS;
+use ls_run_search::numbering::Numbered;
+use ls_search::places::Place;
+use std::alloc::{AllocError, Global};
+
+/// The same works.
+fn copy_works(alloc: Global, works: &[usize]) -> Result<Vec<usize>, AllocError>
+    ensures { IfOk result (λ v. v.items ≡ works.now) }
+{
+    let mut copies = Vec::new(alloc);
+    for work in works {
+        copies.push(*work)?;
+    }
+    Ok(copies)
+}
+
+/// The threads whose steps lead from the first state to the one at a place.
+fn path_to(alloc: Global, spots: &[Spot], at: usize) -> Result<Vec<u8>, AllocError> {
+    let mut steps = Vec::new(alloc);
+    let mut place = at;
+    for _ in 0..spots.len() {
+        let Some(spot) = spots.get(place) else {
+            break;
+        };
+        if spot.before >= place {
+            break;
+        }
+        steps.push(spot.last)?;
+        place = spot.before;
+    }
+    steps.reverse();
+    Ok(steps)
+}
+
+/// What was found with at most so many changes of thread.
+#[derive(Drop)]
+pub enum Level {
+    /// There is no such schedule.
+    Nothing,
+    /// This one.
+    Steps(Vec<u8>),
+    /// It isn't known, since there would be too many states.
+    Cut,
+}
+
+/// How the search for a schedule with at most so many changes of thread ends, and the steps to the end that it reaches.
+fn reached_by<'a>(ground: &Ground<'_>, numbered: &mut Numbered<'a>) -> Result<Level, AllocError>
+    requires there { AreThere (table_of numbered.old.transitions) numbered.old.store numbered.old.works.items }
+    requires width { length numbered.old.works.items ≡ ground.now.threads }
+    ensures grows { Grows (table_of numbered.old.transitions) (table_of numbered.new.transitions) }
+    ensures store { numbered.new.store ≡ numbered.old.store }
+    ensures works { numbered.new.works.items ≡ numbered.old.works.items }
+    ensures none { IfOk result (λ l. l ≡ Nothing → (program : ProgramValue) →
+        configuration_at (table_of numbered.old.transitions) numbered.old.store numbered.old.works.items ≡
+        configuration_of (table_of numbered.old.transitions).file program (start program) →
+        NoneWithin ground.now.stuck (table_of numbered.old.transitions).file program ground.now.history.now
+        ground.now.most) }
+{
+    let place = Place {
+        store: numbered.store,
+        works: copy_works(ground.alloc, &numbered.works)?,
+        noted: 0,
+    };
+    let root = Spot {
+        place,
+        last: 0,
+        changes: 0,
+        before: 0,
+    };
+    let mut spots = Spots::first(ground.alloc, root)?;
+    match close(ground, &mut numbered.transitions, &mut spots)? {
+        Closing::Closed => Ok(Level::Nothing),
+        Closing::Full => Ok(Level::Cut),
+        Closing::Ends(at) => {
+            let steps = path_to(ground.alloc, &spots.spots, at)?;
+            Ok(Level::Steps(steps))
+        }
+    }
+}
+
+/// Looks for a schedule with at most so many changes of thread.
+pub(crate) fn within<'a>(
+    ground: &Ground<'_>,
+    file: &File,
+    program: &Program,
+    numbered: &mut Numbered<'a>,
+) -> Result<Level, AllocError>
+    requires there { AreThere (table_of numbered.old.transitions) numbered.old.store numbered.old.works.items }
+    requires width { length numbered.old.works.items ≡ ground.now.threads }
+    requires file { (table_of numbered.old.transitions).file ≡ plain_file file.now }
+    requires start { configuration_at (table_of numbered.old.transitions) numbered.old.store
+        numbered.old.works.items ≡
+        configuration_of (plain_file file.now) (plain_program program.now) (start (plain_program program.now)) }
+    ensures grows { Grows (table_of numbered.old.transitions) (table_of numbered.new.transitions) }
+    ensures store { numbered.new.store ≡ numbered.old.store }
+    ensures works { numbered.new.works.items ≡ numbered.old.works.items }
+    ensures level { IfOk result (IsLevel ground.now.stuck (plain_file file.now) (plain_program program.now)
+        ground.now.history.now ground.now.most) }
+{
+    match reached_by(ground, numbered)? {
+        Level::Nothing => Ok(Level::Nothing),
+        Level::Cut => Ok(Level::Cut),
+        Level::Steps(steps) => {
+            if steps.len() > MOST_STEPS || changes(&steps) > ground.most {
+                return Ok(Level::Cut);
+            }
+            if !is_alike(
+                ground.alloc,
+                file,
+                program,
+                &steps,
+                ground.history,
+                ground.stuck,
+            )? {
+                return Ok(Level::Cut);
+            }
+            Ok(Level::Steps(steps))
+        }
+    }
+}

@@ -1,0 +1,12 @@
+//! A schedule with the fewest context switches of all that have the same history.
+#![tactic(auto)]
+
+mod changing;
+mod checking;
+mod closing;
+mod fewest;
+mod following;
+mod levels;
+mod spots;
+
+pub use fewest::{SimpleRun, simplest, switches};
