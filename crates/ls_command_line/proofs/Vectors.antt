@@ -145,9 +145,16 @@ unfolding clap_on_literals
 an_aim p = refl
 
 a_page : (p : ValueParser) →
-    request_of p (codes "listset" ∷ codes "page" ∷ codes "--to=9" ∷ []) ≡ Some (plainly (request.Page 1 9))
+    request_of p (codes "listset" ∷ codes "page" ∷ codes "--to=9" ∷ []) ≡
+    Some (plainly (request.Page (record { from = None; to = Some 9; choose = false; states = None })))
 unfolding clap_on_literals
 a_page p = refl
+
+choices : (p : ValueParser) →
+    request_of p (codes "listset" ∷ codes "page" ∷ codes "--choose" ∷ codes "--states" ∷ codes "7" ∷ []) ≡
+    Some (plainly (request.Page (record { from = None; to = None; choose = true; states = Some 7 })))
+unfolding clap_on_literals
+choices p = refl
 
 a_fold : (p : ValueParser) →
     request_of p (codes "listset" ∷ codes "trace" ∷ codes "--fold" ∷ codes "--to=9" ∷ []) ≡

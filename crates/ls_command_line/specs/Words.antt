@@ -11,6 +11,7 @@ use Rattle.clap.specs.declared.builder.action.ArgAction.TheVariants.{SetTrue}
 use Rattle.clap.specs.declared.builder.value_parser.ValueParser.{ValueParser}
 use Rattle.clap.specs.declared.builder.value_parser.ValueParser.TheVariants.{Names, Unsigned}
 use Rattle.ls_command_line.specs.declared.words.CommandLine.{CommandLine}
+use Rattle.ls_command_line.specs.declared.words.Paging.{Paging}
 use Rattle.ls_command_line.specs.declared.words.Request.{Request}
 use Rattle.ls_command_line.specs.declared.words.Request.TheVariants as requests
 use Rattle.ls_command_line.specs.declared.words.Seeking.{Seeking}
@@ -69,8 +70,14 @@ trace_line =
     (flag_rule (codes "fold"))
 
 abbrev pub page_line : App
-page_line = with_rule (with_rule (with_explain (codes "page")) (number_rule false (codes "from")))
-    (number_rule false (codes "to"))
+page_line =
+    with_rule
+    (with_rule
+    (with_rule
+    (with_rule (with_explain (codes "page")) (number_rule false (codes "from")))
+    (number_rule false (codes "to")))
+    (flag_rule (codes "choose")))
+    (number_rule false (codes "states"))
 
 abbrev pub state_line : App
 state_line =
@@ -156,7 +163,9 @@ abbrev pub find_line : App
 find_line =
     with_rule
     (with_rule
+    (with_rule
     (with_rule numbers_line (flag_rule (codes "no-waiting")))
+    (flag_rule (codes "set")))
     (flag_rule (codes "check")))
     (flag_rule (codes "progress"))
 
@@ -274,8 +283,18 @@ asked_find rows = record {
   to = number_of (codes "to") 1000000 rows;
   print = number_asked (codes "print") rows;
   waiting = not (flag_of (codes "no-waiting") rows);
+  set = flag_of (codes "set") rows;
   check = flag_of (codes "check") rows;
   progress = flag_of (codes "progress") rows;
+}
+
+-- which page is asked for
+abbrev pub asked_page : List Row → Paging
+asked_page rows = record {
+  from = number_asked (codes "from") rows;
+  to = number_asked (codes "to") rows;
+  choose = flag_of (codes "choose") rows;
+  states = number_asked (codes "states") rows;
 }
 
 -- what a command of this name with these options asks for
@@ -288,8 +307,8 @@ asked name rows =
     else (if bytes_eq name (codes "trace")
     then requests.Trace (number_of (codes "from") 1 rows) (number_of (codes "to") 1000000 rows)
     (flag_of (codes "fold") rows)
-    else (if bytes_eq name (codes "page") then requests.Page (number_of (codes "from") 1 rows)
-    (number_of (codes "to") 1000000 rows)
+    else (if bytes_eq name (codes "page")
+    then requests.Page (asked_page rows)
     else (if bytes_eq name (codes "state") then asked_state rows
     else (if bytes_eq name (codes "aim") then requests.Aim
     else (if bytes_eq name (codes "translate") then requests.Translate (side_of rows) (cells_of rows)

@@ -5,4 +5,4 @@ mod line;
 mod searches;
 mod words;
 
-pub use words::{CommandLine, Request, Seeking, Side, WordsFault, read_words};
+pub use words::{CommandLine, Paging, Request, Seeking, Side, WordsFault, read_words};

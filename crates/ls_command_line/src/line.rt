@@ -292,8 +292,8 @@ fn order_command<'a>(alloc: Global) -> Result<Command<'a>, AllocError>
     plain_command(
         alloc,
         "order",
-        "Finds a legal order of a history's set calls, or the event with which there is none",
-        "Standard input is a history:\n  \
+        "Finds an order of calls that explains a history, or the event from which on there is none",
+        "Standard input has a history, or class text, thread program and history, with a line %% between them:\n  \
          printf 'A.1 call s.add(1)\\nA.1 return true\\n' | listset order",
     )
 }
@@ -364,8 +364,8 @@ fn page_command<'a>(alloc: Global) -> Result<Command<'a>, AllocError>
     let command = plain_command(
         alloc,
         "page",
-        "Prints what a page shows of a run from the Java text",
-        "Standard input has three or four parts, class text, thread program, schedule and an order, with a line %% between them:\n  \
+        "Prints what a page shows of a run from the Java text, or of all runs of a program",
+        "Standard input has two, three or four parts, class text, thread program, schedule and an order, with a line %% between them:\n  \
          listset page < examples/lost_update.txt",
     );
     let from = number_option(
@@ -381,7 +381,20 @@ fn page_command<'a>(alloc: Global) -> Result<Command<'a>, AllocError>
         false,
         "the last step that is shown [default: 1000000]",
     );
-    with_option(command, to)
+    let command = with_option(command, to);
+    let choose = flag_option(
+        alloc,
+        "choose",
+        "begins with the run of the schedule, which one may leave at each step",
+    );
+    let command = with_option(command, choose);
+    let states = number_option(
+        alloc,
+        "states",
+        false,
+        "how many states are kept at the most where one chooses, 1 to 200000 [default: 20000]",
+    );
+    with_option(command, states)
 }
 
 fn state_command<'a>(alloc: Global) -> Result<Command<'a>, AllocError>

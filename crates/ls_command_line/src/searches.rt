@@ -145,6 +145,12 @@ pub(crate) fn find_command<'a>(alloc: Global) -> Result<Command<'a>, AllocError>
         "looks for no threads that wait for ever",
     );
     let command = with_option(command, waiting);
+    let set = flag_option(
+        alloc,
+        "set",
+        "looks for histories of a set too that have no legal order",
+    );
+    let command = with_option(command, set);
     let check = flag_option(
         alloc,
         "check",

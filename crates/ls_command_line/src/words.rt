@@ -2,8 +2,9 @@
 
 ghost use Rattle.std.specs.Prelude.{◌≡◌, ◌||◌, codes, map, string_bytes};
 ghost use Rattle.clap.specs.Words.{found_of, rows_of, subcommand_rows_of};
-ghost use Rattle.ls_command_line.specs.Words.{IsWordsAnswer, asked, asked_by, asked_explore, asked_find, asked_state};
-ghost use Rattle.ls_command_line.specs.Words.{flag_of, is_given, is_mixed, named_side, number_asked, number_of, side_of};
+ghost use Rattle.ls_command_line.specs.Words.{IsWordsAnswer, asked, asked_by, asked_explore, asked_find, asked_page};
+ghost use Rattle.ls_command_line.specs.Words.{asked_state, flag_of, is_given, is_mixed, named_side, number_asked};
+ghost use Rattle.ls_command_line.specs.Words.{number_of, side_of};
 
 use crate::line::program;
 use clap::error::ErrorKind;
@@ -43,6 +44,8 @@ pub struct Seeking {
     pub print: Option<u64>,
     /// Whether threads that wait for ever are looked for.
     pub waiting: bool,
+    /// Whether histories are looked for that are illegal as those of a set.
+    pub set: bool,
     /// Whether the exit status says what is found.
     pub check: bool,
     /// Whether it tells on standard error how many programs are done.
@@ -51,6 +54,24 @@ pub struct Seeking {
 
 impl Clone for Seeking {
     fn clone(&self) -> Result<Seeking, AllocError> {
+        Ok(*self)
+    }
+}
+
+/// Which page is made.
+#[derive(Copy)]
+pub struct Paging {
+    /// The steps that are shown, from and to a number, if these are asked for; they are numbered from 1.
+    pub from: Option<u64>,
+    pub to: Option<u64>,
+    /// Whether one chooses who steps next, where a schedule is given.
+    pub choose: bool,
+    /// The most states that are kept where one chooses, if a number is asked for.
+    pub states: Option<u64>,
+}
+
+impl Clone for Paging {
+    fn clone(&self) -> Result<Paging, AllocError> {
         Ok(*self)
     }
 }
@@ -73,11 +94,8 @@ pub enum Request {
         /// Whether neighbouring steps that change nothing are one line.
         fold: bool,
     },
-    /// The steps that the page shows, from and to a number; they are numbered from 1.
-    Page {
-        from: u64,
-        to: u64,
-    },
+    /// A page on a run, or on which one chooses who steps next.
+    Page(Paging),
     /// As a graph, or as text; after so many steps.
     State {
         dot: bool,
@@ -132,7 +150,7 @@ pub enum Request {
         /// Whether an option is given that goes with the histories alone.
         mixed: bool,
     },
-    /// The first program of a class whose histories aren't all linearizable.
+    /// The first program of a class that isn't good for what is looked for.
     Find(Seeking),
     /// The number that the counts are to come to, if one is wanted.
     Merge {
@@ -293,6 +311,17 @@ fn asked_state(options: &ArgMatches<'_>) -> Request
     Request::State { dot, to }
 }
 
+fn asked_page(options: &ArgMatches<'_>) -> Paging
+    ensures { result ≡ asked_page (rows_of (found_of options.now)) }
+{
+    Paging {
+        from: number_asked(options, "from"),
+        to: number_asked(options, "to"),
+        choose: flag(options, "choose"),
+        states: number_asked(options, "states"),
+    }
+}
+
 fn asked_find(options: &ArgMatches<'_>) -> Seeking
     ensures { result ≡ asked_find (rows_of (found_of options.now)) }
 {
@@ -307,6 +336,7 @@ fn asked_find(options: &ArgMatches<'_>) -> Seeking
         to: number(options, "to", LAST_PROGRAM),
         print: number_asked(options, "print"),
         waiting: !flag(options, "no-waiting"),
+        set: flag(options, "set"),
         check: flag(options, "check"),
         progress: flag(options, "progress"),
     }
@@ -363,10 +393,7 @@ fn asked(name: &str, options: &ArgMatches<'_>) -> Request
             to: number(options, "to", LAST_STEP),
             fold: flag(options, "fold"),
         },
-        "page" => Request::Page {
-            from: number(options, "from", 1),
-            to: number(options, "to", LAST_STEP),
-        },
+        "page" => Request::Page(asked_page(options)),
         "state" => asked_state(options),
         "aim" => Request::Aim,
         "translate" => Request::Translate {

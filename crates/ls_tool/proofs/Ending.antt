@@ -1,5 +1,5 @@
 -- From what a layer answers to what a run does.
-use Rattle.std.specs.Prelude.{IfSome, String, string_bytes}
+use Rattle.std.specs.Prelude.{IfSome, String, string_bytes, if◌then◌else◌}
 use Rattle.std.proofs.Common.{ℕ, ◌≡◌, ◌∙◌, ◌⊎◌, inl, inr, ap, sym, List, [], Bool, true, false, refl, subst, Option, Some, None}
 use Rattle.std.proofs.Common.{Result, Ok, Err}
 use Rattle.std.specs.Global.{Global}
@@ -7,7 +7,8 @@ use Rattle.std.specs.Io.KnownBytes.{Appends, Keeps}
 use Rattle.clap.specs.declared.error.Error.{Error}
 use Rattle.ls_outlets.specs.Written.{Begins, IsWritten}
 use Rattle.ls_report.specs.Events.{Text}
-use Rattle.ls_command_line.specs.Words.{AsksFor, IsWordsAnswer}
+use Rattle.ls_command_line.specs.Words.{IsWordsAnswer}
+use Rattle.ls_files.specs.Names.{asking, names_in}
 use Rattle.ls_command_line.specs.declared.words.CommandLine.{CommandLine}
 use Rattle.ls_command_line.specs.declared.words.Request.{Request}
 use Rattle.ls_command_line.specs.declared.words.WordsFault.{WordsFault}
@@ -19,14 +20,14 @@ use Rattle.ls_faults.specs.declared.fault.ToolFault.TheVariants as fault
 use Rattle.ls_tool.specs.declared.refusal.Refusal.{Refusal}
 use Rattle.ls_tool.specs.declared.refusal.Refusal.TheVariants as refusal
 use Rattle.ls_faults.specs.Given.{GivesText}
-use Rattle.ls_tool.specs.Output.{Answered, AnswersText, AsAsked, BadLine, Closes, Decided, Decides, Ends, HasToldAs}
+use Rattle.ls_tool.specs.Output.{Answered, AnswersText, AsAsked, Asks, BadLine, Closes, Decided, Decides, Ends, HasToldAs}
 use Rattle.ls_tool.specs.Output.{programs_text, progress_of, status_for}
 use Rattle.ls_tool.specs.declared.said.Said.{Said}
 use Rattle.ls_tool.specs.declared.said.Telling.{Telling}
 use Rattle.ls_tool.specs.declared.said.Telling.TheVariants as tellings
 use Rattle.ls_tool.specs.Output.{IsEnding, IsTaken, Left, OfInput, OutOfMemory, Prints, Progressed, Progresses}
 use Rattle.ls_tool.specs.Output.{ReaderFailed, ReadsAfterWords, RefusesAs, Responds, Silent, Tells, TellsFirst}
-use Rattle.ls_tool.specs.Output.{Unreadable, Usage, WriterFailed, left, progress_text, refused_words, told}
+use Rattle.ls_tool.specs.Output.{Unreadable, Usage, WriterFailed, is_bare, left, noted, progress_text, refused_words, told}
 
 -- what follows of an input's answer
 pub if_known : (o : Option Text) (P Q : Text → Type 0) → ((x : Text) → P x → Q x) → OfInput o P → OfInput o Q
@@ -47,8 +48,8 @@ of_bytes None bytes Q e h = (bytes, h)
 of_bytes (Some x) bytes Q e h = subst Q e h
 
 pub decide_ok : (words : List Text) (input : Text) (l : CommandLine) (text : String Global) (status : ℕ) →
-    AsksFor words (Some l) → status ≡ status_for l.request (string_bytes text)
-    → GivesText (AnswersText l.request input) (Ok text) →
+    Asks words (Some l) → status ≡ status_for l.request (string_bytes text)
+    → GivesText (AnswersText (names_in words) l.request input) (Ok text) →
     Decides words input (Ok (record { text = text; status = status }))
 decide_ok words input l text status e is h = subst (λ n. IsEnding words input (Prints n (string_bytes text))) (sym is)
     (Answered l (Ok (string_bytes text)) e h)
@@ -84,77 +85,81 @@ given May fault.NotText other h = h
 given May fault.WriteFailed other h = h
 
 asked : (words : List Text) (input : Text) (l : CommandLine) (f : ToolFault) →
-    AsksFor words (Some l) →
-    AnswersText l.request input (Err f)
-    → IsEnding words input (Tells (told l.explain f input))
+    Asks words (Some l) →
+    AnswersText (names_in words) l.request input (Err f)
+    → IsEnding words input (Tells (told (names_in words) l f input))
 asked words input l f e h = Answered l (Err f) e h
 
 -- where nothing is said of it, its line is told
-plain : (words : List Text) (input : Text) (l : CommandLine) (f g : ToolFault) → AsksFor words (Some l)
-    → ((g ≡ f) × (l.explain ≡ false)) → AnswersText l.request input (Err g) →
+plain : (words : List Text) (input : Text) (l : CommandLine) (f g : ToolFault) → Asks words (Some l)
+    → ((g ≡ f) × (is_bare (names_in words) l ≡ true)) → AnswersText (names_in words) l.request input (Err g) →
     IsEnding words input (Tells (fault_line g))
-plain words input l f g e r h = subst (λ x. IsEnding words input (Tells (told x g input))) r.1
+plain words input l f g e r h =
+    subst (λ b. IsEnding words input (Tells (if b then fault_line g else noted (names_in words) l g input))) r.1
     (asked words input l g e h)
 
 -- the fault of an answer is that of the words and the input
 pub decide_err : (words : List Text) (input : Text) (l : CommandLine) (f : ToolFault) (r : Refusal) →
-    AsksFor words (Some l)
-    → GivesText (AnswersText l.request input) (Err f) → RefusesAs l.explain f input r → Decides words input (Err r)
+    Asks words (Some l)
+    → GivesText (AnswersText (names_in words) l.request input) (Err f)
+    → RefusesAs (names_in words) l f input r → Decides words input (Err r)
 decide_err words input l f (refusal.BadLine x) e h r = absurd r
 decide_err words input l f (refusal.Fault fault.Memory) e h r = tt
 decide_err words input l f (refusal.Fault fault.ReadFailed) e h r = plain words input l f fault.ReadFailed e r
-    (subst (λ x. GivesText (AnswersText l.request input) (Err x)) (sym r.0) h)
+    (subst (λ x. GivesText (AnswersText (names_in words) l.request input) (Err x)) (sym r.0) h)
 decide_err words input l f (refusal.Fault (fault.Text g)) e h r = plain words input l f (fault.Text g) e r
-    (subst (λ x. GivesText (AnswersText l.request input) (Err x)) (sym r.0) h)
+    (subst (λ x. GivesText (AnswersText (names_in words) l.request input) (Err x)) (sym r.0) h)
 decide_err words input l f (refusal.Fault (fault.Check g)) e h r = plain words input l f (fault.Check g) e r
-    (subst (λ x. GivesText (AnswersText l.request input) (Err x)) (sym r.0) h)
+    (subst (λ x. GivesText (AnswersText (names_in words) l.request input) (Err x)) (sym r.0) h)
 decide_err words input l f (refusal.Fault (fault.Program g)) e h r = plain words input l f (fault.Program g) e r
-    (subst (λ x. GivesText (AnswersText l.request input) (Err x)) (sym r.0) h)
+    (subst (λ x. GivesText (AnswersText (names_in words) l.request input) (Err x)) (sym r.0) h)
 decide_err words input l f (refusal.Fault (fault.Build g)) e h r = plain words input l f (fault.Build g) e r
-    (subst (λ x. GivesText (AnswersText l.request input) (Err x)) (sym r.0) h)
+    (subst (λ x. GivesText (AnswersText (names_in words) l.request input) (Err x)) (sym r.0) h)
 decide_err words input l f (refusal.Fault fault.BadCells) e h r = plain words input l f fault.BadCells e r
-    (subst (λ x. GivesText (AnswersText l.request input) (Err x)) (sym r.0) h)
+    (subst (λ x. GivesText (AnswersText (names_in words) l.request input) (Err x)) (sym r.0) h)
 decide_err words input l f (refusal.Fault (fault.Schedule g)) e h r = plain words input l f (fault.Schedule g) e r
-    (subst (λ x. GivesText (AnswersText l.request input) (Err x)) (sym r.0) h)
+    (subst (λ x. GivesText (AnswersText (names_in words) l.request input) (Err x)) (sym r.0) h)
 decide_err words input l f (refusal.Fault (fault.Translation g)) e h r = plain words input l f (fault.Translation g) e r
-    (subst (λ x. GivesText (AnswersText l.request input) (Err x)) (sym r.0) h)
+    (subst (λ x. GivesText (AnswersText (names_in words) l.request input) (Err x)) (sym r.0) h)
 decide_err words input l f (refusal.Fault (fault.Live g)) e h r = plain words input l f (fault.Live g) e r
-    (subst (λ x. GivesText (AnswersText l.request input) (Err x)) (sym r.0) h)
+    (subst (λ x. GivesText (AnswersText (names_in words) l.request input) (Err x)) (sym r.0) h)
 decide_err words input l f (refusal.Fault (fault.Turns g)) e h r = plain words input l f (fault.Turns g) e r
-    (subst (λ x. GivesText (AnswersText l.request input) (Err x)) (sym r.0) h)
+    (subst (λ x. GivesText (AnswersText (names_in words) l.request input) (Err x)) (sym r.0) h)
 decide_err words input l f (refusal.Fault (fault.Batch g)) e h r = plain words input l f (fault.Batch g) e r
-    (subst (λ x. GivesText (AnswersText l.request input) (Err x)) (sym r.0) h)
+    (subst (λ x. GivesText (AnswersText (names_in words) l.request input) (Err x)) (sym r.0) h)
 decide_err words input l f (refusal.Fault (fault.Explore g)) e h r = plain words input l f (fault.Explore g) e r
-    (subst (λ x. GivesText (AnswersText l.request input) (Err x)) (sym r.0) h)
+    (subst (λ x. GivesText (AnswersText (names_in words) l.request input) (Err x)) (sym r.0) h)
 decide_err words input l f (refusal.Fault (fault.Class g)) e h r = plain words input l f (fault.Class g) e r
-    (subst (λ x. GivesText (AnswersText l.request input) (Err x)) (sym r.0) h)
+    (subst (λ x. GivesText (AnswersText (names_in words) l.request input) (Err x)) (sym r.0) h)
 decide_err words input l f (refusal.Fault fault.BadNumbers) e h r = plain words input l f fault.BadNumbers e r
+    (subst (λ x. GivesText (AnswersText (names_in words) l.request input) (Err x)) (sym r.0) h)
 decide_err words input l f (refusal.Fault fault.BadOptions) e h r = plain words input l f fault.BadOptions e r
-    (subst (λ x. GivesText (AnswersText l.request input) (Err x)) (sym r.0) h)
+    (subst (λ x. GivesText (AnswersText (names_in words) l.request input) (Err x)) (sym r.0) h)
 decide_err words input l f (refusal.Fault (fault.Aim g)) e h r = plain words input l f (fault.Aim g) e r
-    (subst (λ x. GivesText (AnswersText l.request input) (Err x)) (sym r.0) h)
+    (subst (λ x. GivesText (AnswersText (names_in words) l.request input) (Err x)) (sym r.0) h)
 decide_err words input l f (refusal.Fault (fault.History g)) e h r = plain words input l f (fault.History g) e r
-    (subst (λ x. GivesText (AnswersText l.request input) (Err x)) (sym r.0) h)
+    (subst (λ x. GivesText (AnswersText (names_in words) l.request input) (Err x)) (sym r.0) h)
 decide_err words input l f (refusal.Fault (fault.Order g)) e h r = plain words input l f (fault.Order g) e r
-    (subst (λ x. GivesText (AnswersText l.request input) (Err x)) (sym r.0) h)
+    (subst (λ x. GivesText (AnswersText (names_in words) l.request input) (Err x)) (sym r.0) h)
 decide_err words input l f (refusal.Fault (fault.Tally g)) e h r = plain words input l f (fault.Tally g) e r
-    (subst (λ x. GivesText (AnswersText l.request input) (Err x)) (sym r.0) h)
+    (subst (λ x. GivesText (AnswersText (names_in words) l.request input) (Err x)) (sym r.0) h)
 decide_err words input l f (refusal.Fault fault.WrongParts) e h r = plain words input l f fault.WrongParts e r
-    (subst (λ x. GivesText (AnswersText l.request input) (Err x)) (sym r.0) h)
+    (subst (λ x. GivesText (AnswersText (names_in words) l.request input) (Err x)) (sym r.0) h)
 decide_err words input l f (refusal.Fault fault.TooManyTrapped) e h r = plain words input l f fault.TooManyTrapped e r
-    (subst (λ x. GivesText (AnswersText l.request input) (Err x)) (sym r.0) h)
+    (subst (λ x. GivesText (AnswersText (names_in words) l.request input) (Err x)) (sym r.0) h)
 decide_err words input l f (refusal.Fault fault.NotText) e h r = plain words input l f fault.NotText e r
-    (subst (λ x. GivesText (AnswersText l.request input) (Err x)) (sym r.0) h)
+    (subst (λ x. GivesText (AnswersText (names_in words) l.request input) (Err x)) (sym r.0) h)
 decide_err words input l f (refusal.Fault fault.WriteFailed) e h r = plain words input l f fault.WriteFailed e r
-    (subst (λ x. GivesText (AnswersText l.request input) (Err x)) (sym r.0) h)
+    (subst (λ x. GivesText (AnswersText (names_in words) l.request input) (Err x)) (sym r.0) h)
 decide_err words input l f (refusal.Explained x) e h r =
-    let same : x.items ≡ told l.explain f input = r.0 ∙ ap (λ t. told t f input) (sym r.1) in
+    let same : x.items ≡ told (names_in words) l f input =
+    r.0 ∙ ap (λ b. if b then fault_line f else noted (names_in words) l f input) (sym r.1) in
     subst (λ t. IsEnding words input (Tells t)) (sym same) (asked words input l f e
-    (given (AnswersText l.request input) f r.2 h))
+    (given (AnswersText (names_in words) l.request input) f r.2 h))
 
 -- a fault of the words, for each input
 pub refused : (words : List Text) (input : Text) (f : WordsFault) →
-    IsWordsAnswer words (Err f) →
+    IsWordsAnswer (asking words) (Err f) →
     Decides words input (Err (refused_words f))
 refused words input word_fault.Memory h = tt
 refused words input (word_fault.BadLine e) h = BadLine h
@@ -171,16 +176,16 @@ is_read old new (Err (refusal.Fault f)) h = tt
 is_read old new (Err (refusal.Explained x)) h = tt
 
 -- a refusal of a fault says that the words were taken
-pub takes : (explain : Bool) (f : ToolFault) (input : Text) (r : Refusal) →
-    RefusesAs explain f input r →
+pub takes : (names : Option (List Text)) (l : CommandLine) (f : ToolFault) (input : Text) (r : Refusal) →
+    RefusesAs names l f input r →
     IsTaken (Err r)
-takes explain f input (refusal.BadLine e) h = absurd h
-takes explain f input (refusal.Fault g) h = tt
-takes explain f input (refusal.Explained x) h = tt
+takes names l f input (refusal.BadLine e) h = absurd h
+takes names l f input (refusal.Fault g) h = tt
+takes names l f input (refusal.Explained x) h = tt
 
 -- the reader failed
 pub unreadable : (words : List Text) (input : Text) (l : CommandLine) (f : ToolFault) →
-    AsksFor words (Some l) →
+    Asks words (Some l) →
     (f ≡ fault.Memory) ⊎ (f ≡ fault.ReadFailed)
     → Responds words input (Err (refusal.Fault f))
 unreadable words input l f e (inl h) = subst (λ g. Responds words input (Err (refusal.Fault g))) (sym h)

@@ -13,4 +13,4 @@ three false true e = omega (arith, e)
 three false false e = omega (arith, e)
 
 pub not_two : (text : Text) → status_of text ≡ 2 → ⊥
-not_two text = three (begins text (codes "// number ")) (begins text (codes "// none in what was explored "))
+not_two text = three (begins text (codes "// number ")) (begins text (codes "// none in what was explored"))

@@ -17,7 +17,7 @@ choosing_of s = record {
 
 -- the numbers of the programs that are looked through
 abbrev pub range_of : Seeking → Range
-range_of s = record { states = s.states; waiting = s.waiting; from = s.from; to = s.to }
+range_of s = record { states = s.states; sought = record { waiting = s.waiting; set = s.set }; from = s.from; to = s.to }
 
 -- one program is printed, or the first is found that is bad
 abbrev pub asked_for : Seeking → Option ℕ → Text → Result Text ToolFault → Type 0

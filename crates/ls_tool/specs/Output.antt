@@ -1,14 +1,18 @@
 -- What the program writes, for its words and its input.
 use Rattle.std.specs.Prelude.{◌≡◌, ◌≢◌, ◌+◌, ◌*◌, ℕ, List, [], ◌∷◌, ◌++◌, length, codes, Bool, MatchBool}
-use Rattle.std.specs.Prelude.{true, false, Option, Some, None, Result, Ok, Err, String, string_bytes, if◌then◌else◌}
+use Rattle.std.specs.Prelude.{true, false, not, Option, Some, None, Result, Ok, Err, String, string_bytes}
+use Rattle.std.specs.Prelude.{map, if◌then◌else◌}
 use Rattle.std.specs.Global.{Global}
 use Rattle.std.specs.Fmt.{decimal}
 use Rattle.std.specs.List.{flat_map}
+use Rattle.std.specs.Option.{option_map}
+use denote.Ref.{Bor}
 use Rattle.std.specs.Io.KnownBytes.{Appends, Keeps}
 use Rattle.ls_report.specs.Events.{Text}
 use Rattle.ls_views.specs.Aimed.{AimsTo}
 use Rattle.ls_views.specs.Check.{ChecksTo}
 use Rattle.ls_views.specs.Ordered.{OrdersTo}
+use Rattle.ls_views.specs.SerialOrdered.{OrdersSerially}
 use Rattle.ls_commands.specs.Compiled.{CountsTo, ReplaysTo}
 use Rattle.ls_commands.specs.Judged.{JudgesTo}
 use Rattle.ls_commands.specs.Lived.{LivesTo, ReplaysLiveTo}
@@ -19,12 +23,14 @@ use Rattle.ls_merging.specs.Merging.{MergesTo}
 use Rattle.ls_explore_commands.specs.Explored.{ExploresTo}
 use Rattle.ls_explore_reports.specs.declared.printing.Exploring.{Exploring}
 use Rattle.ls_explore_commands.specs.Verdicts.{VerdictsTo}
-use Rattle.ls_paging.specs.Paged.{PagesTo, PagesWithOrderTo}
 use Rattle.ls_views.specs.Viewed.{ViewsTo}
 use Rattle.ls_views.specs.declared.view.View.{View}
 use Rattle.ls_views.specs.declared.view.View.TheVariants as views
 use Rattle.ls_explanations.specs.Explanations.{note}
+use Rattle.ls_explanations.specs.Named.{named_note}
 use Rattle.ls_faults.specs.Faults.{fault_line}
+use Rattle.ls_files.specs.Files.{unmarked}
+use Rattle.ls_files.specs.Names.{asking, names_in}
 use Rattle.ls_outlets.specs.Written.{Begins, IsWritten}
 use Rattle.ls_parts.specs.Parts.{is_text, parts_of}
 use Rattle.ls_command_line.specs.Words.{AsksFor}
@@ -36,6 +42,8 @@ use Rattle.ls_command_line.specs.declared.words.WordsFault.TheVariants as word_f
 use Rattle.ls_faults.specs.declared.fault.ToolFault.{ToolFault}
 use Rattle.ls_faults.specs.declared.fault.ToolFault.TheVariants as faults
 use Rattle.ls_tool.specs.Asked.{OnClass}
+use Rattle.ls_tool.specs.Pages.{PagesOnFour, PagesOnThree, PagesOnTwo}
+use Rattle.ls_tool.specs.Wanted.{wanted_parts}
 use Rattle.ls_find_reports.specs.Statuses.{status_of}
 use Rattle.ls_tool.specs.declared.running.Exit.{Exit}
 use Rattle.ls_tool.specs.declared.said.Said.{Said}
@@ -76,6 +84,7 @@ OnTwo (requests.Explore cells states illegal first progress) classes program ans
     (exploring cells states illegal first) classes program answer
 OnTwo (requests.Verdict states false) classes program answer = VerdictsTo states classes program answer
 OnTwo (requests.Verdict states true) classes program answer = answer ≡ Err faults.BadOptions
+OnTwo (requests.Page paging) classes program answer = PagesOnTwo paging classes program answer
 OnTwo other first second answer = answer ≡ Err faults.WrongParts
 
 -- what is shown of a run
@@ -96,20 +105,21 @@ OnThree (requests.Replay cells true) classes program schedule answer = ReplaysLi
 OnThree requests.Source classes program schedule answer = ViewsTo views.History classes program schedule answer
 OnThree (requests.Trace from to fold) classes program schedule answer = ViewsTo (trace_view fold from to) classes
     program schedule answer
-OnThree (requests.Page from to) classes program schedule answer = PagesTo from to classes program schedule answer
+OnThree (requests.Page paging) classes program schedule answer = PagesOnThree paging classes program schedule answer
 OnThree (requests.State dot to) classes program schedule answer = ViewsTo (state_view dot to) classes program schedule
     answer
 OnThree (requests.States dot from to) classes program schedule answer = ViewsTo (states_view dot from to) classes
     program schedule answer
 OnThree requests.Aim classes program targets answer = AimsTo classes program targets answer
+OnThree requests.Order classes program history answer = OrdersSerially classes program history answer
 OnThree (requests.Translate to cells) classes program schedule answer = TranslatesTo to cells classes program schedule
     answer
 OnThree other classes program schedule answer = answer ≡ Err faults.WrongParts
 
 -- and on four
 abbrev pub OnFour : Request → Text → Text → Text → Text → Result Text ToolFault → Type 0
-OnFour (requests.Page from to) classes program schedule order answer = PagesWithOrderTo from to classes program schedule
-    order answer
+OnFour (requests.Page paging) classes program schedule order answer = PagesOnFour paging classes program schedule order
+    answer
 OnFour other classes program schedule order answer = answer ≡ Err faults.WrongParts
 
 -- and on the parts of an input
@@ -125,21 +135,35 @@ abbrev pub AnswersInput : Request → Text → Result Text ToolFault → Type 0
 AnswersInput (requests.Merge count) input answer = MergesTo count input answer
 AnswersInput r input answer = Answers r (parts_of input) answer
 
-abbrev pub AnswersText : Request → Text → Result Text ToolFault → Type 0
-AnswersText r input answer = MatchBool (is_text input) (AnswersInput r input answer) (answer ≡ Err faults.NotText)
+-- the text that a command reads: the input, or where names are given, its files as one text
+abbrev pub read_as : Option (List Text) → Text → Text
+read_as None input = input
+read_as (Some names) input = unmarked input
+
+abbrev pub AnswersText : Option (List Text) → Request → Text → Result Text ToolFault → Type 0
+AnswersText names r input answer = MatchBool (is_text input) (AnswersInput r (read_as names input) answer)
+    (answer ≡ Err faults.NotText)
 
 -- the texts in which a fault can stand: the parts of an input, where it is text, or all of it if it is one of tallies
 abbrev pub cut_for : ToolFault → Text → List Text
 cut_for (faults.Tally f) input = input ∷ []
 cut_for other input = parts_of input
 
-abbrev pub texts_of : ToolFault → Text → List Text
-texts_of f input = if is_text input then cut_for f input else []
+abbrev pub texts_of : Option (List Text) → ToolFault → Text → List Text
+texts_of names f input = if is_text input then cut_for f (read_as names input) else []
 
--- what is told of a fault: its line, and with `--explain` the line in which it stands
-abbrev pub told : Bool → ToolFault → Text → Text
-told true f input = fault_line f ++ note f (texts_of f input)
-told false f input = fault_line f
+-- what is told of a fault: its line alone, or more with `--explain` or where files are named
+abbrev pub is_bare : Option (List Text) → CommandLine → Bool
+is_bare None l = not l.explain
+is_bare (Some names) l = false
+
+-- where files are named, the file with line and column in front; else its line, and the line in which it stands
+abbrev pub noted : Option (List Text) → CommandLine → ToolFault → Text → Text
+noted None l f input = fault_line f ++ note f (texts_of None f input)
+noted (Some names) l f input = named_note names input (wanted_parts l.request) (texts_of (Some names) f input) f
+
+abbrev pub told : Option (List Text) → CommandLine → ToolFault → Text → Text
+told names l f input = if is_bare names l then fault_line f else noted names l f input
 
 -- the status of a command that prints a text: what `find --check` found, and else 0
 abbrev pub status_for : Request → Text → ℕ
@@ -152,27 +176,35 @@ pub data Ending : Type 0 where
   Tells : (told : Text) → Ending
   Usage : Ending
 
-abbrev pub ending_of : CommandLine → Text → Result Text ToolFault → Ending
-ending_of l input (Ok text) = Prints (status_for l.request text) text
-ending_of l input (Err f) = Tells (told l.explain f input)
+abbrev pub ending_of : Option (List Text) → CommandLine → Text → Result Text ToolFault → Ending
+ending_of names l input (Ok text) = Prints (status_for l.request text) text
+ending_of names l input (Err f) = Tells (told names l f input)
+
+-- the words before the names of files ask for this, or for nothing
+abbrev pub Asks : List Text → Option CommandLine → Type 0
+Asks words line = AsksFor (asking words) line
 
 -- what the words and the input ask for
 pub data IsEnding (words : List Text) (input : Text) : Ending → Type 0 where
-  BadLine : AsksFor words None → IsEnding words input Usage
+  BadLine : Asks words None → IsEnding words input Usage
   Answered : (l : CommandLine) (answer : Result Text ToolFault) →
-      AsksFor words (Some l) →
-      AnswersText l.request input answer
-      → IsEnding words input (ending_of l input answer)
+      Asks words (Some l) →
+      AnswersText (names_in words) l.request input answer
+      → IsEnding words input (ending_of (names_in words) l input answer)
 
 -- ---- what the code answers
 
 -- a fault alone, or as it is told with what is said of it; or memory ran out for that
-abbrev pub RefusesAs : Bool → ToolFault → Text → Refusal → Type 0
-RefusesAs explain f input (refusals.BadLine e) = ⊥
-RefusesAs explain f input (refusals.Fault faults.Memory) = Unit {0}
-RefusesAs explain f input (refusals.Fault g) = (g ≡ f) × (explain ≡ false)
-RefusesAs explain f input (refusals.Explained bytes) = (bytes.items ≡ told true f input) × (explain ≡ true) ×
-    (f ≢ faults.Memory)
+abbrev pub RefusesAs : Option (List Text) → CommandLine → ToolFault → Text → Refusal → Type 0
+RefusesAs names l f input (refusals.BadLine e) = ⊥
+RefusesAs names l f input (refusals.Fault faults.Memory) = Unit {0}
+RefusesAs names l f input (refusals.Fault g) = (g ≡ f) × (is_bare names l ≡ true)
+RefusesAs names l f input (refusals.Explained bytes) = (bytes.items ≡ noted names l f input) ×
+    (is_bare names l ≡ false) × (f ≢ faults.Memory)
+
+-- the names that code has at hand
+abbrev pub names_of : Option (Bor (List (String Global))) → Option (List Text)
+names_of names = option_map (λ ns. map string_bytes ns.now) names
 
 -- the words ask for nothing, or memory ran out before they were read
 abbrev pub refused_words : WordsFault → Refusal
@@ -197,7 +229,7 @@ Decides words input (Err (refusals.Explained bytes)) = IsEnding words input (Tel
 pub data Responds (words : List Text) (input : Text) : Result Said Refusal → Type 0 where
   Decided : (answer : Result Said Refusal) → Decides words input answer → Responds words input answer
   Unreadable : (l : CommandLine) →
-      AsksFor words (Some l) →
+      Asks words (Some l) →
       Responds words input (Err (refusals.Fault faults.ReadFailed))
 
 -- it holds of what a reader has left, where that is known, and else of some input
@@ -272,7 +304,7 @@ Progresses r err err' has_failed = HasToldAs (progress_of r) err err' has_failed
 pub data TellsFirst (words : List Text) (err : Option Text) (has_failed : Bool) : Option Text → Type 0 where
   Silent : TellsFirst words err has_failed err
   Progressed : (l : CommandLine) (err' : Option Text) →
-      AsksFor words (Some l) →
+      Asks words (Some l) →
       Progresses l.request err err' has_failed →
       TellsFirst words err has_failed err'
 
@@ -306,7 +338,7 @@ pub data Closes (words : List Text) (input : Text) (exit : Exit) (out err : Left
   OutOfMemory : Shows (Tells (fault_line faults.Memory)) exit out err →
       Closes words input exit out err
   ReaderFailed : (l : CommandLine) →
-      AsksFor words (Some l) →
+      Asks words (Some l) →
       Shows (Tells (fault_line faults.ReadFailed)) exit out err →
       Closes words input exit out err
   WriterFailed : (status : ℕ) (text : Text) →

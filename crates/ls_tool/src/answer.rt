@@ -1,17 +1,18 @@
 // What the words and the input ask for.
 
 ghost use Rattle.std.specs.Prelude.{◌≡◌, List, Some, map, string_bytes};
-ghost use Rattle.ls_command_line.specs.Words.{AsksFor};
 ghost use Rattle.ls_commands.specs.Tallied.{drawing};
 ghost use Rattle.ls_explore.specs.Watching.{GoesOn};
 ghost use Rattle.ls_faults.specs.Given.{GivesText};
+ghost use Rattle.ls_files.specs.Names.{names_in};
 ghost use Rattle.ls_parts.specs.Cutting.{plain_text};
 ghost use Rattle.ls_report.specs.Events.{Text};
 ghost use Rattle.ls_tool.specs.Asked.{OnClass, choosing_of, range_of};
-ghost use Rattle.ls_tool.specs.Output.{Answers, AnswersInput, AnswersText, Decides, IsTaken, OnFour, OnOne};
-ghost use Rattle.ls_tool.specs.Output.{OnSamples, OnThree, OnTwo};
+ghost use Rattle.ls_tool.specs.Output.{Answers, AnswersInput, AnswersText, Asks, Decides, IsTaken, OnFour, OnOne};
+ghost use Rattle.ls_tool.specs.Output.{OnSamples, OnThree, OnTwo, names_of, read_as};
 
 use crate::explained::refusal_of;
+use crate::pages::{page_on_four, page_on_three, page_on_two};
 use crate::refusal::Refusal;
 use crate::said::{Said, status_for};
 use crate::views::{state_view, states_view, trace_view};
@@ -25,14 +26,14 @@ use ls_commands::translate::translate;
 use ls_explore::{Nobody, Watch};
 use ls_explore_commands::{Exploring, explore, verdict};
 use ls_faults::fault::ToolFault;
-use ls_find_commands::{Bounds, Choosing, Range, find, print_program};
+use ls_files::{asking, names_in, unmarked};
+use ls_find_commands::{Bounds, Choosing, Range, Sought, find, print_program};
 use ls_merging::merge;
-use ls_page::Window;
-use ls_paging::page::{page, page_with_order};
 use ls_parts::{parts_of, text_of};
 use ls_views::aim::aim;
 use ls_views::check::check;
 use ls_views::order::order;
+use ls_views::serial_order::serial_order;
 use ls_views::view::{View, show};
 use std::alloc::Global;
 use std::sync::Wait;
@@ -77,7 +78,10 @@ fn range_of(seeking: Seeking) -> Range
 {
     Range {
         states: seeking.states as usize,
-        waiting: seeking.waiting,
+        sought: Sought {
+            waiting: seeking.waiting,
+            set: seeking.set,
+        },
         from: seeking.from,
         to: seeking.to,
     }
@@ -102,7 +106,7 @@ fn on_one<R: Threads + Sync, W: Watch>(
         | Request::Replay { .. }
         | Request::Source
         | Request::Trace { .. }
-        | Request::Page { .. }
+        | Request::Page(_)
         | Request::State { .. }
         | Request::States { .. }
         | Request::Aim
@@ -210,11 +214,11 @@ fn on_two<R: Threads + Wait + Sync, W: Watch>(
             }
             verdict(alloc, states as usize, first, second)
         }
+        Request::Page(paging) => page_on_two(alloc, paging, first, second),
         Request::Order
         | Request::Replay { .. }
         | Request::Source
         | Request::Trace { .. }
-        | Request::Page { .. }
         | Request::State { .. }
         | Request::States { .. }
         | Request::Aim
@@ -252,16 +256,7 @@ fn on_three<R: Threads + Wait + Sync>(
                 schedule,
             )
         }
-        Request::Page { from, to } => {
-            page(
-                alloc,
-                from as usize,
-                to as usize,
-                classes,
-                program,
-                schedule,
-            )
-        }
+        Request::Page(paging) => page_on_three(alloc, paging, classes, program, schedule),
         Request::State { dot, to } => {
             show(alloc, state_view(dot, to), classes, program, schedule)
         }
@@ -275,11 +270,11 @@ fn on_three<R: Threads + Wait + Sync>(
             )
         }
         Request::Aim => aim(alloc, classes, program, schedule),
+        Request::Order => serial_order(alloc, classes, program, schedule),
         Request::Translate { to, cells } => {
             translate(alloc, to, cells as usize, classes, program, schedule)
         }
         Request::Check
-        | Request::Order
         | Request::Compile
         | Request::Live { .. }
         | Request::Batch { .. }
@@ -303,13 +298,7 @@ fn on_four(
     ensures { GivesText (OnFour request classes.now program.now schedule.now order.now) result }
 {
     match request {
-        Request::Page { from, to } => {
-            let window = Window {
-                from: from as usize,
-                to: to as usize,
-            };
-            page_with_order(alloc, window, classes, program, schedule, order)
-        }
+        Request::Page(paging) => page_on_four(alloc, paging, classes, program, schedule, order),
         _ => Err(ToolFault::WrongParts),
     }
 }
@@ -354,20 +343,42 @@ fn answer_text<R: Threads + Wait + Sync, W: Watch>(
     decide(rt, alloc, request, parts.as_slice(), watch)
 }
 
+/// The same on a text whose files are named or not.
+fn answer_files<R: Threads + Wait + Sync, W: Watch>(
+    rt: &R,
+    alloc: Global,
+    request: Request,
+    names: Option<&[String]>,
+    text: &str,
+    watch: &mut W,
+) -> Result<String, ToolFault>
+    ensures gives { GivesText (AnswersInput request (read_as (names_of names.entry) text.now)) result }
+    ensures watched { GoesOn W.Since watch.old watch.new }
+{
+    match names {
+        Some(_) => {
+            let joined = unmarked(alloc, text)?;
+            answer_text(rt, alloc, request, joined.as_str(), watch)
+        }
+        None => answer_text(rt, alloc, request, text, watch),
+    }
+}
+
 fn answer_of<R: Threads + Wait + Sync, W: Watch>(
     rt: &R,
     alloc: Global,
     request: Request,
+    names: Option<&[String]>,
     input: &[u8],
     watch: &mut W,
 ) -> Result<String, ToolFault>
-    ensures gives { GivesText (AnswersText request input.now) result }
+    ensures gives { GivesText (AnswersText (names_of names.entry) request input.now) result }
     ensures watched { GoesOn W.Since watch.old watch.new }
 {
     let Some(text) = text_of(input) else {
         return Err(ToolFault::NotText);
     };
-    answer_text(rt, alloc, request, text, watch)
+    answer_files(rt, alloc, request, names, text, watch)
 }
 
 /// What a command line asks for of an input, or why there is no output.
@@ -375,19 +386,21 @@ pub(crate) fn answer_line<R: Threads + Wait + Sync, W: Watch>(
     rt: &R,
     alloc: Global,
     line: CommandLine,
+    names: Option<&[String]>,
     input: &[u8],
     watch: &mut W,
 ) -> Result<Said, Refusal>
-    ensures decides { (words : List Text) → AsksFor words (Some line) → Decides words input.now result }
+    ensures decides { (words : List Text) → Asks words (Some line) → names_in words ≡ names_of names.entry →
+        Decides words input.now result }
     ensures taken { IsTaken result }
     ensures watched { GoesOn W.Since watch.old watch.new }
 {
-    match answer_of(rt, alloc, line.request, input, watch) {
+    match answer_of(rt, alloc, line.request, names, input, watch) {
         Ok(text) => {
             let status = status_for(line.request, text.as_str());
             Ok(Said { text, status })
         }
-        Err(fault) => Err(refusal_of(alloc, line.explain, fault, input)),
+        Err(fault) => Err(refusal_of(alloc, line, names, fault, input)),
     }
 }
 
@@ -401,6 +414,6 @@ pub fn answer<'a, R: Threads + Wait + Sync>(
 ) -> Result<Said, Refusal>
     ensures { Decides (map string_bytes words.entry.now) input.now result }
 {
-    let line = read_words(alloc, words)?;
-    answer_line(rt, alloc, line, input, &mut Nobody)
+    let line = read_words(alloc, asking(words))?;
+    answer_line(rt, alloc, line, names_in(words), input, &mut Nobody)
 }

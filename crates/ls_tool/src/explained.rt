@@ -1,13 +1,18 @@
 // A fault with what is said of it.
 
-ghost use Rattle.std.specs.Prelude.{◌≡◌, IfOk, map, string_bytes, true};
+ghost use Rattle.std.specs.Prelude.{◌≡◌, ◌++◌, IfOk, map, string_bytes};
+ghost use Rattle.ls_explanations.specs.Explanations.{note};
+ghost use Rattle.ls_faults.specs.Faults.{fault_line};
 ghost use Rattle.ls_parts.specs.Cutting.{plain_text};
-ghost use Rattle.ls_tool.specs.Output.{RefusesAs, cut_for, texts_of, told};
+ghost use Rattle.ls_tool.specs.Output.{RefusesAs, cut_for, is_bare, names_of, noted, read_as, texts_of};
 
 use crate::refusal::Refusal;
-use ls_explanations::explain;
+use crate::wanted::wanted_parts;
+use ls_command_line::CommandLine;
+use ls_explanations::{explain, explain_named};
 use ls_faults::fault::ToolFault;
 use ls_faults::line::fault_line;
+use ls_files::unmarked;
 use ls_parts::{parts_of, text_of};
 use std::alloc::{AllocError, Global};
 
@@ -39,37 +44,100 @@ fn cut_for(alloc: Global, fault: ToolFault, text: &str) -> Result<Vec<String>, A
     }
 }
 
-fn texts_of(alloc: Global, fault: ToolFault, input: &[u8]) -> Result<Vec<String>, AllocError>
-    ensures { IfOk result (λ texts. map string_bytes texts.items ≡ texts_of fault input.now) }
+/// The same of a text whose files are named or not.
+fn cut_as(
+    alloc: Global,
+    names: Option<&[String]>,
+    fault: ToolFault,
+    text: &str,
+) -> Result<Vec<String>, AllocError>
+    ensures { IfOk result (λ texts. map string_bytes texts.items ≡
+        cut_for fault (read_as (names_of names.entry) text.now)) }
+{
+    match names {
+        Some(_) => {
+            let joined = unmarked(alloc, text)?;
+            cut_for(alloc, fault, joined.as_str())
+        }
+        None => cut_for(alloc, fault, text),
+    }
+}
+
+fn texts_of(
+    alloc: Global,
+    names: Option<&[String]>,
+    fault: ToolFault,
+    input: &[u8],
+) -> Result<Vec<String>, AllocError>
+    ensures { IfOk result (λ texts. map string_bytes texts.items ≡ texts_of (names_of names.entry) fault input.now) }
 {
     match text_of(input) {
-        Some(text) => cut_for(alloc, fault, text),
+        Some(text) => cut_as(alloc, names, fault, text),
         None => Ok(Vec::new(alloc)),
     }
 }
 
 /// The fault's line, and after it the line of the input in which it stands.
-fn explained(alloc: Global, fault: ToolFault, input: &[u8]) -> Result<Vec<u8>, AllocError>
-    ensures { IfOk result (λ bytes. bytes.items ≡ told true fault input.now) }
+fn with_note(alloc: Global, fault: ToolFault, texts: &[String]) -> Result<Vec<u8>, AllocError>
+    ensures { IfOk result (λ bytes. bytes.items ≡ fault_line fault ++ note fault (map string_bytes texts.now)) }
 {
-    let texts = texts_of(alloc, fault, input)?;
-    let note = explain(alloc, fault, texts.as_slice())?;
+    let note = explain(alloc, fault, texts)?;
     let mut told = Vec::new(alloc);
     told.extend_from_slice(fault_line(fault).as_bytes())?;
     told.extend_from_slice(note.as_slice())?;
     Ok(told)
 }
 
-/// How a fault is refused: alone, or with what is said of it.
-pub(crate) fn refusal_of(alloc: Global, explain: bool, fault: ToolFault, input: &[u8]) -> Refusal
-    ensures { RefusesAs explain fault input.now result }
+/// What is told of a fault, with its place in a named file or in a part.
+fn noted(
+    alloc: Global,
+    line: CommandLine,
+    names: Option<&[String]>,
+    fault: ToolFault,
+    input: &[u8],
+) -> Result<Vec<u8>, AllocError>
+    ensures { IfOk result (λ bytes. bytes.items ≡ noted (names_of names.entry) line fault input.now) }
 {
-    if !explain {
+    let texts = texts_of(alloc, names, fault, input)?;
+    match names {
+        Some(names) => explain_named(
+            alloc,
+            fault,
+            names,
+            input,
+            wanted_parts(line.request),
+            texts.as_slice(),
+        ),
+        None => with_note(alloc, fault, texts.as_slice()),
+    }
+}
+
+/// Whether a fault's line is all that is told of the fault.
+fn is_bare(line: CommandLine, names: Option<&[String]>) -> bool
+    ensures { result ≡ is_bare (names_of names.entry) line }
+{
+    match names {
+        Some(_) => false,
+        None => !line.explain,
+    }
+}
+
+/// How a fault is refused: alone, or with what is said of it.
+pub(crate) fn refusal_of(
+    alloc: Global,
+    line: CommandLine,
+    names: Option<&[String]>,
+    fault: ToolFault,
+    input: &[u8],
+) -> Refusal
+    ensures { RefusesAs (names_of names.entry) line fault input.now result }
+{
+    if is_bare(line, names) {
         return Refusal::Fault(fault);
     }
     match fault {
         ToolFault::Memory => Refusal::Fault(ToolFault::Memory),
-        other => match explained(alloc, other, input) {
+        other => match noted(alloc, line, names, other, input) {
             Ok(told) => Refusal::Explained(told),
             Err(_) => Refusal::Fault(ToolFault::Memory),
         },

@@ -3,6 +3,7 @@
 
 pub mod answer;
 mod explained;
+mod pages;
 mod programs;
 mod progress;
 mod refusal;
@@ -10,6 +11,7 @@ mod running;
 mod said;
 mod streams;
 mod views;
+mod wanted;
 
 pub use ls_command_line::Request;
 pub use ls_faults::fault::ToolFault;

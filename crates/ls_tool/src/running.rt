@@ -2,11 +2,11 @@
 
 ghost use Rattle.std.specs.Prelude.{◌≡◌, List, Some, map, string_bytes, true};
 ghost use Rattle.ls_faults.specs.Faults.{fault_line};
-ghost use Rattle.ls_command_line.specs.Words.{AsksFor};
+ghost use Rattle.ls_files.specs.Names.{names_in};
 ghost use Rattle.ls_outlets.specs.Written.{IsWritten};
 ghost use Rattle.ls_report.specs.Events.{Text};
-ghost use Rattle.ls_tool.specs.Output.{Decides, Ends, IsTaken, OfInput, Progresses, ReadsAfterWords, Responds};
-ghost use Rattle.ls_tool.specs.Output.{TellsFirst, left};
+ghost use Rattle.ls_tool.specs.Output.{Asks, Decides, Ends, IsTaken, OfInput, Progresses, ReadsAfterWords};
+ghost use Rattle.ls_tool.specs.Output.{Responds, TellsFirst, left, names_of};
 
 use crate::answer::answer_line;
 use crate::programs::Programs;
@@ -18,6 +18,7 @@ use ls_command_line::{CommandLine, read_words};
 use ls_explore::Nobody;
 use ls_faults::fault::ToolFault;
 use ls_faults::line::fault_line;
+use ls_files::{asking, names_in};
 use ls_outlets::{Outlet, write_out};
 use std::alloc::{AllocError, Global};
 use std::io::{Read, Write};
@@ -66,22 +67,24 @@ fn answer_telling<H: Threads + Wait + Sync, E: Outlet>(
     rt: &H,
     alloc: Global,
     line: CommandLine,
+    names: Option<&[String]>,
     input: &[u8],
     err: &mut E,
 ) -> Result<Said, Refusal>
-    ensures decides { (words : List Text) → AsksFor words (Some line) → Decides words input.now result }
+    ensures decides { (words : List Text) → Asks words (Some line) → names_in words ≡ names_of names.entry →
+        Decides words input.now result }
     ensures taken { IsTaken result }
     ensures progress { Progresses line.request (E.contents err.old) (E.contents err.new) (E.has_failed err.new) }
 {
     match progress_of(line.request) {
-        Telling::Nothing => answer_line(rt, alloc, line, input, &mut Nobody),
+        Telling::Nothing => answer_line(rt, alloc, line, names, input, &mut Nobody),
         Telling::States => {
             let mut progress = Progress::new(err);
-            answer_line(rt, alloc, line, input, &mut progress)
+            answer_line(rt, alloc, line, names, input, &mut progress)
         }
         Telling::Programs => {
             let mut programs = Programs::new(err);
-            answer_line(rt, alloc, line, input, &mut programs)
+            answer_line(rt, alloc, line, names, input, &mut programs)
         }
     }
 }
@@ -101,14 +104,15 @@ fn respond<'a, H: Threads + Wait + Sync, R: Read, E: Outlet>(
     ensures progress { TellsFirst (map string_bytes words.entry.now) (E.contents err.old) (E.has_failed err.new)
         (E.contents err.new) }
 {
-    let line = read_words(alloc, words)?;
+    let line = read_words(alloc, asking(words))?;
     let input = read_whole(alloc, reader)?;
-    answer_telling(rt, alloc, line, input.as_slice(), err)
+    answer_telling(rt, alloc, line, names_in(words), input.as_slice(), err)
 }
 
 /// Does what the words ask for: reads the input, answers it as `answer` does, and writes. Answers the exit status; with
 /// status 2 nothing is read. If it isn't known what the reader has left, as it isn't of standard input, the run ends as
-/// for some input. All is written that is to be, unless the writer has failed. Threads are started by `live`, `batch`,
+/// for some input. All is written that is to be, unless the writer has failed. The words after `--names` name the files
+/// that the input holds; a fault is told with its place in them. Threads are started by `live`, `batch`,
 /// `find` and `replay --live` alone. `explore --progress` and `find --progress` alone tell of their progress.
 pub fn run<'a, H: Threads + Wait + Sync, R: Read, W: Outlet, E: Outlet>(
     rt: &H,

@@ -1,18 +1,23 @@
-use Rattle.std.proofs.Common.{◌∙◌, ap}
-use Rattle.ls_tool.specs.Output.{status_for}
+use Rattle.std.proofs.Common.{◌∙◌, ap, subst, sym, Ok, Err}
+use Rattle.ls_faults.specs.Given.{GivesText}
+use Rattle.ls_tool.specs.Output.{AnswersText, RefusesAs, names_of, status_for}
 use Rattle.ls_tool.proofs.Ending.{decide_err, decide_ok, takes}
 use Rattle.ls_tool.proofs.answer.answer_line.Goals as goal
 
 pub returns-in-Ok-clause-decides : goal.returns-in-Ok-clause-decides
-returns-in-Ok-clause-decides g c = λ words asks. decide_ok words c.args.input.now c.args.line c.in-Ok.text
+returns-in-Ok-clause-decides g c = λ words asks same. decide_ok words c.args.input.now c.args.line c.in-Ok.text
     c.status_for-status.result asks (c.status_for-status.ensures.is ∙ ap (status_for c.args.line.request) c.as_str.ensures.value)
-    c.in-Ok.ensures.gives
+    (subst (λ ns. GivesText (AnswersText ns c.args.line.request c.args.input.now) (Ok c.in-Ok.text)) (sym same)
+    c.in-Ok.ensures.gives)
 
 pub returns-in-Err-clause-decides : goal.returns-in-Err-clause-decides
 returns-in-Err-clause-decides g c =
-    λ words asks. decide_err words c.args.input.now c.args.line c.in-Err.fault c.refusal_of.result asks
-    c.in-Err.ensures.gives c.refusal_of.ensures
+    λ words asks same. decide_err words c.args.input.now c.args.line c.in-Err.fault c.refusal_of.result asks
+    (subst (λ ns. GivesText (AnswersText ns c.args.line.request c.args.input.now) (Err c.in-Err.fault)) (sym same)
+    c.in-Err.ensures.gives)
+    (subst (λ ns. RefusesAs ns c.args.line c.in-Err.fault c.args.input.now c.refusal_of.result) (sym same)
+    c.refusal_of.ensures)
 
 pub returns-in-Err-clause-taken : goal.returns-in-Err-clause-taken
-returns-in-Err-clause-taken g c = takes c.args.line.explain c.in-Err.fault c.args.input.now c.refusal_of.result
+returns-in-Err-clause-taken g c = takes (names_of c.args.names) c.args.line c.in-Err.fault c.args.input.now c.refusal_of.result
     c.refusal_of.ensures
