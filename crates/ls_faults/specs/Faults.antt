@@ -277,7 +277,6 @@ fault_line (faults.Explore f) = explore_line f
 fault_line (faults.Class f) = class_line f
 fault_line faults.BadNumbers = plain (codes "70 BadNumbers")
 fault_line faults.BadOptions = plain (codes "71 BadOptions")
-fault_line (faults.BadEntry at) = placed (codes "72 BadEntry") at
 fault_line (faults.Aim f) = aim_line f
 fault_line (faults.History f) = history_line f
 fault_line (faults.Order f) = order_line f

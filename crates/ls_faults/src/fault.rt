@@ -64,9 +64,6 @@ pub enum ToolFault {
     BadNumbers,
     #[error("these options don't go together")]
     BadOptions,
-    /// The entry of a menu whose line begins at this byte isn't calls of the class.
-    #[error("an entry of the menu isn't calls of the class")]
-    BadEntry { at: usize },
     #[error(transparent)]
     Aim(AimFault),
     #[error(transparent)]

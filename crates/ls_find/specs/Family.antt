@@ -28,4 +28,4 @@ abbrev pub EachIsSound : Type 0
 EachIsSound =
     (menu : ℕ) (b : Bounds) (sought : Sought) (classes : Text) (p : Programs) (f : Finding Why) → 0 < menu → 0 < b.calls →
     p.family ≡ family_of menu b → IsWhole sought classes p f → (plan : Plan) → IsPlanOf menu b plan →
-    (is_double p.calls plan ≡ true) ⊎ IsSound sought classes (text_of p plan)
+    (is_double plan ≡ true) ⊎ IsSound sought classes (text_of p plan)

@@ -1,4 +1,3 @@
 pub mod Steps
 pub mod Counted
 pub mod Choices
-pub mod Lines
