@@ -9,6 +9,7 @@ ghost use Rattle.ls_search_laws.specs.Stepping.{SetsUp};
 ghost use Rattle.ls_transitions.specs.Seen.{table_of};
 ghost use Rattle.ls_search.specs.Answers.{ClosesAll, IsStuck, root_of};
 ghost use Rattle.ls_search.specs.Places.{AreThere};
+ghost use Rattle.ls_search.specs.Searched.{HidesNames};
 
 use crate::numbering::{Numbered, number};
 use crate::observing::noted_of;
@@ -16,6 +17,7 @@ use crate::setting_up::{SetUp, set_up};
 use ls_checked::program::Program;
 use ls_checked::tree::File;
 use ls_observers::observer::Observer;
+use ls_renaming::constants::file_has_constants;
 use ls_search::answers::{Found, Root, search_from};
 use ls_search::searching::Ground;
 use ls_transitions::transitions::Transitions;
@@ -74,9 +76,8 @@ fn prepare<'a, O: Observer>(
 }
 
 /// Runs the setup as long as it acts, and looks for all that threads lead to from there. At most so many states are
-/// kept, and no more steps of the setup are run. A refusal is that memory ran out, or that a store, a work or a state
-/// has
-/// no number left.
+/// kept, and no more steps of the setup are run. A refusal is that memory ran out, that a store, a work or a state has no
+/// number left, or that a constant of the file names an object, which none does of a file that was read.
 pub fn search_run<O: Observer>(
     alloc: Global,
     observer: &O,
@@ -84,10 +85,11 @@ pub fn search_run<O: Observer>(
     program: &Program,
     limit: usize,
 ) -> Result<RunFound, AllocError>
-    requires { 1 ≤ limit }
+    requires limit { 1 ≤ limit }
+    requires hides { HidesNames (O.next observer.now) }
     ensures up { IfOk result (λ r. SetsUp (plain_file file.now) (plain_program program.now) r.setup) }
     ensures closes { IfOk result (λ r. IsTrue r.found.complete →
-        ClosesAll (O.first observer.now) (O.next observer.now) (O.bad observer.now) (plain_file file.now)
+        ClosesAll (O.stands observer.now) (O.first observer.now) (O.next observer.now) (O.bad observer.now) (plain_file file.now)
         (plain_program program.now) (length (plain_program program.now).threads)
         (noticed_of (O.first observer.now) (O.next observer.now) (plain_file file.now) (plain_program program.now)
         (replicate r.setup 0)) r.found.bad r.found.stuck) }
@@ -104,6 +106,9 @@ pub fn search_run<O: Observer>(
     ensures cut { IfOk result (λ r. r.found.complete ≡ false → r.found.states ≡ limit) }
     ensures few { IfOk result (λ r. r.found.states ≤ limit) }
 {
+    if !file_has_constants(file) {
+        return Err(AllocError);
+    }
     let Prepared {
         steps,
         transitions,

@@ -6,11 +6,12 @@ use Rattle.std.proofs.lemmas.Option.{get_or_from_slice_get}
 use Rattle.ls_events.specs.declared.event.Event.{Event}
 use Rattle.ls_checked.specs.CheckedTree.{File}
 use Rattle.ls_checked.specs.CheckedProgram.{Program}
+use Rattle.ls_meaning.specs.Constants.{FileHasConstants}
 use Rattle.ls_search_laws.specs.Noticing.{Noticed}
 use Rattle.ls_transitions.specs.Tables.{Table}
 use Rattle.ls_search.specs.declared.places.Node.{Node}
 use Rattle.ls_search.specs.Places.{configuration_at}
-use Rattle.ls_search.specs.Searched.{IsLinked, IsNode, IsSound, noticed_at, pairs_at}
+use Rattle.ls_search.specs.Searched.{HidesNames, IsLinked, IsNode, IsSound, noticed_at, pairs_at}
 use Rattle.ls_search.proofs.Pairs.{map_there}
 
 some_is : {A : Type 0} {x y : A} → Some x ≡ Some y → x ≡ y
@@ -23,10 +24,12 @@ none_not h = cc
 
 module _ {S : Type 0} (first : S) (next : S → Event → S) (file : File) (program : Program) (threads : ℕ) (t : Table)
     (states : List S) (node : Node) where
-  pub sound_first : t.file ≡ file → node.before ≡ 0 → IsNode t states threads node.place →
+  pub sound_first : t.file ≡ file → FileHasConstants file → HidesNames next → node.before ≡ 0 → IsNode t states threads node.place →
       IsSound first next file program threads t states (node ∷ [])
-  sound_first file_is before is = record {
+  sound_first file_is constants hides before is = record {
     file_is = file_is;
+    constants = constants;
+    hides = hides;
     are = are;
     linked = linked;
   }

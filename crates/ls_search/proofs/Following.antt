@@ -1,6 +1,6 @@
 -- The path to a state that was found, from its end.
 use Rattle.std.proofs.Common.{◌≡◌, ℕ, zero, suc, ◌+◌, ◌<◌, ◌≤◌, List, [], ◌∷◌, ◌++◌, length, Some, refl, sym, ap}
-use Rattle.std.proofs.Common.{◌∙◌, arith, replicate, reverse}
+use Rattle.std.proofs.Common.{◌∙◌, subst, arith, replicate, reverse}
 use Rattle.std.specs.Prelude.{slice_get}
 use Rattle.std.specs.List.{fold}
 use Rattle.std.proofs.lemmas.List.{reverse-append}
@@ -14,7 +14,8 @@ use Rattle.ls_transitions.proofs.Keeping.{below}
 use Rattle.ls_search.specs.declared.paths.Link.{Link}
 use Rattle.ls_search.specs.declared.places.Node.{Node}
 use Rattle.ls_search.specs.Found.{IsLinkOf}
-use Rattle.ls_search.specs.Searched.{IsAfter, IsSound, noticed_at, pairs_at}
+use Rattle.ls_search.specs.Searched.{IsAfter, IsLike, IsSound, noticed_at, pairs_at}
+use Rattle.ls_search.proofs.Likeness.{like_both, like_fold}
 use Rattle.ls_search.proofs.Pairs.{map_there}
 use Rattle.ls_search.proofs.Settling.{replicate_last}
 
@@ -36,7 +37,7 @@ reverse_same (suc n) x =
 module _ {S : Type 0} (first : S) (next : S → Event → S) (file : File) (program : Program) where
   -- the threads so far, the last first, lead from one pair to the other
   abbrev pub Follows : Noticed S → List ℕ → Noticed S → Type 0
-  Follows q threads p = fold (noticed_after first next file program) q (reverse threads) ≡ p
+  Follows q threads p = IsLike p (fold (noticed_after first next file program) q (reverse threads))
 
   module _ (threads : ℕ) (t : Table) (states : List S) (nodes : List Node)
       (sound : IsSound first next file program threads t states nodes) where
@@ -63,13 +64,25 @@ module _ {S : Type 0} (first : S) (next : S → Event → S) (file : File) (prog
         ap reverse with_more
         ∙ reverse-append path (replicate l.steps l.thread)
         ∙ ap (λ ts. ts ++ reverse path) (reverse_same l.steps l.thread ∙ steps) in
+        let all_from : fold (noticed_after first next file program) q (reverse more) ≡
+        fold (noticed_after first next file program)
+        (fold (noticed_after first next file program) after.earlier (replicate is.node.steps is.node.thread))
+        (reverse path) =
         ap (fold (noticed_after first next file program) q) turned
         ∙ fold-append (noticed_after first next file program) q (replicate is.node.steps is.node.thread) (reverse path)
         ∙ ap (λ (r : Noticed S). fold (noticed_after first next file program)
         (fold (noticed_after first next file program) r (replicate is.node.steps is.node.thread)) (reverse path))
-        (sym same)
-        ∙ ap (λ (r : Noticed S). fold (noticed_after first next file program) r (reverse path)) after.is
-        ∙ leads (noticed_at first t states is.node.place) pair_here
+        (sym same) in
+        subst (IsLike p) (sym all_from)
+        (like_both p (fold (noticed_after first next file program) (noticed_at first t states is.node.place)
+        (reverse path))
+        (fold (noticed_after first next file program)
+        (fold (noticed_after first next file program) after.earlier (replicate is.node.steps is.node.thread))
+        (reverse path))
+        (leads (noticed_at first t states is.node.place) pair_here)
+        (like_fold first next file program sound.hides (noticed_at first t states is.node.place)
+        (fold (noticed_after first next file program) after.earlier (replicate is.node.steps is.node.thread)) after.is
+        (reverse path)))
 
     -- at the first
     pub follows_all : (place : ℕ) (path all : List ℕ) (r p : Noticed S) →
@@ -77,11 +90,11 @@ module _ {S : Type 0} (first : S) (next : S → Event → S) (file : File) (prog
         ((q : Noticed S) → slice_get (pairs_at first t states nodes) place ≡ Some q → Follows q path p) →
         all ≡ reverse path →
         slice_get (pairs_at first t states nodes) 0 ≡ Some r →
-        fold (noticed_after first next file program) r all ≡ p
+        IsLike p (fold (noticed_after first next file program) r all)
     follows_all place path all r p end leads turned here =
         let pair_here : slice_get (pairs_at first t states nodes) place ≡ Some (noticed_at first t states end.0.place) =
         map_there (λ (m : Node). noticed_at first t states m.place) nodes place end.0 end.1 in
         let is_first : place ≡ 0 =
         (sound.linked place end.0 (noticed_at first t states end.0.place) end.1 pair_here).is_first end.2 in
-        ap (fold (noticed_after first next file program) r) turned
-        ∙ leads r (ap (slice_get (pairs_at first t states nodes)) is_first ∙ here)
+        subst (IsLike p) (sym (ap (fold (noticed_after first next file program) r) turned))
+        (leads r (ap (slice_get (pairs_at first t states nodes)) is_first ∙ here))

@@ -10,3 +10,5 @@ pub mod Following
 pub mod Answering
 pub mod Unrenamed
 pub mod Telling
+pub mod Likeness
+pub mod Others

@@ -26,7 +26,7 @@ use Rattle.ls_search.specs.declared.places.Place.{Place}
 use Rattle.ls_search.specs.Found.{HasPlace}
 use Rattle.ls_search.specs.Places.{configuration_at, configuration_of}
 use Rattle.ls_search.specs.Strides.{ActsBy, at_once}
-use Rattle.ls_search.specs.Searched.{ActsIn, IsAfter, Reaches, noticed_at, pairs_at}
+use Rattle.ls_search.specs.Searched.{ActsIn, IsAfter, IsLike, IsOther, Reaches, noticed_at, pairs_at}
 use Rattle.ls_search.proofs.Pairs.{place_there}
 
 module _ {S : Type 0} (first : S) (next : S → Event → S) (file : File) (program : Program) where
@@ -64,13 +64,15 @@ module _ {S : Type 0} (first : S) (next : S → Event → S) (file : File) (prog
 
   pub reaches_fold : (p q : Noticed S) (u k : ℕ) →
       Reaches file (noticed_after first next file program p u) q u k →
-      fold (noticed_after first next file program) p (replicate (k + 1) u) ≡ q
+      IsLike q (fold (noticed_after first next file program) p (replicate (k + 1) u))
   reaches_fold p q u k h =
       let after : Noticed S = noticed_after first next file program p u in
       let one_more : k + 1 ≡ suc k = omega arith in
+      let is : fold (noticed_after first next file program) p (replicate (k + 1) u) ≡
+      record { configuration = h.last; noted = (noticed_after first next file program p u).noted } =
       ap (λ n. fold (noticed_after first next file program) p (replicate n u)) one_more
-      ∙ folded after (replicate k u) q.configuration h.leads
-      ∙ ap (λ (s : S). record { configuration = q.configuration; noted = s }) (sym h.noted_still)
+      ∙ folded after (replicate k u) h.last h.leads in
+      subst (IsLike q) (sym is) (record { other = h.other; noted = sym h.noted_still })
 
   pub acting_is : (d : Did) (action : Action Value) (answer : Answer Value) → d ≡ did.Acted action answer → IsActing d
   acting_is d action answer e = subst IsActing (sym e) tt
@@ -82,16 +84,17 @@ module _ {S : Type 0} (first : S) (next : S → Event → S) (file : File) (prog
     pub acted : Noticed S
     acted = noticed_after first next t0.file program (noticed_at first t0 states0 p) u
 
-    pub reaches_after : (store : ℕ) (works : List ℕ) (q : Place) (n k : ℕ) →
+    pub reaches_after : (store : ℕ) (works : List ℕ) (q : Place) (n k : ℕ) (last : Configuration) →
         store ≡ step.store →
         works ≡ slice_set p.works.items u step.work →
         slice_get states1 n ≡ Some (fold next (slice_index_or states0 p.noted first) (events_in (event_of u
         step.action))) →
         q.noted ≡ n →
-        LeadsTo at_once t0.file (configuration_at t0 store works) (replicate k u) (configuration_of t1 q) →
+        LeadsTo at_once t0.file (configuration_at t0 store works) (replicate k u) last →
+        IsOther (configuration_of t1 q) last →
         Reaches t0.file (noticed_after first next t0.file program (noticed_at first t0 states0 p) u)
         (noticed_at first t1 states1 q) u k
-    reaches_after store works q n k store_is works_is told noted_is leads =
+    reaches_after store works q n k last store_is works_is told noted_is leads other =
         let c : Configuration = configuration_of t0 p in
         let s : Stride = stride t0.file c u in
         let same : configuration_at t0 store works ≡ s.after =
@@ -99,7 +102,9 @@ module _ {S : Type 0} (first : S) (next : S → Event → S) (file : File) (prog
         let events : events_of u s.did ≡ events_in (event_of u step.action) =
         ap (λ (z : Stride). events_of u z.did) acts.is in
         record {
-          leads = subst (λ (k' : Configuration). LeadsTo at_once t0.file k' (replicate k u) (configuration_of t1 q))
+          last = last;
+          other = other;
+          leads = subst (λ (k' : Configuration). LeadsTo at_once t0.file k' (replicate k u) last)
               same
               leads;
           noted_still =
@@ -138,6 +143,7 @@ module _ {S : Type 0} (first : S) (next : S → Event → S) (file : File) (prog
     is_after pairs node there place_is thread_is steps_is = record {
       earlier = p;
       there = there;
-      is = (λ i. fold (noticed_after first next file program) p (replicate (steps_is i) (thread_is i))) ∙
-          reaches_fold p (noticed_at first t states q) u k reaches;
+      is = subst (IsLike (noticed_at first t states q))
+          (sym (λ i. fold (noticed_after first next file program) p (replicate (steps_is i) (thread_is i))))
+          (reaches_fold p (noticed_at first t states q) u k reaches);
     }

@@ -247,6 +247,8 @@ module _ {S : Type 0} (first : S) (next : S → Event → S) (file : File) (prog
         IsSound first next file program threads t' states' nodes'
     sound_pushed node pushed is before after = record {
       file_is = grows.file ∙ h.file_is;
+      constants = h.constants;
+      hides = h.hides;
       are = by_nodes pushed;
       linked = by_linked pushed;
     }
@@ -313,6 +315,8 @@ module _ {S : Type 0} (first : S) (next : S → Event → S) (file : File) (prog
     pub sound_stays : nodes' ≡ nodes → IsSound first next file program threads t' states' nodes'
     sound_stays same = record {
       file_is = grows.file ∙ h.file_is;
+      constants = h.constants;
+      hides = h.hides;
       are = λ at n e. node_stays first t t' states states' grows keeps threads n.place
           (h.are at n (ap (λ (l : List Node). slice_get l at) (sym same) ∙ e));
       linked = λ at n p e here.

@@ -10,8 +10,8 @@ use Rattle.ls_checked.specs.CheckedTree.{File}
 use Rattle.ls_checked.specs.CheckedProgram.{Program}
 use Rattle.ls_meaning.specs.declared.step.Did.{Did}
 use Rattle.ls_meaning.specs.declared.step.Did.TheVariants as did
+use Rattle.ls_meaning.specs.Renamings.{IsRenaming}
 use Rattle.ls_meaning.specs.Still.{IsActing, IsStill}
-use Rattle.ls_search_laws.specs.Cells.{IsIdentity}
 use Rattle.ls_search_laws.specs.Configuration.{Stride, stride}
 use Rattle.ls_search_laws.specs.Noticing.{Noticed, noticed_after}
 use Rattle.ls_search_laws.specs.Search.{IsFound}
@@ -25,7 +25,6 @@ use Rattle.ls_search.specs.Strides.{at_once}
 use Rattle.ls_search.proofs.Expanding.{pairs_length}
 use Rattle.ls_search.proofs.Pairs.{map_from}
 use Rattle.ls_search.proofs.Strides.{missing_stride}
-use Rattle.ls_search.proofs.Unrenamed.{own, unrenamed}
 
 none_map : {A : Type 0} (P Q : Type 0) (o : Option A) → (P → Q) → IfNone o P → IfNone o Q
 none_map P Q None f h = f h
@@ -79,16 +78,16 @@ module _ {S : Type 0} (first : S) (next : S → Event → S) (file : File) (prog
       by_thread u (inr past) = idle_still (stride file p.configuration u).did (beyond at p here u past)
 
   found : (p : Noticed S) → IsIn file (pairs_at first t states nodes) p →
-      IsFound at_once IsIdentity (λ m n. m ≡ n) file (pairs_at first t states nodes) p
+      IsFound at_once IsRenaming (λ m n. m ≡ n) file (pairs_at first t states nodes) p
   found p h = record {
     pair = h.pair;
     there = at_there (pairs_at first t states nodes) h.place h.pair h.here;
     threads = replicate h.steps h.thread;
-    last = h.pair.configuration;
+    last = h.reaches.last;
     leads = h.reaches.leads;
-    names = own;
-    allowed = λ n. refl;
-    same = unrenamed h.pair.configuration;
+    names = h.reaches.other.names;
+    allowed = h.reaches.other.renaming;
+    same = h.reaches.other.same;
     alike = h.reaches.noted_still;
   }
 
@@ -128,20 +127,34 @@ module _ {S : Type 0} (first : S) (next : S → Event → S) (file : File) (prog
             let u = k.2.acting acts in acting_still (stride file p.configuration u.0).did u.2 (stuck.still u.0)
         by_acts (inr acts) = by_thread acts (cases_lt stuck.thread threads)
 
-    pub closes_all : {P : Type 0} (is_bad : S → Bool) (root : Noticed S) (bad stuck : Option P) →
+    pub closes_all : {N P : Type 0} (stands : N → S) (is_bad : S → Bool) (root : Noticed S) (bad stuck : Option P) →
+        ((k : ℕ) (s : S) → slice_get states k ≡ Some s → (n : N) × (stands n ≡ s)) →
         slice_get (pairs_at first t states nodes) 0 ≡ Some root →
         IfNone bad ((at : ℕ) (p : Noticed S) → slice_get (pairs_at first t states nodes) at ≡ Some p →
         is_bad p.noted ≡ false) →
         IfNone stuck ((at : ℕ) (s : Seen) → slice_get seen at ≡ Some s → s.acts ≡ false → s.waits ≡ false) →
-        ClosesAll first next is_bad file program threads root bad stuck
-    closes_all {P} is_bad root bad stuck begins good free = record {
+        ClosesAll stands first next is_bad file program threads root bad stuck
+    closes_all {N} {P} stands is_bad root bad stuck stood begins good free = record {
       pairs = pairs_at first t states nodes;
       begins = begins;
       more = λ p u there within acts.
           let k = known there.0 p (there_at (pairs_at first t states nodes) p there) in
           found (noticed_after first next file program p u) (k.2.leads u within acts);
+      noted = λ p there. stood_for p there.0 (there_at (pairs_at first t states nodes) p there);
       good = none_map _ _ bad
           (λ (h : (at : ℕ) (p : Noticed S) → slice_get (pairs_at first t states nodes) at ≡ Some p →
           is_bad p.noted ≡ false). λ p there. h there.0 p (there_at (pairs_at first t states nodes) p there)) good;
       free = none_map _ _ stuck none_stuck free;
     }
+      where
+        stood_for : (p : Noticed S) (at : ℕ) → slice_get (pairs_at first t states nodes) at ≡ Some p →
+            (n : N) × (stands n ≡ p.noted)
+        stood_for p at here =
+            let m = map_from (λ (k : Node). noticed_at first t states k.place) nodes at p here in
+            let s = there states m.0.place.noted (sound.are at m.0 m.1).noted_there in
+            let n = stood m.0.place.noted s.0 s.1 in (
+              n.0,
+              n.1
+                  ∙ sym (get_or_from_slice_get states m.0.place.noted s.0 first s.1)
+                  ∙ ap (λ (q : Noticed S). q.noted) m.2,
+            )

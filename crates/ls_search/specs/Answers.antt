@@ -5,7 +5,7 @@ use Rattle.ls_checked.specs.CheckedTree.{File}
 use Rattle.ls_checked.specs.CheckedProgram.{Program}
 use Rattle.ls_meaning.specs.declared.step.Did.TheVariants as did
 use Rattle.ls_meaning.specs.Still.{IsActing, IsStill}
-use Rattle.ls_search_laws.specs.Cells.{IsIdentity}
+use Rattle.ls_meaning.specs.Renamings.{IsRenaming}
 use Rattle.ls_search_laws.specs.Configuration.{Configuration, stride}
 use Rattle.ls_search_laws.specs.Noticing.{AreAllGood, Noticed, noticed_after}
 use Rattle.ls_search_laws.specs.Search.{IsFound}
@@ -24,16 +24,15 @@ pub record IsStuck (file : File) (c : Configuration) : Type 0 where
   pub thread : ℕ
   pub waits : (stride file c thread).did ≡ did.Waits
 
--- A list from the root on, without renaming. Whatever one of so many threads does that acts at one of these leads to
--- one
--- of them, by steps that are taken at once. Where no bad path was told, none of them is bad. Where no stuck one was
--- told,
--- none of them is stuck.
-pub record ClosesAll {S P : Type 0} (first : S) (next : S → Event → S) (is_bad : S → Bool) (file : File)
+-- A list from the root on. Whatever one of so many threads does that acts at one of these leads to one of them, but for
+-- names of objects, by steps that are taken at once. Something stands for what is noted at each. Where no bad path was
+-- told, none of them is bad. Where no stuck one was told, none of them is stuck.
+pub record ClosesAll {N S P : Type 0} (stands : N → S) (first : S) (next : S → Event → S) (is_bad : S → Bool) (file : File)
     (program : Program) (threads : ℕ) (root : Noticed S) (bad stuck : Option P) : Type 0 where
   pub pairs : List (Noticed S)
   pub begins : slice_get pairs 0 ≡ Some root
   pub more : (p : Noticed S) (u : ℕ) → Contains pairs p → u < threads → IsActing (stride file p.configuration u).did →
-      IsFound at_once IsIdentity (λ m n. m ≡ n) file pairs (noticed_after first next file program p u)
+      IsFound at_once IsRenaming (λ m n. m ≡ n) file pairs (noticed_after first next file program p u)
+  pub noted : (p : Noticed S) → Contains pairs p → (n : N) × (stands n ≡ p.noted)
   pub good : IfNone bad (AreAllGood is_bad pairs)
   pub free : IfNone stuck ((p : Noticed S) → Contains pairs p → IsStuck file p.configuration → ⊥)

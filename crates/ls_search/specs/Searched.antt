@@ -7,8 +7,10 @@ use Rattle.ls_checked.specs.CheckedTree.{File}
 use Rattle.ls_checked.specs.CheckedProgram.{Program}
 use Rattle.ls_meaning.specs.declared.step.Did.TheVariants as did
 use Rattle.ls_meaning.specs.Still.{IsActing, IsStill}
-use Rattle.ls_search_laws.specs.Configuration.{stride}
-use Rattle.ls_search_laws.specs.Noticing.{Noticed, noticed_after}
+use Rattle.ls_meaning.specs.Constants.{FileHasConstants}
+use Rattle.ls_meaning.specs.Renamings.{IsRenaming}
+use Rattle.ls_search_laws.specs.Configuration.{Configuration, IsRenamed, stride}
+use Rattle.ls_search_laws.specs.Noticing.{Noticed, noticed_after, renamed_event}
 use Rattle.ls_search_laws.specs.Search.{LeadsTo}
 use Rattle.ls_transitions.specs.Tables.{Table}
 use Rattle.ls_search.specs.declared.places.Looked.{Looked}
@@ -25,9 +27,27 @@ pub record IsNode {S : Type 0} (t : Table) (states : List S) (threads : ℕ) (p 
   pub noted_there : p.noted < length states
   pub width : length p.works.items ≡ threads
 
--- so many steps of a thread that are taken at once lead from one to the other
+-- the second configuration is the first with other names of objects
+pub record IsOther (c d : Configuration) : Type 0 where
+  pub names : ℕ → ℕ
+  pub renaming : IsRenaming names
+  pub same : IsRenamed names c d
+
+-- so it is of states, and the same is noted
+pub record IsLike {S : Type 0} (p q : Noticed S) : Type 0 where
+  pub other : IsOther p.configuration q.configuration
+  pub noted : q.noted ≡ p.noted
+
+-- what is noted shows no names of objects
+abbrev pub HidesNames : {S : Type 0} → (S → Event → S) → Type 0
+HidesNames {S} next = (names : ℕ → ℕ) → IsRenaming names → (m : S) (e : Event) →
+    next m (renamed_event names e) ≡ next m e
+
+-- so many steps of a thread that are taken at once lead from one to the other, but for names of objects
 pub record Reaches {S : Type 0} (file : File) (p q : Noticed S) (thread steps : ℕ) : Type 0 where
-  pub leads : LeadsTo at_once file p.configuration (replicate steps thread) q.configuration
+  pub last : Configuration
+  pub leads : LeadsTo at_once file p.configuration (replicate steps thread) last
+  pub other : IsOther q.configuration last
   pub noted_still : q.noted ≡ p.noted
 
 -- such steps lead to one of the list
@@ -64,11 +84,11 @@ module _ {S : Type 0} (first : S) where
   pairs_at t states nodes = map (λ n. noticed_at t states n.place) nodes
 
 module _ {S : Type 0} (first : S) (next : S → Event → S) (file : File) (program : Program) where
-  -- it comes after an earlier one by a thread's steps
+  -- it comes after an earlier one by a thread's steps, but for names of objects
   pub record IsAfter (pairs : List (Noticed S)) (node : Node) (p : Noticed S) : Type 0 where
     pub earlier : Noticed S
     pub there : slice_get pairs node.before ≡ Some earlier
-    pub is : fold (noticed_after first next file program) earlier (replicate node.steps node.thread) ≡ p
+    pub is : IsLike p (fold (noticed_after first next file program) earlier (replicate node.steps node.thread))
 
   -- each comes after an earlier one, but the first
   pub record IsLinked (pairs : List (Noticed S)) (at : ℕ) (node : Node) (p : Noticed S) : Type 0 where
@@ -77,6 +97,8 @@ module _ {S : Type 0} (first : S) (next : S → Event → S) (file : File) (prog
 
   pub record IsSound (threads : ℕ) (t : Table) (states : List S) (nodes : List Node) : Type 0 where
     pub file_is : t.file ≡ file
+    pub constants : FileHasConstants file
+    pub hides : HidesNames next
     pub are : (at : ℕ) (n : Node) → slice_get nodes at ≡ Some n → IsNode t states threads n.place
     pub linked : (at : ℕ) (n : Node) (p : Noticed S) → slice_get nodes at ≡ Some n →
         slice_get (pairs_at first t states nodes) at ≡ Some p → IsLinked (pairs_at first t states nodes) at n p

@@ -6,11 +6,12 @@ ghost use Rattle.std.specs.Prelude.{◌&&◌, not, slice_get, slice_index_or};
 ghost use Rattle.std.specs.List.{fold};
 ghost use Rattle.ls_checked.specs.Plain.{plain_file};
 ghost use Rattle.ls_checked.specs.PlainProgram.{plain_program};
+ghost use Rattle.ls_meaning.specs.Constants.{FileHasConstants};
 ghost use Rattle.ls_search_laws.specs.Noticing.{Noticed, noticed_after};
 ghost use Rattle.ls_transitions.specs.Seen.{table_of};
 ghost use Rattle.ls_search.specs.declared.places.Seen.{Seen as SeenValue};
 ghost use Rattle.ls_search.specs.Places.{AreThere};
-ghost use Rattle.ls_search.specs.Searched.{AreExpanded};
+ghost use Rattle.ls_search.specs.Searched.{AreExpanded, HidesNames};
 ghost use Rattle.ls_search.specs.SeenSearch.{IsSoundSearch, pairs_of};
 ghost use Rattle.ls_search.specs.Answers.{ClosesAll, IsStuck, root_of};
 
@@ -21,6 +22,7 @@ use crate::paths::path_to;
 use crate::places::{Node, Place, Seen};
 use crate::searching::{Ground, Search, place_at};
 use ls_observers::observer::Observer;
+use ls_renumbering::renumbering::Renumbering;
 use ls_transitions::transitions::Transitions;
 use std::alloc::{AllocError, Global};
 
@@ -110,6 +112,8 @@ fn start<'a, O: Observer>(
     requires numbers { AreThere (table_of transitions) root.store root.works.items }
     requires file { (table_of transitions).file ≡ plain_file ground.now.file.now }
     requires width { length root.works.items ≡ ground.now.threads }
+    requires constants { FileHasConstants (plain_file ground.now.file.now) }
+    requires hides { HidesNames (O.next ground.now.observer.now) }
     ensures sound { IfOk result (λ s. IsSoundSearch (O.first ground.now.observer.now) (O.next ground.now.observer.now)
         (O.stands ground.now.observer.now) (plain_file ground.now.file.now) (plain_program ground.now.program.now)
         ground.now.threads s) }
@@ -140,6 +144,7 @@ fn start<'a, O: Observer>(
     let found = Nodes::first(ground.alloc, node)?;
     Ok(Search {
         transitions,
+        renumbering: Renumbering::new(ground.alloc),
         pool,
         found,
         seen: Vec::new(ground.alloc),
@@ -205,7 +210,7 @@ fn stuck_path<O: Observer>(
     }
 }
 
-/// Looks for all that the root leads to. Each thread acts in turn at each state that was found, and turns and enterings
+/// Looks for all that the root leads to, but for names of objects. Each thread acts in turn at each state that was found, and turns and enterings
 /// after that are taken at once. At most so many states are kept. A refusal is that memory ran out, or that a store, a
 /// work or a state has no number left.
 pub fn search_from<'a, O: Observer>(
@@ -216,10 +221,12 @@ pub fn search_from<'a, O: Observer>(
     requires numbers { AreThere (table_of transitions) root.store root.works.items }
     requires file { (table_of transitions).file ≡ plain_file ground.now.file.now }
     requires width { length root.works.items ≡ ground.now.threads }
+    requires constants { FileHasConstants (plain_file ground.now.file.now) }
+    requires hides { HidesNames (O.next ground.now.observer.now) }
     requires most { ground.now.most ≤ 4096 }
     requires room { 1 ≤ ground.now.limit }
     ensures closes { IfOk result (λ f. IsTrue f.complete →
-        ClosesAll (O.first ground.now.observer.now) (O.next ground.now.observer.now) (O.bad ground.now.observer.now)
+        ClosesAll (O.stands ground.now.observer.now) (O.first ground.now.observer.now) (O.next ground.now.observer.now) (O.bad ground.now.observer.now)
         (plain_file ground.now.file.now) (plain_program ground.now.program.now) ground.now.threads
         (root_of (O.stands ground.now.observer.now) (table_of transitions.entry) root) f.bad f.stuck) }
     ensures bad { IfOk result (λ f. IfSome f.bad (λ path. O.bad ground.now.observer.now

@@ -8,6 +8,7 @@ ghost use Rattle.ls_checked.specs.PlainProgram.{plain_program};
 ghost use Rattle.ls_search_laws.specs.Noticing.{Noticed, noticed_after};
 ghost use Rattle.ls_search.specs.declared.places.Node.{Node as NodeValue};
 ghost use Rattle.ls_search.specs.Found.{IsLinkOf};
+ghost use Rattle.ls_search.specs.Searched.{IsLike};
 ghost use Rattle.ls_search.specs.SeenSearch.{IsSoundSearch, pairs_of};
 
 use crate::places::Node;
@@ -56,7 +57,7 @@ fn push_times(threads: &mut Vec<u8>, thread: u8, count: usize) -> Result<(), All
     Ok(())
 }
 
-/// The threads whose steps lead from the first state to the one at a place.
+/// The threads whose steps lead from the first state to the one at a place, but for names of objects.
 pub(crate) fn path_to<O: Observer>(
     ground: &Ground<'_, O>,
     search: &Search<'_, O::Noted>,
@@ -71,8 +72,8 @@ pub(crate) fn path_to<O: Observer>(
         r →
         slice_get (pairs_of (O.first ground.now.observer.now) (O.stands ground.now.observer.now) search.now) at ≡ Some
         p →
-        fold (noticed_after (O.first ground.now.observer.now) (O.next ground.now.observer.now)
-        (plain_file ground.now.file.now) (plain_program ground.now.program.now)) r path.items ≡ p) }
+        IsLike p (fold (noticed_after (O.first ground.now.observer.now) (O.next ground.now.observer.now)
+        (plain_file ground.now.file.now) (plain_program ground.now.program.now)) r path.items)) }
 {
     let mut place = at;
     let mut threads = Vec::new(ground.alloc);

@@ -5,6 +5,7 @@ ghost use Rattle.std.specs.Prelude.{map};
 ghost use Rattle.std.specs.Prelude.{nat_eq, true, if◌then◌else◌, slice_get};
 ghost use Rattle.ls_checked.specs.Plain.{plain_file};
 ghost use Rattle.ls_checked.specs.PlainProgram.{plain_program};
+ghost use Rattle.ls_meaning.specs.Constants.{FileHasConstants};
 ghost use Rattle.ls_meaning.specs.Runs.{has_ended};
 ghost use Rattle.ls_search_laws.specs.Configuration.{stride};
 ghost use Rattle.ls_search_laws.specs.Noticing.{Noticed, noticed_after};
@@ -15,7 +16,7 @@ ghost use Rattle.ls_transitions.specs.Seen.{table_of};
 ghost use Rattle.ls_search.specs.declared.places.Node.{Node as NodeValue};
 ghost use Rattle.ls_search.specs.Places.{IsThere, configuration_of};
 ghost use Rattle.ls_search.specs.Strides.{ActsBy, HasStarted, IsStrideBy};
-ghost use Rattle.ls_search.specs.Searched.{ActsIn, AreExpanded, IsLooked, IsNode, Reaches, noticed_at, seen_with};
+ghost use Rattle.ls_search.specs.Searched.{ActsIn, AreExpanded, IsLooked, IsNode, IsOther, Reaches, noticed_at, seen_with};
 ghost use Rattle.ls_search.specs.SeenSearch.{IsSoundSearch, pairs_of};
 
 use crate::advancing::{settle, take};
@@ -26,6 +27,7 @@ use crate::places::{Looked, Node, Place, Seen};
 use ls_checked::program::Program;
 use ls_checked::tree::File;
 use ls_observers::observer::Observer;
+use ls_renumbering::renumbering::Renumbering;
 use ls_transitions::moves::{Move, Step};
 use ls_transitions::transitions::Transitions;
 use std::alloc::{AllocError, Global};
@@ -49,6 +51,7 @@ pub struct Ground<'a, O> {
 #[derive(Drop)]
 pub struct Search<'a, N> {
     pub transitions: Transitions<'a>,
+    pub renumbering: Renumbering,
     pub pool: Pool<N>,
     pub found: Nodes,
     pub seen: Vec<Seen>,
@@ -126,10 +129,37 @@ pub fn step_from<'a>(
     move_of(alloc, transitions, place, thread)
 }
 
+/// Numbers the objects of a state as they are reached.
+fn renumber<'a>(
+    alloc: Global,
+    transitions: &mut Transitions<'a>,
+    renumbering: &mut Renumbering,
+    place: Place,
+) -> Result<Place, AllocError>
+    requires there { IsThere (table_of transitions.old) place }
+    requires constants { FileHasConstants (table_of transitions.old).file }
+    ensures other { IfOk result (λ p. IsOther (configuration_of (table_of transitions.new) p)
+        (configuration_of (table_of transitions.old) place)) }
+    ensures there { IfOk result (λ p. IsThere (table_of transitions.new) p) }
+    ensures width { IfOk result (λ p. length p.works.items ≡ length place.works.items) }
+    ensures noted { IfOk result (λ p. p.noted ≡ place.noted) }
+    ensures grows { Grows (table_of transitions.old) (table_of transitions.new) }
+{
+    match renumbering.renumber(alloc, transitions, place.store, &place.works)? {
+        None => Ok(place),
+        Some(numbered) => Ok(Place {
+            store: numbered.store,
+            works: numbered.works,
+            noted: place.noted,
+        }),
+    }
+}
+
 /// The state after a thread's action, and after its steps at once after that.
 fn go_on<'a, O: Observer>(
     ground: &Ground<'_, O>,
     transitions: &mut Transitions<'a>,
+    renumbering: &mut Renumbering,
     pool: &mut Pool<O::Noted>,
     place: &Place,
     thread: u8,
@@ -138,6 +168,7 @@ fn go_on<'a, O: Observer>(
     requires there { IsThere (table_of transitions.old) place.now }
     requires noted { place.now.noted < length pool.old.values.items }
     requires within { thread < length place.now.works.items }
+    requires constants { FileHasConstants (table_of transitions.old).file }
     requires started { HasStarted (configuration_of (table_of transitions.old) place.now) thread }
     requires acts { ActsBy (table_of transitions.old) place.now.works.items thread step.now
         (stride (table_of transitions.old).file (configuration_of (table_of transitions.old) place.now) thread) }
@@ -168,6 +199,7 @@ fn go_on<'a, O: Observer>(
         &step.action,
     )?;
     let steps = settle(ground.alloc, transitions, &mut place, thread, ground.most)?;
+    let place = renumber(ground.alloc, transitions, renumbering, place)?;
     Ok(After { place, steps })
 }
 
@@ -213,6 +245,7 @@ fn reach<O: Observer>(
     let after = go_on(
         ground,
         &mut search.transitions,
+        &mut search.renumbering,
         &mut search.pool,
         place,
         thread,

@@ -9,6 +9,7 @@ ghost use Rattle.ls_search_laws.specs.Noticing.{StaysBad};
 ghost use Rattle.ls_search_laws.specs.Stepping.{SetsUp};
 ghost use Rattle.ls_state_space.specs.Verdicts.{AllGood, LeavesStuck, NeverStuck};
 
+use crate::nameless::Nameless;
 use ls_checked::program::Program;
 use ls_checked::tree::File;
 use ls_observers::observer::Observer;
@@ -30,7 +31,8 @@ pub struct Finding {
 }
 
 /// Has an observer look at the histories of all schedules of a program, by the states that threads lead to. At most so
-/// many states are kept. A refusal is that memory ran out, or that a store, a work or a state has no number left.
+/// many states are kept. A refusal is that memory ran out, or that a store, a work or a state has no number left. A call
+/// that answers an object is refused too: the calls of a program that was read answer none.
 pub fn verdict<O: Observer>(
     alloc: Global,
     observer: &O,
@@ -63,7 +65,8 @@ pub fn verdict<O: Observer>(
             stuck: None,
         });
     }
-    let told = search_run(alloc, observer, file, program, limit)?;
+    let nameless = Nameless { observer };
+    let told = search_run(alloc, &nameless, file, program, limit)?;
     let Found {
         complete,
         states,

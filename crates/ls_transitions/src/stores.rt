@@ -49,8 +49,8 @@ fn are_same_items(items: &BTreeMap<u32, Value>, others: &BTreeMap<u32, Value>) -
     are_same_entries(items, others)
 }
 
-// Whether a thing is the other.
-fn is_same_thing(thing: &Thing, other: &Thing) -> bool
+/// Whether a thing is the other. True only where it is.
+pub fn is_same_thing(thing: &Thing, other: &Thing) -> bool
     ensures { IsTrue result → thing_of thing.now ≡ thing_of other.now }
 {
     match (thing, other) {
@@ -111,7 +111,8 @@ fn copy_items(
     Err(AllocError)
 }
 
-fn copy_thing(alloc: Global, thing: &Thing) -> Result<Thing, AllocError>
+/// The same thing once more. The only refusal is that memory ran out.
+pub fn copy_thing(alloc: Global, thing: &Thing) -> Result<Thing, AllocError>
     ensures { IfOk result (λ t. thing_of t ≡ thing_of thing.now) }
 {
     match thing {

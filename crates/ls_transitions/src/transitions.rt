@@ -75,6 +75,22 @@ impl<'a> Transitions<'a> {
         self.tables.keep_work(alloc, work)
     }
 
+    /// The store of a number.
+    pub fn store_at(&self, store: usize) -> &Store
+        requires { store < length (table_of self.now).stores }
+        ensures { slice_get (table_of self.now).stores store ≡ Some (store_of result.now) }
+    {
+        &self.tables.stores[store]
+    }
+
+    /// What a thread still has to do, by its number.
+    pub fn work_at(&self, work: usize) -> &Thread<'a>
+        requires { work < length (table_of self.now).works }
+        ensures { slice_get (table_of self.now).works work ≡ Some (thread_of result.now) }
+    {
+        &self.tables.works[work]
+    }
+
     // A move is kept. If memory runs out, it is not.
     fn keep(&mut self, alloc: Global, sum: u64, row: Row) -> Result<(), AllocError>
         requires { IsKnown (table_of self.old) row.thread row.store row.work row.made }

@@ -17,11 +17,12 @@ returns-clause-closes g c = λ complete.
     let first = g.O.Observer.first c.args.observer.now in
     let next = g.O.Observer.next c.args.observer.now in
     let is_bad = g.O.Observer.bad c.args.observer.now in
+    let stands = g.O.Observer.stands c.args.observer.now in
     let len_is : c.len.result ≡ length c.args.program.now.threads.items = search rules in
-    subst (λ (n : ℕ). ClosesAll first next is_bad file program n
+    subst (λ (n : ℕ). ClosesAll stands first next is_bad file program n
     (noticed_of first next file program (replicate c.in_ok-steps.field-0.steps 0)) c.in_ok-found.found.bad
     c.in_ok-found.found.stuck) (len_is ∙ sym (length-map c.args.program.now.threads.items plain_thread))
-    (subst (λ (r : Noticed g.O.Observer.State). ClosesAll first next is_bad file program
+    (subst (λ (r : Noticed g.O.Observer.State). ClosesAll stands first next is_bad file program
     c.len.result r c.in_ok-found.found.bad c.in_ok-found.found.stuck)
     c.in_ok-steps.ensures.root (c.in_ok-found.ensures.closes complete))
 

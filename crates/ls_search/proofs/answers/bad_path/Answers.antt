@@ -18,6 +18,5 @@ returns-in_ok-path-in-Some-clause-some g c = λ r r_here.
           c.args.search.now.found.nodes.items,
     ) in
     let p = there pairs c.in-Some.at within in
-    ap (λ (q : Noticed g.O.Observer.State). g.O.Observer.bad c.args.ground.now.observer.now q.noted)
-    (c.in_ok-path-in-Some.ensures r p.0 r_here p.1)
+    ap (g.O.Observer.bad c.args.ground.now.observer.now) (c.in_ok-path-in-Some.ensures r p.0 r_here p.1).noted
     ∙ c.in-Some.ensures.some p.0 p.1

@@ -9,6 +9,7 @@ use Rattle.ls_search_laws.specs.Noticing.{Noticed, noticed_after}
 use Rattle.ls_transitions.specs.Seen.{table_of}
 use Rattle.ls_search.specs.Answers.{IsStuck, root_of}
 use Rattle.ls_search.specs.SeenSearch.{pairs_of}
+use Rattle.ls_search.proofs.Pairs.{map_from}
 use Rattle.ls_search.proofs.Telling.{closes_all, some_map}
 use Rattle.ls_search.proofs.answers.search_from.Goals as goal
 
@@ -27,7 +28,8 @@ returns-clause-closes g c = λ complete.
     (map stands c.close.new.search.pool.values.items) c.close.new.search.found.nodes.items
     c.in_ok-complete.ensures.sound
     c.close.new.search.seen.items c.in_ok-complete.ensures.expanded (c.in_ok-complete.ensures.all complete)
-    (g.O.Observer.bad c.args.ground.now.observer.now) root c.in_ok-bad.bad c.in_ok-stuck.stuck begins
+    stands (g.O.Observer.bad c.args.ground.now.observer.now) root c.in_ok-bad.bad c.in_ok-stuck.stuck
+    (λ k s e. let m = map_from stands c.close.new.search.pool.values.items k s e in (m.0, m.2)) begins
     c.in_ok-bad.ensures.none c.in_ok-stuck.ensures.none
 
 pub returns-clause-bad : goal.returns-clause-bad

@@ -25,7 +25,7 @@ returns-clause-sound g c =
     subst (λ (nodes : List Node). IsSound first next (plain_file c.args.ground.now.file.now)
     (plain_program c.args.ground.now.program.now) c.args.ground.now.threads t states nodes) (sym c.in_ok-found.ensures)
     (sound_first first next (plain_file c.args.ground.now.file.now) (plain_program c.args.ground.now.program.now)
-    c.args.ground.now.threads t states node c.requires.file refl (record {
+    c.args.ground.now.threads t states node c.requires.file c.requires.constants c.requires.hides refl (record {
       numbers = c.requires.numbers;
       noted_there = below states c.in_ok-noted.noted
           (g.O.Observer.stands c.args.ground.now.observer.now c.args.root.noted) c.in_ok-noted.ensures.number;

@@ -10,6 +10,7 @@ use Rattle.ls_search.specs.declared.places.Seen.{Seen}
 use Rattle.ls_search.specs.Answers.{IsStuck}
 use Rattle.ls_search.specs.SeenSearch.{pairs_of}
 use Rattle.ls_search.proofs.Expanding.{pairs_length}
+use Rattle.ls_search.proofs.Likeness.{stuck_other}
 use Rattle.ls_search.proofs.Telling.{stuck_there}
 use Rattle.ls_search.proofs.answers.stuck_path.Goals as goal
 
@@ -33,8 +34,8 @@ returns-in_ok-path-in-Some-clause-some g c = λ r r_here.
       pairs_length first t states c.args.search.now.found.nodes.items,
     ) in
     let p = there pairs at within in
-    subst (λ (q : Noticed g.O.Observer.State). IsStuck (plain_file c.args.ground.now.file.now) q.configuration)
-    (sym (c.in_ok-path-in-Some.ensures r p.0 r_here p.1))
+    let like = c.in_ok-path-in-Some.ensures r p.0 r_here p.1 in
+    stuck_other (plain_file c.args.ground.now.file.now) p.0.configuration _ like.other
     (stuck_there first next (plain_file c.args.ground.now.file.now) (plain_program c.args.ground.now.program.now)
     c.args.ground.now.threads t states c.args.search.now.found.nodes.items c.requires.sound at p.0 s p.1
     (c.requires.expanded at p.0 s p.1 s_here) c.in-Some.ensures.some.2 c.in-Some.ensures.some.3)

@@ -7,6 +7,7 @@ use Rattle.ls_transitions.specs.Seen.{table_of}
 use Rattle.ls_search.specs.declared.places.Node.{Node}
 use Rattle.ls_search.specs.Found.{IsLinkOf}
 use Rattle.ls_search.proofs.Following.{Follows, follows_all, follows_more, link_within}
+use Rattle.ls_search.proofs.Likeness.{like_same}
 use Rattle.ls_search.proofs.paths.path_to.Goals as goal
 
 some_is : {A : Type 0} {x y : A} → Some x ≡ Some y → x ≡ y
@@ -19,7 +20,7 @@ loop-link-init g c = record {
       subst (λ (ts : List ℕ). Follows (g.O.Observer.first c.args.ground.now.observer.now)
       (g.O.Observer.next c.args.ground.now.observer.now) (plain_file c.args.ground.now.file.now)
       (plain_program c.args.ground.now.program.now) q ts p) (sym c.new-threads.ensures.items)
-      (some_is (sym q_here ∙ p_here));
+      (like_same p q (some_is (sym q_here ∙ p_here)));
 }
 
 pub loop-link-preserved : goal.loop-link-preserved

@@ -2,6 +2,7 @@ use Rattle.std.proofs.Common.{◌≡◌, ◌+◌, List, length, map, Some, refl,
 use Rattle.std.specs.Prelude.{slice_get}
 use Rattle.ls_checked.specs.Plain.{plain_file}
 use Rattle.ls_checked.specs.PlainProgram.{plain_program}
+use Rattle.ls_meaning.specs.Constants.{FileHasConstants}
 use Rattle.ls_search_laws.specs.Configuration.{stride}
 use Rattle.ls_search_laws.specs.Noticing.{noticed_after}
 use Rattle.ls_transitions.specs.Tables.{Table}
@@ -22,6 +23,9 @@ go_on-requires-clause-acts g c =
     ap (λ l. slice_get l c.args.at) (sym c.deref.ensures.value) ∙ c.place_at-place.ensures.1 in
     subst (λ (p : Place). ActsBy t p.works.items c.args.thread c.args.step.now
     (stride t.file (configuration_of t p) c.args.thread)) (sym c.place_at-place.ensures.2) (c.requires.acts n here)
+
+pub go_on-requires-clause-constants : goal.go_on-requires-clause-constants
+go_on-requires-clause-constants g c = subst FileHasConstants (sym c.requires.sound.file_is) c.requires.sound.constants
 
 pub returns-clause-sound : goal.returns-clause-sound
 returns-clause-sound g c =

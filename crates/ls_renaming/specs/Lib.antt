@@ -1,0 +1,4 @@
+pub mod Names
+pub mod Seen
+pub mod Constants
+pub mod Nameless

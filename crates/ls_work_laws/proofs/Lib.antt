@@ -1,0 +1,4 @@
+pub mod CopiedExpressions
+pub mod CopiedStatements
+pub mod CopiedThreads
+pub mod Frames
