@@ -107,7 +107,8 @@ fn bad_answer(
     judged: &Judged,
     path: &[u8],
 ) -> Result<String, ToolFault>
-    ensures { (limit : ℕ) → ¬ AreBadStates limit → IsExtent limit judged.now.states judged.now.complete →
+    ensures { (limit : ℕ) → ¬ AreBadStates limit →
+        IsExtent (file_of image.now) (program_of image.now) limit judged.now.states judged.now.complete →
         IsNotLinearizable (file_of image.now) (program_of image.now) (replicate judged.now.setup 0 ++ path.now) →
         GivesText (Decided image.now limit) result }
 {
@@ -124,7 +125,8 @@ fn doubtful_answer(
     doubt: Doubt,
     path: &[u8],
 ) -> Result<String, ToolFault>
-    ensures { (limit : ℕ) → ¬ AreBadStates limit → IsExtent limit judged.now.states judged.now.complete →
+    ensures { (limit : ℕ) → ¬ AreBadStates limit →
+        IsExtent (file_of image.now) (program_of image.now) limit judged.now.states judged.now.complete →
         IsDoubt (file_of image.now) (program_of image.now) usual doubt →
         (IsTrue judged.now.complete → NeverStuck (file_of image.now) (program_of image.now)) →
         GivesText (Decided image.now limit) result }
@@ -143,7 +145,8 @@ fn stuck_and_doubtful_answer(
     doubt: Doubt,
     path: &[u8],
 ) -> Result<String, ToolFault>
-    ensures { (limit : ℕ) → ¬ AreBadStates limit → IsExtent limit judged.now.states judged.now.complete →
+    ensures { (limit : ℕ) → ¬ AreBadStates limit →
+        IsExtent (file_of image.now) (program_of image.now) limit judged.now.states judged.now.complete →
         LeavesStuck (file_of image.now) (program_of image.now) (replicate judged.now.setup 0 ++ stuck.now) →
         IsDoubt (file_of image.now) (program_of image.now) usual doubt →
         GivesText (Decided image.now limit) result }
@@ -162,7 +165,8 @@ fn stuck_answer(
     judged: &Judged,
     path: &[u8],
 ) -> Result<String, ToolFault>
-    ensures { (limit : ℕ) → ¬ AreBadStates limit → IsExtent limit judged.now.states judged.now.complete →
+    ensures { (limit : ℕ) → ¬ AreBadStates limit →
+        IsExtent (file_of image.now) (program_of image.now) limit judged.now.states judged.now.complete →
         LeavesStuck (file_of image.now) (program_of image.now) (replicate judged.now.setup 0 ++ path.now) →
         (IsTrue judged.now.complete → AllLinearizable (file_of image.now) (program_of image.now)) →
         GivesText (Decided image.now limit) result }
@@ -174,7 +178,8 @@ fn stuck_answer(
 
 /// The text that no run is wrong.
 fn free_answer(alloc: Global, image: &Image, judged: &Judged) -> Result<String, ToolFault>
-    ensures { (limit : ℕ) → ¬ AreBadStates limit → IsExtent limit judged.now.states judged.now.complete →
+    ensures { (limit : ℕ) → ¬ AreBadStates limit →
+        IsExtent (file_of image.now) (program_of image.now) limit judged.now.states judged.now.complete →
         (IsTrue judged.now.complete → AllLinearizable (file_of image.now) (program_of image.now)) →
         (IsTrue judged.now.complete → NeverStuck (file_of image.now) (program_of image.now)) →
         GivesText (Decided image.now limit) result }
@@ -194,7 +199,8 @@ fn judged_of(alloc: Global, image: &Image, states: usize) -> Result<Judged, Allo
         (NeverStuck (file_of image.now) (program_of image.now))) }
     ensures stuck { IfOk result (λ j. IfSome j.stuck (λ path.
         LeavesStuck (file_of image.now) (program_of image.now) (replicate j.setup 0 ++ path.items))) }
-    ensures extent { IfOk result (λ j. IsExtent states j.states j.complete) }
+    ensures extent { IfOk result (λ j.
+        IsExtent (file_of image.now) (program_of image.now) states j.states j.complete) }
 {
     let judged = judge_schedules(alloc, image.checked().file(), image.program(), states)?;
     Ok(judged)
@@ -208,7 +214,8 @@ fn doubted_answer(
     doubt: Doubt,
     path: &[u8],
 ) -> Result<String, ToolFault>
-    ensures { (limit : ℕ) → ¬ AreBadStates limit → IsExtent limit judged.now.states judged.now.complete →
+    ensures { (limit : ℕ) → ¬ AreBadStates limit →
+        IsExtent (file_of image.now) (program_of image.now) limit judged.now.states judged.now.complete →
         IsDoubt (file_of image.now) (program_of image.now) usual doubt →
         (IsTrue judged.now.complete → IfNone judged.now.stuck
         (NeverStuck (file_of image.now) (program_of image.now))) →
@@ -236,7 +243,8 @@ fn wrong_answer(
     judged: &Judged,
     path: &[u8],
 ) -> Result<String, ToolFault>
-    ensures { (limit : ℕ) → ¬ AreBadStates limit → IsExtent limit judged.now.states judged.now.complete →
+    ensures { (limit : ℕ) → ¬ AreBadStates limit →
+        IsExtent (file_of image.now) (program_of image.now) limit judged.now.states judged.now.complete →
         IfNone judged.now.doubt
         (IsNotLinearizable (file_of image.now) (program_of image.now) (replicate judged.now.setup 0 ++ path.now)) →
         IfSome judged.now.doubt (IsDoubt (file_of image.now) (program_of image.now) usual) →
