@@ -1,7 +1,5 @@
 -- What `explore --verdict` says.
 use Rattle.std.specs.Prelude.{◌≡◌, ◌≤◌, ℕ, Bool, true, false, List, Result, Ok, Err}
-use Rattle.ls_checked.specs.CheckedTree.{File}
-use Rattle.ls_checked.specs.CheckedProgram.{Program}
 use Rattle.ls_image.specs.declared.image.Image.{Image}
 use Rattle.ls_translation.specs.Texts.{file_of, program_of}
 use Rattle.ls_translation.specs.declared.fault.TranslationFault.TheVariants as translation
@@ -15,17 +13,14 @@ use Rattle.ls_fewest_switches.specs.Switches.{HasFewest}
 use Rattle.ls_serial_search.specs.Told.{IsDoubt, usual}
 use Rattle.ls_serial_search.specs.declared.telling.Doubt.{Doubt}
 use Rattle.ls_source_judge.specs.Judged.{AllLinearizable, IsNotLinearizable}
-use Rattle.ls_state_space.specs.Verdicts.{AreReached, LeavesStuck, NeverStuck}
+use Rattle.ls_state_space.specs.Verdicts.{LeavesStuck, NeverStuck}
 use Rattle.ls_explore_commands.specs.Explored.{names_in}
 use Rattle.ls_explore_commands.specs.Reports.{bad_text, doubtful_text, free_text, stuck_and_doubtful_text, stuck_text}
 
--- At most so many states were kept; and if these aren't all, so many. After the setup there are as many schedules: each
--- goes on from an earlier one by steps of a thread that acts there, and no two from the same one by the same thread.
-pub record IsExtent (file : File) (program : Program) (limit states : ℕ) (complete : Bool) : Type 0 where
+-- at most so many states were kept; and if these aren't all, so many
+pub record IsExtent (limit states : ℕ) (complete : Bool) : Type 0 where
   pub within : states ≤ limit
   pub cut : complete ≡ false → states ≡ limit
-  pub setup : ℕ
-  pub reached : AreReached file program setup states
 
 -- The text of a verdict, or why there is none. If all states were kept, it is said of each schedule, of any length. If the
 -- context switches of a run are printed, no schedule with its history has fewer; and of runs after which threads wait, none
@@ -35,14 +30,14 @@ pub data Decided (i : Image) (limit : ℕ) : Result Text ToolFault → Type 0 wh
   -- the history of this schedule isn't linearizable
   IsBad : (schedule : List ℕ) (fewest : Bool) (states : ℕ) (complete : Bool) →
       ¬ AreBadStates limit →
-      IsExtent (file_of i) (program_of i) limit states complete →
+      IsExtent limit states complete →
       IsNotLinearizable (file_of i) (program_of i) schedule →
       (fewest ≡ true → HasFewest false (file_of i) (program_of i) schedule) →
       Decided i limit (Ok (bad_text fewest (names_in i) (names_of_image i) schedule states complete))
   -- no serial history that was found explains it, and some may not have been found, for this reason
   IsDoubtful : (doubt : Doubt) (schedule : List ℕ) (fewest : Bool) (states : ℕ) (complete : Bool) →
       ¬ AreBadStates limit →
-      IsExtent (file_of i) (program_of i) limit states complete →
+      IsExtent limit states complete →
       IsDoubt (file_of i) (program_of i) usual doubt →
       (complete ≡ true → NeverStuck (file_of i) (program_of i)) →
       (fewest ≡ true → HasFewest false (file_of i) (program_of i) schedule) →
@@ -51,7 +46,7 @@ pub data Decided (i : Image) (limit : ℕ) : Result Text ToolFault → Type 0 wh
   IsStuckAndDoubtful : (stuck : List ℕ) (stuck_fewest : Bool) (doubt : Doubt) (schedule : List ℕ) (fewest : Bool)
       (states : ℕ) (complete : Bool) →
       ¬ AreBadStates limit →
-      IsExtent (file_of i) (program_of i) limit states complete →
+      IsExtent limit states complete →
       LeavesStuck (file_of i) (program_of i) stuck →
       IsDoubt (file_of i) (program_of i) usual doubt →
       (stuck_fewest ≡ true → HasFewest true (file_of i) (program_of i) stuck) →
@@ -61,14 +56,14 @@ pub data Decided (i : Image) (limit : ℕ) : Result Text ToolFault → Type 0 wh
   -- after this schedule no thread acts, and one waits for a lock
   IsStuck : (schedule : List ℕ) (fewest : Bool) (states : ℕ) (complete : Bool) →
       ¬ AreBadStates limit →
-      IsExtent (file_of i) (program_of i) limit states complete →
+      IsExtent limit states complete →
       LeavesStuck (file_of i) (program_of i) schedule →
       (fewest ≡ true → HasFewest true (file_of i) (program_of i) schedule) →
       (complete ≡ true → AllLinearizable (file_of i) (program_of i)) →
       Decided i limit (Ok (stuck_text fewest (names_in i) (names_of_image i) schedule states complete))
   IsFree : (states : ℕ) (complete : Bool) →
       ¬ AreBadStates limit →
-      IsExtent (file_of i) (program_of i) limit states complete →
+      IsExtent limit states complete →
       (complete ≡ true → AllLinearizable (file_of i) (program_of i)) →
       (complete ≡ true → NeverStuck (file_of i) (program_of i)) →
       Decided i limit (Ok (free_text states complete))

@@ -13,7 +13,8 @@ use ls_source_store::thing::Thing;
 use ls_transitions::stores::is_same_thing;
 use std::alloc::{AllocError, Global};
 
-/// The store whose objects 1, 2 and so on are these of another. A store with an array that is reached has none.
+/// The store whose objects 1, 2 and so on are these of another. There is none if an item of an array that is reached
+/// names an object.
 pub(crate) fn chosen_store(
     alloc: Global,
     chosen: &[u64],

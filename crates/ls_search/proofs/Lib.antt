@@ -12,5 +12,3 @@ pub mod Unrenamed
 pub mod Telling
 pub mod Likeness
 pub mod Others
-pub mod Growing
-pub mod Trying

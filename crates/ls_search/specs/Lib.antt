@@ -4,5 +4,3 @@ pub mod Found
 pub mod Searched
 pub mod SeenSearch
 pub mod Answers
-pub mod Grown
-pub mod Tried
