@@ -82,7 +82,7 @@ version p = refl
 
 few_states : (p : ValueParser) →
     request_of p (codes "listset" ∷ codes "explore" ∷ codes "--states" ∷ codes "12" ∷ []) ≡
-    Some (plainly (request.Explore 65536 12 false false false))
+    Some (plainly (request.Explore None 12 false false false))
 unfolding clap_on_literals
 few_states p = refl
 
@@ -116,15 +116,21 @@ no_seed : (p : ValueParser) → request_of p (codes "listset" ∷ codes "sample"
 unfolding clap_on_literals
 no_seed p = refl
 
+few_cells : (p : ValueParser) →
+    request_of p (codes "listset" ∷ codes "explore" ∷ codes "--cells=99" ∷ codes "--first" ∷ []) ≡
+    Some (plainly (request.Explore (Some 99) 1000000 false true false))
+unfolding clap_on_literals
+few_cells p = refl
+
 first_illegal : (p : ValueParser) →
     request_of p (codes "listset" ∷ codes "explore" ∷ codes "--illegal" ∷ codes "--first" ∷ []) ≡
-    Some (plainly (request.Explore 65536 1000000 true true false))
+    Some (plainly (request.Explore None 1000000 true true false))
 unfolding clap_on_literals
 first_illegal p = refl
 
 with_progress : (p : ValueParser) →
     request_of p (codes "listset" ∷ codes "explore" ∷ codes "--progress" ∷ codes "--states=70000" ∷ []) ≡
-    Some (plainly (request.Explore 65536 70000 false false true))
+    Some (plainly (request.Explore None 70000 false false true))
 unfolding clap_on_literals
 with_progress p = refl
 

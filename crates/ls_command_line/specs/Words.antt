@@ -267,8 +267,8 @@ abbrev pub asked_explore : List Row → Request
 asked_explore rows =
     if flag_of (codes "verdict") rows
     then requests.Verdict (number_of (codes "states") 1000000 rows) (is_mixed rows)
-    else requests.Explore (cells_of rows) (number_of (codes "states") 1000000 rows) (flag_of (codes "illegal") rows)
-    (flag_of (codes "first") rows) (flag_of (codes "progress") rows)
+    else requests.Explore (number_asked (codes "cells") rows) (number_of (codes "states") 1000000 rows)
+    (flag_of (codes "illegal") rows) (flag_of (codes "first") rows) (flag_of (codes "progress") rows)
 
 -- which programs of a class are looked through
 abbrev pub asked_find : List Row → Seeking

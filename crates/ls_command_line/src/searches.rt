@@ -1,13 +1,26 @@
 // The commands `explore` and `find` as clap has them.
 
-ghost use Rattle.std.specs.Prelude.{◌≡◌, IfOk, false};
-ghost use Rattle.clap.specs.Words.{app_of};
+ghost use Rattle.std.specs.Prelude.{◌≡◌, IfOk, codes, false};
+ghost use Rattle.clap.specs.Words.{app_of, rule_of};
 ghost use Rattle.clap.specs.declared.builder.command.Command.TheViews.{out-Command};
-ghost use Rattle.ls_command_line.specs.Words.{bounds_line, explore_line, find_line, numbers_line};
+ghost use Rattle.ls_command_line.specs.Words.{bounds_line, explore_line, find_line, number_rule, numbers_line};
 
-use crate::line::{cells_option, flag_option, number_option, plain_command, with_option};
-use clap::Command;
+use crate::line::{flag_option, number_option, plain_command, with_option};
+use clap::{Arg, Command};
 use std::alloc::{AllocError, Global};
+
+/// The option of the machine that is explored in place of the source.
+fn machine_option<'a>(alloc: Global) -> Arg<'a>
+    ensures rule { rule_of result ≡ number_rule false (codes "cells") }
+    ensures local { result.global ≡ false }
+{
+    number_option(
+        alloc,
+        "cells",
+        false,
+        "explores a machine with so many words of memory, 1 to 4194304, and not the source",
+    )
+}
 
 pub(crate) fn explore_command<'a>(alloc: Global) -> Result<Command<'a>, AllocError>
     ensures shape { IfOk result (λ c. app_of c ≡ explore_line) }
@@ -26,7 +39,7 @@ pub(crate) fn explore_command<'a>(alloc: Global) -> Result<Command<'a>, AllocErr
         false,
         "how many states are kept at the most, 1 to 16777216 [default: 1000000]",
     );
-    let command = with_option(with_option(command, cells_option(alloc)), states);
+    let command = with_option(with_option(command, machine_option(alloc)), states);
     let illegal = flag_option(
         alloc,
         "illegal",

@@ -135,7 +135,8 @@ pub enum Request {
     },
     /// The cells of the machine, and the most states that are kept; which histories are printed.
     Explore {
-        cells: u64,
+        /// On so many cells, if a number is given.
+        cells: Option<u64>,
         states: u64,
         /// Only those without a legal order, or not linearizable.
         illegal: bool,
@@ -369,7 +370,7 @@ fn asked_explore(options: &ArgMatches<'_>) -> Request
         return Request::Verdict { states, mixed };
     }
     Request::Explore {
-        cells: number(options, "cells", CELLS),
+        cells: number_asked(options, "cells"),
         states,
         illegal: flag(options, "illegal"),
         first: flag(options, "first"),

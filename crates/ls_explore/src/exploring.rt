@@ -12,10 +12,10 @@ use crate::rows::Row;
 use crate::searching::{Seen, search};
 use crate::table::tell;
 use crate::walking::Ground;
-use crate::watching::Watch;
 use ls_code::code::Code;
 use ls_events::schedule::Schedule;
 use ls_machine::{LoadFault, Machine};
+use ls_source_rows::Watch;
 use std::alloc::{AllocError, Global};
 
 /// Histories with paths that lead to them, whether they are all, whether no machine ran out of cells, and how many

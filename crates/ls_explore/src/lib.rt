@@ -8,8 +8,7 @@ mod rows;
 mod searching;
 mod table;
 mod walking;
-mod watching;
 
 pub use exploring::{Exploration, Extent, explore};
+pub use ls_source_rows::{Nobody, Watch};
 pub use rows::{Ending, Row};
-pub use watching::{Nobody, Watch};

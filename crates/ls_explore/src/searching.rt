@@ -15,10 +15,10 @@ use crate::hints::Hints;
 use crate::links::{Link, Path};
 use crate::table::number_of;
 use crate::walking::{Ground, Place, go_back, has_acted, see};
-use crate::watching::Watch;
 use ls_code::step::{Did, is_stop};
 use ls_machine::{Machine, Saved, Shelf};
 use ls_machine_moves::stirring::stir;
+use ls_source_rows::Watch;
 use std::alloc::{AllocError, Global};
 
 /// What is seen of all threads after a path: whether one of them acts, and whether one of them would stop the machine

@@ -1,8 +1,8 @@
 -- What `explore` may answer.
-use Rattle.std.proofs.Common.{◌≡◌, ◌&&◌, ◌↔◌, ◌<◌, ◌≤◌, ◌⊎◌, inl, inr, ℕ, zero, suc, Bool, true, false, List, [], ◌∷◌}
-use Rattle.std.proofs.Common.{Result, Ok, Err, refl, sym, subst, arith}
+use Rattle.std.proofs.Common.{◌≡◌, ◌&&◌, ◌<◌, ◌≤◌, ◌⊎◌, inl, inr, ℕ, zero, suc, Bool, true, false}
+use Rattle.std.proofs.Common.{List, [], ◌∷◌, Option}
+use Rattle.std.proofs.Common.{Ok, Err, refl, sym, subst, arith}
 use Rattle.std.specs.Prelude.{All, IsErrOf, IsSorted, slice_index_or, length}
-use Rattle.ls_machine.specs.Room.{AreBadCells}
 use Rattle.ls_meaning.specs.Runs.{source_history}
 use Rattle.ls_checked.specs.CheckedTree.{File}
 use Rattle.ls_checked.specs.PlainProgram.{plain_program}
@@ -11,9 +11,7 @@ use Rattle.ls_image.specs.Images.{code_of_image, program_of_image}
 use Rattle.ls_image.specs.declared.image.Image.{Image}
 use Rattle.ls_translation.specs.Texts.{file_of, program_of}
 use Rattle.ls_explore.specs.Rows.{AreApart, TellStates, Told, row_order}
-use Rattle.ls_explore_images.specs.Faults.{AreBadStates, AreGood, IsEndless, IsOfSetup}
-use Rattle.ls_explore_images.specs.Tellings.{TellAll, TellTruth, TellWhole, schedule_of}
-use Rattle.ls_explore_images.specs.declared.exploring.ImageExploration.{ImageExploration}
+use Rattle.ls_explore_images.specs.Tellings.{TellTruth, TellWhole, schedule_of}
 use Rattle.ls_explore_images.specs.declared.fault.ExploreFault.{ExploreFault}
 use Rattle.ls_explore_images.specs.declared.fault.ExploreFault.TheVariants as explore
 use Rattle.ls_report.specs.Events.{Text}
@@ -25,6 +23,7 @@ use Rattle.ls_faults.specs.Faults.{lifted_explore, lifted_translation}
 use Rattle.ls_faults.specs.Given.{GivesText}
 use Rattle.ls_commands.specs.Compiled.{names_of_image}
 use Rattle.ls_explore_reports.specs.declared.printing.Exploring.{Exploring}
+use Rattle.ls_explore_commands.specs.Finding.{AreGoodFor, IsRefused, TellBy}
 use Rattle.ls_explore_commands.specs.Explored.{Explored, Endless, IsExploration, NoCells, NoStates, NotTranslated}
 use Rattle.ls_explore_commands.specs.Explored.{RowTooLong, Tells, names_in}
 use Rattle.ls_explore_reports.specs.Judged.{AreHistories, IsJudged, IsToldLinear, Judged, rows_of}
@@ -34,18 +33,19 @@ use Rattle.ls_explore_reports.specs.Printing.{explored_text}
 use Rattle.ls_explore_commands.specs.Readable.{SourceRunsAreReadable}
 
 -- what the rows tell, with the verdicts on them
-pub judged_so : LinearityIsMeant → NoneIllegal → NoneIsNotLinearizable → (i : Image) (cells limit k : ℕ) (rows : List Told) (judged : List Judged) (kept : ℕ)
+pub judged_so : LinearityIsMeant → NoneIllegal → NoneIsNotLinearizable →
+    (i : Image) (count : Option ℕ) (limit k : ℕ) (rows : List Told) (judged : List Judged) (kept : ℕ)
     (complete roomy : Bool) →
     rows_of judged ≡ rows →
     TellTruth (file_of i) (program_of i) k rows →
     TellStates (file_of i) (program_of i) k rows kept →
     (complete ≡ false → limit ≤ kept) →
-    (complete ≡ true → TellAll (file_of i) (program_of i) cells rows) →
+    TellBy count (file_of i) (program_of i) limit k rows kept complete roomy →
     (complete ≡ true → roomy ≡ true → TellWhole (file_of i) (program_of i) rows) → AreApart rows →
     IsSorted row_order rows → All (IsJudged (program_of i)) judged →
     All (IsToldLinear (file_of i) (program_of i) (complete && roomy) rows) judged →
-    IsExploration i cells limit k judged kept complete roomy
-judged_so meant legal linearizable i cells limit k rows judged kept complete roomy e truth states cut all whole apart
+    IsExploration i count limit k judged kept complete roomy
+judged_so meant legal linearizable i count limit k rows judged kept complete roomy e truth states cut by whole apart
     order verdicts linear =
     let so : TellTruth (file_of i) (program_of i) k (rows_of judged) =
     subst (TellTruth (file_of i) (program_of i) k) (sym e) truth in
@@ -57,7 +57,7 @@ judged_so meant legal linearizable i cells limit k rows judged kept complete roo
       truth = so;
       states = subst (λ rs. TellStates (file_of i) (program_of i) k rs kept) (sym e) states;
       cut = cut;
-      all = λ yes. subst (TellAll (file_of i) (program_of i) cells) (sym e) (all yes);
+      by = subst (λ rs. TellBy count (file_of i) (program_of i) limit k rs kept complete roomy) (sym e) by;
       whole = each;
       apart = subst AreApart (sym e) apart;
       order = subst (IsSorted row_order) (sym e) order;
@@ -104,31 +104,19 @@ rows_named i k rows readable truth = λ n d lt.
     subst (IsHistoryOf (program_of i)) (sym (truth.told r (n, lt, any_default rows n r d lt))) of_run
 
 module _ (i : Image) (e : Exploring) where
-  abbrev Refused : ExploreFault → Result ImageExploration ExploreFault
-  Refused f = Err f
-
-  pub explore_fails : (f : ExploreFault) →
-      (IsErrOf (Refused f) explore.BadCells ↔ AreBadCells (code_of_image i).names e.cells) →
-      (IsErrOf (Refused f) explore.BadStates ↔
-      (¬ AreBadCells (code_of_image i).names e.cells × AreBadStates e.states)) →
-      IsErrOf (Refused f) explore.Memory ⊎ (IsErrOf (Refused f) explore.SetupEndless ↔
-      IsEndless (file_of i) (program_of i) (code_of_image i) e.cells e.states) →
-      IsOfSetup (file_of i) (program_of i) (code_of_image i) e.cells e.states f →
+  pub explore_fails : (f : ExploreFault) → IsRefused i e.cells e.states f →
       GivesText (Explored i e) (Err (lifted_explore f))
-  explore_fails explore.Memory bad many endless setup = tt
-  explore_fails explore.BadCells bad many endless setup = NoCells (bad.0 refl)
-  explore_fails explore.BadStates bad many endless setup = NoStates (many.0 refl).0 (many.0 refl).1
-  explore_fails explore.SetupEndless bad many (inl wrong) setup = absurd cc
-  explore_fails explore.SetupEndless bad many (inr endless) setup =
-      let h = endless.0 refl in
-      Endless h.good h.goes
-  explore_fails (explore.Setup f) bad many endless setup = NotTranslated setup.1 f setup.0 setup.2 setup.3
+  explore_fails explore.Memory h = tt
+  explore_fails explore.BadCells h = NoCells h.0 h.1 h.2
+  explore_fails explore.BadStates h = NoStates h.0 h.1
+  explore_fails explore.SetupEndless h = Endless h.0 h.1
+  explore_fails (explore.Setup f) h = NotTranslated h.0 h.3 f h.1 h.2 h.4 h.5
 
   -- a text isn't made where memory runs out, or a row's schedule is too long
   pub long_fails : {T : Type 0} (f : TranslationFault) (k kept : ℕ) (judged slice : List Judged) (complete roomy : Bool)
       →
       (f ≡ translation.Memory) ⊎ (f ≡ translation.ResultTooLong) →
-      AreGood (code_of_image i) e.cells e.states → IsExploration i e.cells e.states k judged kept complete roomy
+      AreGoodFor (code_of_image i) e.cells e.states → IsExploration i e.cells e.states k judged kept complete roomy
       → slice ≡ judged →
       (IsErrOf {T = T} (Err f) translation.ResultTooLong → HasLong k (rows_of slice)) →
       GivesText (Explored i e) (Err (lifted_translation f))
@@ -142,7 +130,7 @@ module _ (i : Image) (e : Exploring) where
       (long refl))
 
   pub explore_tells : (k : ℕ) (judged : List Judged) (kept : ℕ) (complete roomy : Bool) (t : Text) →
-      AreGood (code_of_image i) e.cells e.states →
+      AreGoodFor (code_of_image i) e.cells e.states →
       IsExploration i e.cells e.states k judged kept complete roomy →
       t ≡ explored_text (names_in i) (names_of_image i) k judged kept complete roomy e → Explored i e (Ok t)
   explore_tells k judged kept complete roomy t good is said = subst (λ x. Explored i e (Ok x)) (sym said)

@@ -1,5 +1,6 @@
 -- What the command `explore` says.
-use Rattle.std.specs.Prelude.{◌≡◌, ◌&&◌, ◌≤◌, ℕ, Bool, true, false, List, All, IsSorted, Result, Ok, Err}
+use Rattle.std.specs.Prelude.{◌≡◌, ◌&&◌, ◌≤◌, ℕ, Bool, true, false, List, Option, Some, All, IsSorted}
+use Rattle.std.specs.Prelude.{Result, Ok, Err}
 use Rattle.ls_machine.specs.Room.{AreBadCells}
 use Rattle.ls_meaning.specs.Runs.{source_history}
 use Rattle.ls_types.specs.CheckedFile.{outcome_of}
@@ -13,7 +14,7 @@ use Rattle.ls_linearizable.specs.Linearizable.{IsLinearizable}
 use Rattle.ls_explore_verdicts.specs.Verdicts.{HasLegalOrder}
 use Rattle.ls_explore_images.specs.Faults.{AreBadStates, AreGood, StaysSource}
 use Rattle.ls_explore_images.specs.Settings.{EndsAt, GoesOnFor}
-use Rattle.ls_explore_images.specs.Tellings.{TellAll, TellTruth, TellWhole}
+use Rattle.ls_explore_images.specs.Tellings.{TellTruth, TellWhole}
 use Rattle.ls_explore_images.specs.declared.fault.ExploreFault.TheVariants as explore
 use Rattle.ls_report.specs.Events.{Text}
 use Rattle.ls_labels.specs.Names.{Names}
@@ -25,6 +26,7 @@ use Rattle.ls_explore_reports.specs.Judged.{AreMeant, IsJudged, IsToldLinear, Ju
 use Rattle.ls_explore_reports.specs.Judged.{count_illegal, count_not_linearizable, rows_of}
 use Rattle.ls_explore_reports.specs.Long.{HasLong}
 use Rattle.ls_explore_reports.specs.Printing.{explored_text}
+use Rattle.ls_explore_commands.specs.Finding.{AreGoodFor, HasGoodCells, TellBy}
 
 -- the names of an image's classes and of what they declare, its file and its program
 abbrev pub names_in : Image → Names
@@ -36,15 +38,15 @@ names_in i = record {
 }
 
 -- Rows that tell the truth, the shortest schedule first, no two with one history, each with its verdict, and with what
--- the rows and the serial runs say of its linearizability. Each of so many states has a row. Where they are complete they tell of all
--- schedules that fit the cells; and where no schedule runs out of cells, of all. Where they are cut, so many states
--- were kept as may be.
-pub record IsExploration (i : Image) (cells limit k : ℕ) (judged : List Judged) (kept : ℕ) (complete roomy : Bool) :
-    Type 0 where
+-- the rows and the serial runs say of its linearizability. Each of so many states has a row. Where they are complete
+-- they tell of all schedules that fit the cells, if a number of cells is asked for; and where no schedule runs out of
+-- cells, of all. Where they are cut, so many states were kept as may be.
+pub record IsExploration (i : Image) (count : Option ℕ) (limit k : ℕ) (judged : List Judged) (kept : ℕ)
+    (complete roomy : Bool) : Type 0 where
   pub truth : TellTruth (file_of i) (program_of i) k (rows_of judged)
   pub states : TellStates (file_of i) (program_of i) k (rows_of judged) kept
   pub cut : complete ≡ false → limit ≤ kept
-  pub all : complete ≡ true → TellAll (file_of i) (program_of i) cells (rows_of judged)
+  pub by : TellBy count (file_of i) (program_of i) limit k (rows_of judged) kept complete roomy
   pub whole : complete ≡ true → roomy ≡ true → TellWhole (file_of i) (program_of i) (rows_of judged)
   pub apart : AreApart (rows_of judged)
   pub order : IsSorted row_order (rows_of judged)
@@ -61,25 +63,27 @@ pub record IsExploration (i : Image) (cells limit k : ℕ) (judged : List Judged
 -- the text of an exploration; or why there is none
 pub data Explored (i : Image) (e : Exploring) : Result Text ToolFault → Type 0 where
   Tells : (k : ℕ) (judged : List Judged) (kept : ℕ) (complete roomy : Bool) →
-      AreGood (code_of_image i) e.cells e.states →
+      AreGoodFor (code_of_image i) e.cells e.states →
       IsExploration i e.cells e.states k judged kept complete roomy →
       Explored i e (Ok (explored_text (names_in i) (names_of_image i) k judged kept complete roomy e))
-  NoCells : AreBadCells (code_of_image i).names e.cells → Explored i e (Err faults.BadCells)
-  NoStates : ¬ AreBadCells (code_of_image i).names e.cells →
+  NoCells : (cells : ℕ) → e.cells ≡ Some cells → AreBadCells (code_of_image i).names cells →
+      Explored i e (Err faults.BadCells)
+  NoStates : HasGoodCells (code_of_image i) e.cells →
       AreBadStates e.states →
       Explored i e (Err (faults.Explore explore.BadStates))
-  Endless : AreGood (code_of_image i) e.cells e.states →
+  Endless : AreGoodFor (code_of_image i) e.cells e.states →
       GoesOnFor (file_of i) (program_of i) 100001 →
       Explored i e (Err (faults.Explore explore.SetupEndless))
   -- what the setup makes has no room, or its instructions are more than a schedule may have
-  NotTranslated : (k : ℕ) (f : TranslationFault) →
-      AreGood (code_of_image i) e.cells e.states →
+  NotTranslated : (cells k : ℕ) (f : TranslationFault) →
+      e.cells ≡ Some cells →
+      AreGood (code_of_image i) cells e.states →
       EndsAt (file_of i) (program_of i) k →
-      StaysSource (file_of i) (program_of i) (code_of_image i) e.cells k f →
+      StaysSource (file_of i) (program_of i) (code_of_image i) cells k f →
       Explored i e (Err (faults.Translation f))
   -- so are the steps of a row
   RowTooLong : (k : ℕ) (judged : List Judged) (kept : ℕ) (complete roomy : Bool) →
-      AreGood (code_of_image i) e.cells e.states →
+      AreGoodFor (code_of_image i) e.cells e.states →
       IsExploration i e.cells e.states k judged kept complete roomy → HasLong k (rows_of judged) →
       Explored i e (Err (faults.Translation translation.ResultTooLong))
 

@@ -8,9 +8,9 @@ ghost use Rattle.ls_faults.specs.Given.{GivesText};
 ghost use Rattle.ls_image.specs.Images.{program_of_image};
 ghost use Rattle.ls_labels.specs.Names.{names_of};
 
+use crate::finding::find_rows;
 use ls_compiler::compile::compile;
 use ls_explore::Watch;
-use ls_explore_images::explore_image;
 use ls_explore_reports::laws::{linearity_is_meant, none_is_illegal, none_is_not_linearizable};
 use ls_explore_reports::{Exploring, judge_rows, print_exploration};
 use ls_faults::fault::ToolFault;
@@ -51,7 +51,7 @@ fn explored<W: Watch>(
     ensures gives { GivesText (Explored image.now exploring) result }
     ensures watched { GoesOn W.Since watch.old watch.new }
 {
-    let found = explore_image(alloc, image, exploring.cells, exploring.states, watch)?;
+    let found = find_rows(alloc, image, exploring, watch)?;
     let whole = is_whole(found.complete, found.roomy);
     let file = image.checked().file();
     let judged = judge_rows(alloc, found.rows.as_slice(), file, image.program(), whole)?;
@@ -62,13 +62,14 @@ fn explored<W: Watch>(
     Ok(text)
 }
 
-/// The histories of all schedules of the compiled program, on a machine with so many cells, where at most so many
-/// states are kept: each with how it ends, the verdict on it, and a schedule of source steps. With `illegal` only those
-/// of a set without a legal order are printed, and others that are not linearizable; with `first` the first of those
-/// that would be printed. The last line has the counts, and whether these are all. While it goes on it tells how many
-/// states there are.
+/// The histories of all schedules of the compiled program, where at most so many states are kept: each with how it
+/// ends, the verdict on it, and a schedule of source steps. If a number of cells is given, the states are those of a
+/// machine with so many; else they are those of the source. With `illegal` only those of a set without a legal order
+/// are printed, and others that are not linearizable; with `first` the first of those that would be printed. The last
+/// line has the counts, and whether these are all. While it goes on it tells how many states there are.
 ///
-/// Refused as `compile` is; else as `explore_image` is; and as a schedule of over 1,000,000 steps is.
+/// Refused as `compile` is; else as `explore_image` is, or `explore_source`; and as a schedule of over 1,000,000 steps
+/// is.
 pub fn explore<W: Watch>(
     alloc: Global,
     exploring: Exploring,

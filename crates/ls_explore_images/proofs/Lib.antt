@@ -1,3 +1,6 @@
 pub mod Settings
 pub mod Tellings
 pub mod Refusals
+pub mod Mapped
+pub mod Sources
+pub mod SourceRefusals

@@ -1,6 +1,7 @@
 -- Refusals that come late.
 use Rattle.ls_events.specs.Limits.{most_steps}
-use Rattle.std.proofs.Common.{◌≡◌, ◌↔◌, ◌<◌, ◌⊎◌, ◌∙◌, inl, inr, ℕ, Bool, true, false, List, Result, Ok, Err, refl, sym, subst}
+use Rattle.std.proofs.Common.{◌≡◌, ◌↔◌, ◌<◌, ◌⊎◌, ◌∙◌, inl, inr, ℕ, Bool, true, false, List, Result, Ok, Err}
+use Rattle.std.proofs.Common.{refl, sym, subst}
 use Rattle.std.proofs.Common.{length}
 use Rattle.std.proofs.Common.{replicate}
 use Rattle.std.specs.Prelude.{IfErr, IsErrOf}

@@ -1,3 +1,4 @@
 pub mod Faults
 pub mod Settings
 pub mod Tellings
+pub mod Sources

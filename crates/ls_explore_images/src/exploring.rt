@@ -57,7 +57,7 @@ fn are_bad_cells(image: &Image, cells: usize) -> bool
 }
 
 /// Whether so many states may not be kept.
-fn are_bad_states(states: usize) -> bool
+pub(crate) fn are_bad_states(states: usize) -> bool
     ensures { IsTrue result ↔ AreBadStates states }
 {
     states == 0 || states > MOST_STATES

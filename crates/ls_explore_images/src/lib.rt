@@ -4,6 +4,8 @@
 mod exploring;
 mod fault;
 mod setting;
+mod source;
 
 pub use exploring::{ImageExploration, MOST_STATES, explore_image};
 pub use fault::ExploreFault;
+pub use source::explore_source;

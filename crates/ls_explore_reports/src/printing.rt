@@ -39,8 +39,8 @@ use std::fmt::Write;
 /// What is explored, and what of it is printed.
 #[derive(Copy)]
 pub struct Exploring {
-    /// How many cells the machine has.
-    pub cells: usize,
+    /// How many cells the machine has; none where the source is explored.
+    pub cells: Option<usize>,
     /// How many states are kept at the most.
     pub states: usize,
     /// Whether only the rows are printed that have no legal order, or are not linearizable.

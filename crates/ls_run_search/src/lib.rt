@@ -1,6 +1,7 @@
 //! The search from where the setup leads to.
 #![tactic(auto)]
 
+pub mod listing;
 pub mod numbering;
 mod observing;
 pub mod running;

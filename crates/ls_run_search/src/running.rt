@@ -35,14 +35,14 @@ pub struct RunFound {
 
 /// Where the setup leads to, by how many of its steps.
 #[derive(Drop)]
-struct Prepared<'a, N> {
-    steps: usize,
-    transitions: Transitions<'a>,
-    root: Root<N>,
+pub(crate) struct Prepared<'a, N> {
+    pub(crate) steps: usize,
+    pub(crate) transitions: Transitions<'a>,
+    pub(crate) root: Root<N>,
 }
 
 /// Runs the setup as long as it acts, at most so many steps.
-fn prepare<'a, O: Observer>(
+pub(crate) fn prepare<'a, O: Observer>(
     alloc: Global,
     observer: &O,
     file: &'a File,

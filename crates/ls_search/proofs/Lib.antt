@@ -12,3 +12,7 @@ pub mod Unrenamed
 pub mod Telling
 pub mod Likeness
 pub mod Others
+pub mod Lists
+pub mod Tracks
+pub mod Apart
+pub mod Stepping

@@ -4,3 +4,5 @@ pub mod Found
 pub mod Searched
 pub mod SeenSearch
 pub mod Answers
+pub mod Listed
+pub mod Watching

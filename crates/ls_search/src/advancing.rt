@@ -51,7 +51,7 @@ pub fn take(place: &mut Place, thread: usize, step: &Step)
 
 /// Takes the steps of a thread that are taken at once, one after another, at most so many. Answers how many. The setup
 /// takes none.
-pub(crate) fn settle<'a>(
+pub fn settle<'a>(
     alloc: Global,
     transitions: &mut Transitions<'a>,
     place: &mut Place,

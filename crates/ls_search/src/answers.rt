@@ -104,7 +104,7 @@ fn first_stuck(seen: &[Seen]) -> Option<usize>
 }
 
 /// A search that has found only where it begins.
-fn start<'a, O: Observer>(
+pub(crate) fn start<'a, O: Observer>(
     ground: &Ground<'_, O>,
     transitions: Transitions<'a>,
     root: Root<O::Noted>,

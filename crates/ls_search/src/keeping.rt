@@ -56,7 +56,7 @@ fn is_at(nodes: &[Node], at: usize, place: &Place) -> bool
 
 impl Nodes {
     /// This state alone.
-    pub(crate) fn first(alloc: Global, node: Node) -> Result<Nodes, AllocError>
+    pub fn first(alloc: Global, node: Node) -> Result<Nodes, AllocError>
         ensures { IfOk result (λ n. n.nodes.items ≡ node ∷ []) }
     {
         let sum = sum_of(&node.place);
@@ -85,15 +85,11 @@ impl Nodes {
     }
 
     /// Keeps a state if it is new. Answers false where there are as many as there may be.
-    pub(crate) fn keep(
-        &mut self,
-        alloc: Global,
-        limit: usize,
-        node: Node,
-    ) -> Result<bool, AllocError>
+    pub fn keep(&mut self, alloc: Global, limit: usize, node: Node) -> Result<bool, AllocError>
         ensures there { IfOk result (λ kept. IsTrue kept → HasPlace self.new.nodes.items node.place) }
         ensures pushed { OnOk result (Pushed self.old.nodes.items self.new.nodes.items node) }
         ensures full { IfOk result (λ kept. kept ≡ false → limit ≤ length self.new.nodes.items) }
+        ensures same { IfOk result (λ kept. kept ≡ false → self.new.nodes.items ≡ self.old.nodes.items) }
         ensures few { OnOk result (length self.old.nodes.items ≤ limit → length self.new.nodes.items ≤ limit) }
     {
         let sum = sum_of(&node.place);

@@ -14,6 +14,7 @@ ghost use Rattle.ls_transitions.specs.declared.moves.Move.TheVariants.{Acts};
 ghost use Rattle.ls_transitions.specs.Tables.{Grows, Keeps};
 ghost use Rattle.ls_transitions.specs.Seen.{table_of};
 ghost use Rattle.ls_search.specs.declared.places.Node.{Node as NodeValue};
+ghost use Rattle.ls_search.specs.Listed.{FoundAs, FoundBy};
 ghost use Rattle.ls_search.specs.Places.{IsThere, configuration_of};
 ghost use Rattle.ls_search.specs.Strides.{ActsBy, HasStarted, IsStrideBy};
 ghost use Rattle.ls_search.specs.Searched.{ActsIn, AreExpanded, IsLooked, IsNode, IsOther, Reaches, noticed_at, seen_with};
@@ -65,7 +66,7 @@ struct After {
 }
 
 /// The state at a place.
-pub(crate) fn place_at(nodes: &[Node], at: usize) -> &Place
+pub fn place_at(nodes: &[Node], at: usize) -> &Place
     requires { at < length nodes.now }
     ensures { (n : NodeValue) × (slice_get nodes.now at ≡ Some n) × (result.now ≡ n.place) }
 {
@@ -130,7 +131,7 @@ pub fn step_from<'a>(
 }
 
 /// Numbers the objects of a state as they are reached.
-fn renumber<'a>(
+pub fn renumber<'a>(
     alloc: Global,
     transitions: &mut Transitions<'a>,
     renumbering: &mut Renumbering,
@@ -237,6 +238,10 @@ fn reach<O: Observer>(
         (plain_program ground.now.program.now)
         (pairs_of (O.first ground.now.observer.now) (O.stands ground.now.observer.now) search.new) p thread) }
     ensures full { IfOk result (λ kept. kept ≡ false → ground.now.limit ≤ length search.new.found.nodes.items) }
+    ensures found { OnOk result (FoundBy search.old.found.nodes.items search.new.found.nodes.items at thread
+        ground.now.most) }
+    ensures same { IfOk result (λ kept. kept ≡ false →
+        search.new.found.nodes.items ≡ search.old.found.nodes.items) }
     ensures few { OnOk result (length search.old.found.nodes.items ≤ ground.now.limit →
         length search.new.found.nodes.items ≤ ground.now.limit) }
     ensures seen { search.new.seen.items ≡ search.old.seen.items }
@@ -294,6 +299,10 @@ pub(crate) fn look<O: Observer>(
         (plain_program ground.now.program.now)
         (pairs_of (O.first ground.now.observer.now) (O.stands ground.now.observer.now) search.new) p thread l)) }
     ensures full { IfOk result (λ found. IfNone found (ground.now.limit ≤ length search.new.found.nodes.items)) }
+    ensures found { IfOk result (λ found. IfSome found (λ l.
+        FoundAs search.old.found.nodes.items search.new.found.nodes.items at thread ground.now.most l)) }
+    ensures same { IfOk result (λ found. IfNone found
+        (search.new.found.nodes.items ≡ search.old.found.nodes.items)) }
     ensures few { OnOk result (length search.old.found.nodes.items ≤ ground.now.limit →
         length search.new.found.nodes.items ≤ ground.now.limit) }
     ensures seen { search.new.seen.items ≡ search.old.seen.items }

@@ -66,7 +66,7 @@ module _ {S : Type 0} (next : S → Event → S) where
   none_stays (e ∷ es) = none_stays es
 
   -- where something is noted, so it is of all events
-  noted_is : (m n : S) (es : List Event) → fold (nameless_next next) (Some m) es ≡ Some n → fold next m es ≡ n
+  pub noted_is : (m n : S) (es : List Event) → fold (nameless_next next) (Some m) es ≡ Some n → fold next m es ≡ n
   noted_is m n [] same = some_is same
   noted_is m n (e ∷ es) same = by_name (noted_is (next m e) n es) (is_nameless e.happening) same
     where
@@ -125,7 +125,7 @@ module _ {N S P : Type 0} (stands : N → S) (first : S) (next : S → Event →
   root : Noticed (Option S)
   root = noticed_of (Some first) (nameless_next next) file program (replicate k 0)
 
-  searched : IsSearch (Some first) (nameless_next next) at_once IsRenaming (λ m n. m ≡ n) file program k closes.pairs
+  pub searched : IsSearch (Some first) (nameless_next next) at_once IsRenaming (λ m n. m ≡ n) file program k closes.pairs
   searched = record {
     names = histories_alike.renamings;
     alike = alike;

@@ -58,7 +58,7 @@ OnOne requests.Order history answer = OrdersTo history answer
 OnOne (requests.Find seeking) classes answer = OnClass seeking classes answer
 OnOne other text answer = answer ≡ Err faults.WrongParts
 
-abbrev exploring : ℕ → ℕ → Bool → Bool → Exploring
+abbrev exploring : Option ℕ → ℕ → Bool → Bool → Exploring
 exploring cells states illegal first = record { cells = cells; states = states; illegal = illegal; first = first }
 
 -- and what one that draws schedules by seeds may answer on two

@@ -172,6 +172,16 @@ fn on_samples<R: Threads + Sync>(
     }
 }
 
+/// So many cells, if a number of them is given.
+fn cells_of(cells: Option<u64>) -> Option<usize>
+    ensures { result ≡ cells }
+{
+    match cells {
+        None => None,
+        Some(count) => Some(count as usize),
+    }
+}
+
 /// What the command answers on two texts.
 fn on_two<R: Threads + Wait + Sync, W: Watch>(
     rt: &R,
@@ -201,7 +211,7 @@ fn on_two<R: Threads + Wait + Sync, W: Watch>(
             progress: _,
         } => {
             let exploring = Exploring {
-                cells: cells as usize,
+                cells: cells_of(cells),
                 states: states as usize,
                 illegal,
                 first: one,

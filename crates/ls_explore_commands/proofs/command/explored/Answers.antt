@@ -19,8 +19,7 @@ pub returns-in_err-found-clause-gives : goal.returns-in_err-found-clause-gives
 returns-in_err-found-clause-gives g c =
     let p = err_from_is_err_and c.from_residual.result c.from_residual.ensures.1 in
     rw (p.1, p.2) (explore_fails c.args.image.now c.args.exploring c.in_err-found.field-0.0
-    c.in_err-found.ensures.cells c.in_err-found.ensures.states c.in_err-found.ensures.endless
-    c.in_err-found.ensures.setup)
+    c.in_err-found.ensures.refused)
 
 pub judge_rows-requires : goal.judge_rows-requires
 judge_rows-requires g c =
@@ -28,7 +27,7 @@ judge_rows-requires g c =
     subst (λ (q : Program). AreHistories (plain_program q) c.as_slice.result.now) (sym c.program.ensures)
     (subst (λ rows. AreHistories (plain_program (program_of_image c.args.image.now)) rows)
     (sym c.as_slice.ensures.value) (rows_named c.args.image.now found.setup found.rows.items c.requires
-    c.in_ok-found.ensures.told))
+    c.in_ok-found.ensures.found.truth))
 
 pub returns-in_err-text-clause-gives : goal.returns-in_err-text-clause-gives
 returns-in_err-text-clause-gives g c =
@@ -45,14 +44,14 @@ returns-in_err-text-clause-gives g c =
     let so =
     judged_so c.linearity_is_meant.ensures c.none_is_illegal.ensures.whole c.none_is_not_linearizable.ensures.whole i
     c.args.exploring.cells c.args.exploring.states found.setup found.rows.items judged found.states
-    found.complete found.roomy of_rows c.in_ok-found.ensures.told c.in_ok-found.ensures.found
-    c.in_ok-found.ensures.cut c.in_ok-found.ensures.tells c.in_ok-found.ensures.whole c.in_ok-found.ensures.apart
-    c.in_ok-found.ensures.order verdicts linear
+    found.complete found.roomy of_rows c.in_ok-found.ensures.found.truth c.in_ok-found.ensures.found.states
+    c.in_ok-found.ensures.found.cut c.in_ok-found.ensures.found.by c.in_ok-found.ensures.found.whole
+    c.in_ok-found.ensures.found.apart c.in_ok-found.ensures.found.order verdicts linear
     in
     let p = err_from_is_err_and c.from_residual-in_err-text.result c.from_residual-in_err-text.ensures.1 in
     rw (p.1, p.2)
     (long_fails i c.args.exploring c.in_err-text.field-0.0 found.setup found.states judged c.as_slice-2.result.now
-    found.complete found.roomy c.in_err-text.ensures.only c.in_ok-found.ensures.good so c.as_slice-2.ensures.value
+    found.complete found.roomy c.in_err-text.ensures.only c.in_ok-found.ensures.found.good so c.as_slice-2.ensures.value
     c.in_err-text.ensures.long)
 
 pub returns-clause-gives : goal.returns-clause-gives
@@ -76,9 +75,10 @@ returns-clause-gives g c =
     c.as_slice-2.result.now found.states found.complete found.roomy e) c.names_in.ensures.program first in
     let said = subst (λ js. t ≡ explored_text (names_in i) (thread_names (program_of_image i)) found.setup js
     found.states found.complete found.roomy e) c.as_slice-2.ensures.value next in
-    explore_tells i e found.setup judged found.states found.complete found.roomy t c.in_ok-found.ensures.good
+    explore_tells i e found.setup judged found.states found.complete found.roomy t c.in_ok-found.ensures.found.good
     (judged_so c.linearity_is_meant.ensures c.none_is_illegal.ensures.whole c.none_is_not_linearizable.ensures.whole i
     e.cells e.states found.setup found.rows.items judged found.states found.complete found.roomy of_rows
-    c.in_ok-found.ensures.told c.in_ok-found.ensures.found c.in_ok-found.ensures.cut c.in_ok-found.ensures.tells
-    c.in_ok-found.ensures.whole c.in_ok-found.ensures.apart c.in_ok-found.ensures.order verdicts linear)
+    c.in_ok-found.ensures.found.truth c.in_ok-found.ensures.found.states c.in_ok-found.ensures.found.cut
+    c.in_ok-found.ensures.found.by c.in_ok-found.ensures.found.whole c.in_ok-found.ensures.found.apart
+    c.in_ok-found.ensures.found.order verdicts linear)
     said

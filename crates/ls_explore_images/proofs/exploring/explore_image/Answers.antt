@@ -7,7 +7,8 @@ use Rattle.ls_checked.specs.CheckedProgram.{Program}
 use Rattle.ls_types.specs.CheckedFile as checked
 use Rattle.ls_translation.specs.Texts.{file_of, program_of}
 use Rattle.ls_explore_images.specs.Settings.{EndsAt, GoesOnFor, IsSetting, SticksAt}
-use Rattle.ls_explore_images.proofs.Refusals.{endless_cells, endless_goes, endless_late, endless_memory, endless_no_cells}
+use Rattle.ls_explore_images.proofs.Refusals.{endless_cells, endless_goes, endless_late, endless_memory}
+use Rattle.ls_explore_images.proofs.Refusals.{endless_no_cells}
 use Rattle.ls_explore_images.proofs.Refusals.{endless_no_states, endless_not}
 use Rattle.ls_explore_images.proofs.Refusals.{endless_states, late_cells, late_setup, late_states, good_numbers}
 use Rattle.ls_explore_images.proofs.Settings.{not_ending, not_sticking}

@@ -1,4 +1,4 @@
-use Rattle.std.proofs.Common.{◌≡◌, ◌+◌, List, length, map, Some, refl, sym, ap, ◌∙◌, subst}
+use Rattle.std.proofs.Common.{inl, inr, arith, ◌≡◌, ◌+◌, List, length, map, Some, refl, sym, ap, ◌∙◌, subst}
 use Rattle.std.specs.Prelude.{slice_get}
 use Rattle.ls_checked.specs.Plain.{plain_file}
 use Rattle.ls_checked.specs.PlainProgram.{plain_program}
@@ -9,6 +9,8 @@ use Rattle.ls_transitions.specs.Tables.{Table}
 use Rattle.ls_transitions.specs.Seen.{table_of}
 use Rattle.ls_search.specs.declared.places.Node.{Node}
 use Rattle.ls_search.specs.declared.places.Place.{Place}
+use Rattle.ls_search.specs.Found.{Pushed}
+use Rattle.ls_search.specs.Listed.{FoundBy}
 use Rattle.ls_search.specs.Places.{configuration_of}
 use Rattle.ls_search.specs.Strides.{ActsBy}
 use Rattle.ls_search.specs.Searched.{Reaches, noticed_at}
@@ -120,3 +122,19 @@ returns-clause-reached g c = λ kept.
     })
     c.in_ok-kept.ensures.pushed refl refl refl refl
     (c.in_ok-kept.ensures.there kept)
+
+pub returns-clause-found : goal.returns-clause-found
+returns-clause-found g c =
+    let old : List Node = c.args.search.now.found.nodes.items in
+    let new : List Node = c.keep.new.self.nodes.items in
+    let node : Node = record {
+      place = c.in_ok-after.after.place;
+      before = c.args.at;
+      thread = c.args.thread;
+      steps = c.in_ok-after.after.steps + 1;
+    } in
+    let by_pushed : Pushed old new node → FoundBy old new c.args.at c.args.thread c.args.ground.now.most = elim [
+      | inl same ↦ inl same
+      | inr more ↦ inr (node, more, refl, refl, omega arith, omega (arith, c.in_ok-after.ensures.few))
+    ] in
+    by_pushed c.in_ok-kept.ensures.pushed

@@ -1,7 +1,7 @@
 // Who is told how far a search has come.
 
 ghost use Rattle.std.specs.Prelude.{⊤};
-ghost use Rattle.ls_explore.specs.Watching.{GoesOn};
+ghost use Rattle.ls_search.specs.Watching.{GoesOn};
 
 /// Who is told how far a search has come.
 pub trait Watch {

@@ -1,0 +1,8 @@
+use Rattle.std.proofs.Common.{◌≤◌, ◌+◌, ◌<◌, length}
+use Rattle.ls_search.proofs.steps.count_steps.Given as goal
+
+abbrev pub invariant-loop-last : goal.invariant-loop-last
+invariant-loop-last l = (l.place + l.count ≤ l.at) × (l.at < length l.nodes)
+
+abbrev pub decreases-loop-last : goal.decreases-loop-last
+decreases-loop-last l = l.place

@@ -1,0 +1,10 @@
+pub mod Reached
+pub mod Whole
+pub mod Truth
+pub mod Order
+pub mod Listing
+pub mod Pushing
+pub mod Choosing
+pub mod Permuting
+pub mod Paths
+pub mod Rowing

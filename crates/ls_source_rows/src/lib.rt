@@ -1,0 +1,12 @@
+//! The histories of all schedules of a program, each with a schedule, by the states of the source.
+#![tactic(auto)]
+
+mod observing;
+mod rows;
+mod sorting;
+mod telling;
+
+pub use ls_run_search::listing::Reach;
+pub use ls_search::watching::{Nobody, Watch};
+pub use rows::{Ending, Row};
+pub use telling::{Telling, tell_rows};
