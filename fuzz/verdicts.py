@@ -190,7 +190,7 @@ def wrong_verdict(program, text, runs, endless):
             return f"{head}, but a run of whole calls explains it\n{out}", ""
     elif complete and whole and bad and not endless:
         return f"{head}, but a row is not linearizable\n{bad[0]}", ""
-    elif head == "none" and complete and whole and waiting:
+    elif (head.startswith("none") or head == "threads turn for ever") and complete and whole and waiting:
         return f"{head}, but a row waits for ever", ""
     elif " waits for " in head and whole and not waiting:
         return f"{head}, but no row waits for ever", ""

@@ -41,6 +41,11 @@ abbrev pub stuck_text : Bool → Names → List Text → List ℕ → ℕ → Bo
 stuck_text fewest names threads schedule states complete =
     run_report fewest names threads (waiting names (scene_of names schedule) 0 threads) schedule ++ last_text states complete
 
+-- a run after which threads turn for ever
+abbrev pub turning_text : Bool → Names → List Text → List ℕ → ℕ → Bool → Text
+turning_text fewest names threads schedule states complete =
+    run_report fewest names threads (codes "threads turn for ever") schedule ++ last_text states complete
+
 -- why serial runs may not all have been found
 abbrev pub doubt_text : Doubt → Text
 doubt_text doubts.LongCall = codes "not judged: a call goes on"
@@ -60,3 +65,7 @@ stuck_and_doubtful_text stuck stuck_fewest doubt fewest names threads schedule s
 -- no run is bad
 abbrev pub free_text : ℕ → Bool → Text
 free_text states complete = codes "none\n" ++ last_text states complete
+
+-- no run is bad, and it isn't known whether threads can turn for ever
+abbrev pub unsure_text : ℕ → Bool → Text
+unsure_text states complete = codes "none, but threads may turn for ever\n" ++ last_text states complete

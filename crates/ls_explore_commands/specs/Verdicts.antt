@@ -13,9 +13,11 @@ use Rattle.ls_fewest_switches.specs.Switches.{HasFewest}
 use Rattle.ls_serial_search.specs.Told.{IsDoubt, usual}
 use Rattle.ls_serial_search.specs.declared.telling.Doubt.{Doubt}
 use Rattle.ls_source_judge.specs.Judged.{AllLinearizable, IsNotLinearizable}
+use Rattle.ls_spinning.specs.Turning.{NeverTurns, TurnsForEver}
 use Rattle.ls_state_space.specs.Verdicts.{LeavesStuck, NeverStuck}
 use Rattle.ls_explore_commands.specs.Explored.{names_in}
 use Rattle.ls_explore_commands.specs.Reports.{bad_text, doubtful_text, free_text, stuck_and_doubtful_text, stuck_text}
+use Rattle.ls_explore_commands.specs.Reports.{turning_text, unsure_text}
 
 -- at most so many states were kept; and if these aren't all, so many
 pub record IsExtent (limit states : ℕ) (complete : Bool) : Type 0 where
@@ -61,11 +63,27 @@ pub data Decided (i : Image) (limit : ℕ) : Result Text ToolFault → Type 0 wh
       (fewest ≡ true → HasFewest true (file_of i) (program_of i) schedule) →
       (complete ≡ true → AllLinearizable (file_of i) (program_of i)) →
       Decided i limit (Ok (stuck_text fewest (names_in i) (names_of_image i) schedule states complete))
+  -- after this schedule some thread always acts, and no event comes any more
+  IsTurning : (schedule : List ℕ) (states : ℕ) (complete : Bool) →
+      ¬ AreBadStates limit →
+      IsExtent limit states complete →
+      TurnsForEver (file_of i) (program_of i) schedule →
+      (complete ≡ true → AllLinearizable (file_of i) (program_of i)) →
+      (complete ≡ true → NeverStuck (file_of i) (program_of i)) →
+      Decided i limit (Ok (turning_text false (names_in i) (names_of_image i) schedule states complete))
+  -- it isn't known whether threads can turn for ever
+  IsUnsure : (states : ℕ) (complete : Bool) →
+      ¬ AreBadStates limit →
+      IsExtent limit states complete →
+      (complete ≡ true → AllLinearizable (file_of i) (program_of i)) →
+      (complete ≡ true → NeverStuck (file_of i) (program_of i)) →
+      Decided i limit (Ok (unsure_text states complete))
   IsFree : (states : ℕ) (complete : Bool) →
       ¬ AreBadStates limit →
       IsExtent limit states complete →
       (complete ≡ true → AllLinearizable (file_of i) (program_of i)) →
       (complete ≡ true → NeverStuck (file_of i) (program_of i)) →
+      (complete ≡ true → NeverTurns (file_of i) (program_of i)) →
       Decided i limit (Ok (free_text states complete))
   -- the schedule that was found has more steps than a schedule may have
   TooLong : ¬ AreBadStates limit → Decided i limit (Err (faults.Translation translation.ResultTooLong))

@@ -9,6 +9,8 @@ ghost use Rattle.ls_fewest_switches.specs.Switches.{EndsSo, HasFewest};
 ghost use Rattle.ls_meaning.specs.Runs.{source_history};
 ghost use Rattle.ls_serial_search.specs.Told.{IsDoubt, usual};
 ghost use Rattle.ls_source_judge.specs.Judged.{AllLinearizable, IsNotLinearizable};
+ghost use Rattle.ls_spinning.specs.Told.{IsTurning};
+ghost use Rattle.ls_spinning.specs.Turning.{NeverTurns, TurnsForEver};
 ghost use Rattle.ls_state_space.specs.Verdicts.{LeavesStuck, NeverStuck};
 ghost use Rattle.ls_translation.specs.Texts.{file_of, program_of};
 ghost use Rattle.ls_translation.specs.declared.fault.TranslationFault.TheVariants.{Memory, ResultTooLong};
@@ -16,6 +18,7 @@ ghost use Rattle.ls_translation.specs.declared.fault.TranslationFault.TheVariant
 use crate::command::names_in;
 use crate::reporting::{
     Extent, print_bad, print_doubtful, print_free, print_stuck, print_stuck_and_doubtful,
+    print_turning, print_unsure,
 };
 use ls_compiler::compile::compile;
 use ls_events::schedule::{MOST_STEPS, Schedule};
@@ -25,6 +28,7 @@ use ls_fewest_switches::{SimpleRun, simplest};
 use ls_image::image::Image;
 use ls_serial_search::telling::Doubt;
 use ls_source_judge::{Judged, judge_schedules};
+use ls_spinning::{Turning, find_turning};
 use ls_translation::fault::TranslationFault;
 use std::alloc::{AllocError, Global};
 
@@ -177,6 +181,7 @@ fn free_answer(alloc: Global, image: &Image, judged: &Judged) -> Result<String, 
     ensures { (limit : ℕ) → ¬ AreBadStates limit → IsExtent limit judged.now.states judged.now.complete →
         (IsTrue judged.now.complete → AllLinearizable (file_of image.now) (program_of image.now)) →
         (IsTrue judged.now.complete → NeverStuck (file_of image.now) (program_of image.now)) →
+        (IsTrue judged.now.complete → NeverTurns (file_of image.now) (program_of image.now)) →
         GivesText (Decided image.now limit) result }
 {
     let text = print_free(alloc, extent_of(judged))?;
@@ -252,6 +257,70 @@ fn wrong_answer(
     }
 }
 
+/// The text of a schedule after which threads turn for ever.
+fn turning_answer(
+    alloc: Global,
+    image: &Image,
+    judged: &Judged,
+    schedule: Schedule,
+) -> Result<String, ToolFault>
+    ensures { (limit : ℕ) → ¬ AreBadStates limit → IsExtent limit judged.now.states judged.now.complete →
+        TurnsForEver (file_of image.now) (program_of image.now) schedule →
+        (IsTrue judged.now.complete → AllLinearizable (file_of image.now) (program_of image.now)) →
+        (IsTrue judged.now.complete → NeverStuck (file_of image.now) (program_of image.now)) →
+        GivesText (Decided image.now limit) result }
+{
+    let run = SimpleRun {
+        schedule,
+        fewest: false,
+    };
+    let text = print_turning(alloc, names_in(image), &run, extent_of(judged))?;
+    Ok(text)
+}
+
+/// Whether threads of an image's program can turn for ever. At most twice as many states are kept.
+fn turning_of(alloc: Global, image: &Image, states: usize) -> Result<Turning, AllocError>
+    ensures { IfOk result (IsTurning (file_of image.now) (program_of image.now)) }
+{
+    let file = image.checked().file();
+    let limit = states.saturating_mul(2);
+    let told = find_turning(alloc, file, image.program(), limit)?;
+    Ok(told)
+}
+
+/// The text where it isn't known whether threads can turn for ever.
+fn unsure_answer(alloc: Global, image: &Image, judged: &Judged) -> Result<String, ToolFault>
+    ensures { (limit : ℕ) → ¬ AreBadStates limit → IsExtent limit judged.now.states judged.now.complete →
+        (IsTrue judged.now.complete → AllLinearizable (file_of image.now) (program_of image.now)) →
+        (IsTrue judged.now.complete → NeverStuck (file_of image.now) (program_of image.now)) →
+        GivesText (Decided image.now limit) result }
+{
+    let text = print_unsure(alloc, extent_of(judged))?;
+    Ok(text)
+}
+
+/// The text where no history is wrong, and where threads don't come to wait.
+fn quiet_answer(
+    alloc: Global,
+    image: &Image,
+    judged: &Judged,
+    states: usize,
+) -> Result<String, ToolFault>
+    ensures { (limit : ℕ) → ¬ AreBadStates limit → IsExtent limit judged.now.states judged.now.complete →
+        (IsTrue judged.now.complete → AllLinearizable (file_of image.now) (program_of image.now)) →
+        (IsTrue judged.now.complete → NeverStuck (file_of image.now) (program_of image.now)) →
+        GivesText (Decided image.now limit) result }
+{
+    if !judged.complete {
+        return free_answer(alloc, image, judged);
+    }
+    match turning_of(alloc, image, states)? {
+        Turning::Never => free_answer(alloc, image, judged),
+        Turning::After(schedule) => turning_answer(alloc, image, judged, schedule),
+        Turning::Unknown => unsure_answer(alloc, image, judged),
+    }
+}
+
 /// The text of what all schedules of an image's program tell.
 fn decided(alloc: Global, image: &Image, states: usize) -> Result<String, ToolFault>
     ensures { GivesText (Decided image.now states) result }
@@ -264,7 +333,7 @@ fn decided(alloc: Global, image: &Image, states: usize) -> Result<String, ToolFa
         Some(path) => wrong_answer(alloc, image, &judged, path.as_slice()),
         None => match &judged.stuck {
             Some(path) => stuck_answer(alloc, image, &judged, path.as_slice()),
-            None => free_answer(alloc, image, &judged),
+            None => quiet_answer(alloc, image, &judged, states),
         },
     }
 }
@@ -272,8 +341,11 @@ fn decided(alloc: Global, image: &Image, states: usize) -> Result<String, ToolFa
 /// A wrong run of the compiled program, over all schedules of source steps, where at most so many states of the source
 /// are kept: its schedule and its history. Of the schedules with its history it is one with the fewest context switches,
 /// if at most 1,000,000 states are needed to find it. A run is wrong if its history isn't linearizable, or else if no
-/// thread acts after it and one waits. Or that there is none. The last line has how many states were kept, and whether
-/// these are all.
+/// thread acts after it and one waits. Else it is one after which threads turn for ever: some thread always acts, and no
+/// event comes any more. Or that there is none. The last line has how many states were kept, and whether these are all.
+///
+/// A run after which threads turn for ever is looked for only where all states were kept, with at most twice as many
+/// states. If these don't suffice, it is said that threads may turn for ever.
 ///
 /// If serial histories lack, a run that none of the others explains is printed as not judged, with the reason; before it
 /// one after which threads wait, if there is such a run.

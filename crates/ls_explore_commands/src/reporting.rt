@@ -7,6 +7,7 @@ ghost use Rattle.ls_report.specs.Printing.{run_text};
 ghost use Rattle.ls_schedule.specs.Reading.{thread_names};
 ghost use Rattle.ls_explore_commands.specs.Reports.{bad_text, doubt_text, doubtful_text, end_text, free_text, last_text};
 ghost use Rattle.ls_explore_commands.specs.Reports.{run_report, stuck_and_doubtful_text, stuck_text, switches_text};
+ghost use Rattle.ls_explore_commands.specs.Reports.{turning_text, unsure_text};
 
 use ls_events::schedule::Schedule;
 use ls_explore_reports::waiting_after;
@@ -176,12 +177,39 @@ pub(crate) fn print_stuck_and_doubtful(
     Ok(out)
 }
 
+/// The text of a run after which threads turn for ever. The only refusal is that memory ran out.
+pub(crate) fn print_turning(
+    alloc: Global,
+    names: Names<'_>,
+    run: &SimpleRun,
+    extent: Extent,
+) -> Result<String, AllocError>
+    ensures { IfOk result (λ text. string_bytes text ≡
+        turning_text run.now.fewest (names_of names.entry) (thread_names names.entry.program.now) run.now.schedule
+        extent.states extent.complete) }
+{
+    let mut out = String::new(alloc);
+    push_run(alloc, &mut out, names, "threads turn for ever", run)?;
+    push_last(&mut out, extent)?;
+    Ok(out)
+}
+
 /// The text that no run is bad. The only refusal is that memory ran out.
 pub(crate) fn print_free(alloc: Global, extent: Extent) -> Result<String, AllocError>
     ensures { IfOk result (λ text. string_bytes text ≡ free_text extent.states extent.complete) }
 {
     let mut out = String::new(alloc);
     out.push_str("none\n")?;
+    push_last(&mut out, extent)?;
+    Ok(out)
+}
+
+/// The text that no run is bad, where threads may turn for ever. The only refusal is that memory ran out.
+pub(crate) fn print_unsure(alloc: Global, extent: Extent) -> Result<String, AllocError>
+    ensures { IfOk result (λ text. string_bytes text ≡ unsure_text extent.states extent.complete) }
+{
+    let mut out = String::new(alloc);
+    out.push_str("none, but threads may turn for ever\n")?;
     push_last(&mut out, extent)?;
     Ok(out)
 }

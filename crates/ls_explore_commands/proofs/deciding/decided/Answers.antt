@@ -43,7 +43,7 @@ returns c =
     let i = c.args.image.now in
     let good : ¬ AreBadStates c.args.states =
     λ bad. not_both (c.are_bad_states.ensures.1 bad) c.if-are_bad_states.false in
-    c.free_answer.ensures c.args.states good c.in_ok-judged.ensures.extent
+    c.quiet_answer.ensures c.args.states good c.in_ok-judged.ensures.extent
     (λ complete. subst (λ o. IfNone o (AllLinearizable (file_of i) (program_of i))) c.in-None.is
     (c.in_ok-judged.ensures.good complete))
     (λ complete. subst (λ o. IfNone o (NeverStuck (file_of i) (program_of i))) c.in-None-stuck.is

@@ -1,0 +1,5 @@
+pub mod Staying
+pub mod Growing
+pub mod Seeing
+pub mod Hearing
+pub mod Marking

@@ -1,0 +1,10 @@
+use Rattle.std.proofs.Common.{take}
+use Rattle.ls_checked.specs.Plain.{plain_file}
+use Rattle.ls_checked.specs.PlainProgram.{plain_program}
+use Rattle.ls_run_search.specs.Runs.{progress_at}
+use Rattle.ls_source.specs.Stands.{StandsFor}
+use Rattle.ls_spinning.proofs.confirming.playing_after.Given as goal
+
+abbrev pub invariant-loop-thread : goal.invariant-loop-thread
+invariant-loop-thread l =
+    StandsFor l.playing (progress_at (plain_file l.file) (plain_program l.program) (take l.thread-index l.steps))

@@ -1,0 +1,7 @@
+use Rattle.ls_spinning.proofs.leading.spread_all.Goals as goal
+
+pub loop-preserved : goal.loop-preserved
+loop-preserved c = λ seen was. c.spread.ensures seen (c.loop.invariant seen was)
+
+pub returns-then-not-spread : goal.returns-then-not-spread
+returns-then-not-spread c = λ seen was. c.spread.ensures seen (c.loop.invariant seen was)

@@ -1,0 +1,5 @@
+pub mod Turning
+pub mod Told
+pub mod Heard
+pub mod Quiet
+pub mod Spots
