@@ -10,5 +10,5 @@ pub returns-in_ok-copy_thing-in-Array : goal.returns-in_ok-copy_thing-in-Array
 returns-in_ok-copy_thing-in-Array c =
     c.in_ok-copy_thing-in-Array.ensures
     ∙ subst (λ (t : Thing). thing_of t ≡ renamed_thing (names_of c.args.names.now) (thing_of t))
-        (sym c.in-Array.is)
-        (array_renamed c.args.names.now c.in-Array.size c.in-Array.items (c.if-not-name_no_object.ensures refl))
+    (sym c.in-Array.is)
+    (array_renamed c.args.names.now c.in-Array.size c.in-Array.items (c.if-not-name_no_object.ensures refl))
