@@ -1,5 +1,7 @@
 -- What `explore --verdict` says.
 use Rattle.std.specs.Prelude.{◌≡◌, ◌≤◌, ℕ, Bool, true, false, List, Result, Ok, Err}
+use Rattle.ls_checked.specs.CheckedTree.{File}
+use Rattle.ls_checked.specs.CheckedProgram.{Program}
 use Rattle.ls_image.specs.declared.image.Image.{Image}
 use Rattle.ls_translation.specs.Texts.{file_of, program_of}
 use Rattle.ls_translation.specs.declared.fault.TranslationFault.TheVariants as translation
@@ -14,15 +16,18 @@ use Rattle.ls_serial_search.specs.Told.{IsDoubt, usual}
 use Rattle.ls_serial_search.specs.declared.telling.Doubt.{Doubt}
 use Rattle.ls_source_judge.specs.Judged.{AllLinearizable, IsNotLinearizable}
 use Rattle.ls_spinning.specs.Turning.{NeverTurns, TurnsForEver}
-use Rattle.ls_state_space.specs.Verdicts.{LeavesStuck, NeverStuck}
+use Rattle.ls_state_space.specs.Verdicts.{AreReached, LeavesStuck, NeverStuck}
 use Rattle.ls_explore_commands.specs.Explored.{names_in}
 use Rattle.ls_explore_commands.specs.Reports.{bad_text, doubtful_text, free_text, stuck_and_doubtful_text, stuck_text}
 use Rattle.ls_explore_commands.specs.Reports.{turning_text, unsure_text}
 
--- at most so many states were kept; and if these aren't all, so many
-pub record IsExtent (limit states : ℕ) (complete : Bool) : Type 0 where
+-- At most so many states were kept; and if these aren't all, so many. After the setup there are as many schedules: each
+-- goes on from an earlier one by steps of a thread that acts there, and no two from the same one by the same thread.
+pub record IsExtent (file : File) (program : Program) (limit states : ℕ) (complete : Bool) : Type 0 where
   pub within : states ≤ limit
   pub cut : complete ≡ false → states ≡ limit
+  pub setup : ℕ
+  pub reached : AreReached file program setup states
 
 -- The text of a verdict, or why there is none. If all states were kept, it is said of each schedule, of any length. If the
 -- context switches of a run are printed, no schedule with its history has fewer; and of runs after which threads wait, none
@@ -32,14 +37,14 @@ pub data Decided (i : Image) (limit : ℕ) : Result Text ToolFault → Type 0 wh
   -- the history of this schedule isn't linearizable
   IsBad : (schedule : List ℕ) (fewest : Bool) (states : ℕ) (complete : Bool) →
       ¬ AreBadStates limit →
-      IsExtent limit states complete →
+      IsExtent (file_of i) (program_of i) limit states complete →
       IsNotLinearizable (file_of i) (program_of i) schedule →
       (fewest ≡ true → HasFewest false (file_of i) (program_of i) schedule) →
       Decided i limit (Ok (bad_text fewest (names_in i) (names_of_image i) schedule states complete))
   -- no serial history that was found explains it, and some may not have been found, for this reason
   IsDoubtful : (doubt : Doubt) (schedule : List ℕ) (fewest : Bool) (states : ℕ) (complete : Bool) →
       ¬ AreBadStates limit →
-      IsExtent limit states complete →
+      IsExtent (file_of i) (program_of i) limit states complete →
       IsDoubt (file_of i) (program_of i) usual doubt →
       (complete ≡ true → NeverStuck (file_of i) (program_of i)) →
       (fewest ≡ true → HasFewest false (file_of i) (program_of i) schedule) →
@@ -48,7 +53,7 @@ pub data Decided (i : Image) (limit : ℕ) : Result Text ToolFault → Type 0 wh
   IsStuckAndDoubtful : (stuck : List ℕ) (stuck_fewest : Bool) (doubt : Doubt) (schedule : List ℕ) (fewest : Bool)
       (states : ℕ) (complete : Bool) →
       ¬ AreBadStates limit →
-      IsExtent limit states complete →
+      IsExtent (file_of i) (program_of i) limit states complete →
       LeavesStuck (file_of i) (program_of i) stuck →
       IsDoubt (file_of i) (program_of i) usual doubt →
       (stuck_fewest ≡ true → HasFewest true (file_of i) (program_of i) stuck) →
@@ -58,7 +63,7 @@ pub data Decided (i : Image) (limit : ℕ) : Result Text ToolFault → Type 0 wh
   -- after this schedule no thread acts, and one waits for a lock
   IsStuck : (schedule : List ℕ) (fewest : Bool) (states : ℕ) (complete : Bool) →
       ¬ AreBadStates limit →
-      IsExtent limit states complete →
+      IsExtent (file_of i) (program_of i) limit states complete →
       LeavesStuck (file_of i) (program_of i) schedule →
       (fewest ≡ true → HasFewest true (file_of i) (program_of i) schedule) →
       (complete ≡ true → AllLinearizable (file_of i) (program_of i)) →
@@ -66,7 +71,7 @@ pub data Decided (i : Image) (limit : ℕ) : Result Text ToolFault → Type 0 wh
   -- after this schedule some thread always acts, and no event comes any more
   IsTurning : (schedule : List ℕ) (states : ℕ) (complete : Bool) →
       ¬ AreBadStates limit →
-      IsExtent limit states complete →
+      IsExtent (file_of i) (program_of i) limit states complete →
       TurnsForEver (file_of i) (program_of i) schedule →
       (complete ≡ true → AllLinearizable (file_of i) (program_of i)) →
       (complete ≡ true → NeverStuck (file_of i) (program_of i)) →
@@ -74,13 +79,13 @@ pub data Decided (i : Image) (limit : ℕ) : Result Text ToolFault → Type 0 wh
   -- it isn't known whether threads can turn for ever
   IsUnsure : (states : ℕ) (complete : Bool) →
       ¬ AreBadStates limit →
-      IsExtent limit states complete →
+      IsExtent (file_of i) (program_of i) limit states complete →
       (complete ≡ true → AllLinearizable (file_of i) (program_of i)) →
       (complete ≡ true → NeverStuck (file_of i) (program_of i)) →
       Decided i limit (Ok (unsure_text states complete))
   IsFree : (states : ℕ) (complete : Bool) →
       ¬ AreBadStates limit →
-      IsExtent limit states complete →
+      IsExtent (file_of i) (program_of i) limit states complete →
       (complete ≡ true → AllLinearizable (file_of i) (program_of i)) →
       (complete ≡ true → NeverStuck (file_of i) (program_of i)) →
       (complete ≡ true → NeverTurns (file_of i) (program_of i)) →

@@ -111,7 +111,8 @@ fn bad_answer(
     judged: &Judged,
     path: &[u8],
 ) -> Result<String, ToolFault>
-    ensures { (limit : ℕ) → ¬ AreBadStates limit → IsExtent limit judged.now.states judged.now.complete →
+    ensures { (limit : ℕ) → ¬ AreBadStates limit →
+        IsExtent (file_of image.now) (program_of image.now) limit judged.now.states judged.now.complete →
         IsNotLinearizable (file_of image.now) (program_of image.now) (replicate judged.now.setup 0 ++ path.now) →
         GivesText (Decided image.now limit) result }
 {
@@ -128,7 +129,8 @@ fn doubtful_answer(
     doubt: Doubt,
     path: &[u8],
 ) -> Result<String, ToolFault>
-    ensures { (limit : ℕ) → ¬ AreBadStates limit → IsExtent limit judged.now.states judged.now.complete →
+    ensures { (limit : ℕ) → ¬ AreBadStates limit →
+        IsExtent (file_of image.now) (program_of image.now) limit judged.now.states judged.now.complete →
         IsDoubt (file_of image.now) (program_of image.now) usual doubt →
         (IsTrue judged.now.complete → NeverStuck (file_of image.now) (program_of image.now)) →
         GivesText (Decided image.now limit) result }
@@ -147,7 +149,8 @@ fn stuck_and_doubtful_answer(
     doubt: Doubt,
     path: &[u8],
 ) -> Result<String, ToolFault>
-    ensures { (limit : ℕ) → ¬ AreBadStates limit → IsExtent limit judged.now.states judged.now.complete →
+    ensures { (limit : ℕ) → ¬ AreBadStates limit →
+        IsExtent (file_of image.now) (program_of image.now) limit judged.now.states judged.now.complete →
         LeavesStuck (file_of image.now) (program_of image.now) (replicate judged.now.setup 0 ++ stuck.now) →
         IsDoubt (file_of image.now) (program_of image.now) usual doubt →
         GivesText (Decided image.now limit) result }
@@ -166,7 +169,8 @@ fn stuck_answer(
     judged: &Judged,
     path: &[u8],
 ) -> Result<String, ToolFault>
-    ensures { (limit : ℕ) → ¬ AreBadStates limit → IsExtent limit judged.now.states judged.now.complete →
+    ensures { (limit : ℕ) → ¬ AreBadStates limit →
+        IsExtent (file_of image.now) (program_of image.now) limit judged.now.states judged.now.complete →
         LeavesStuck (file_of image.now) (program_of image.now) (replicate judged.now.setup 0 ++ path.now) →
         (IsTrue judged.now.complete → AllLinearizable (file_of image.now) (program_of image.now)) →
         GivesText (Decided image.now limit) result }
@@ -178,7 +182,8 @@ fn stuck_answer(
 
 /// The text that no run is wrong.
 fn free_answer(alloc: Global, image: &Image, judged: &Judged) -> Result<String, ToolFault>
-    ensures { (limit : ℕ) → ¬ AreBadStates limit → IsExtent limit judged.now.states judged.now.complete →
+    ensures { (limit : ℕ) → ¬ AreBadStates limit →
+        IsExtent (file_of image.now) (program_of image.now) limit judged.now.states judged.now.complete →
         (IsTrue judged.now.complete → AllLinearizable (file_of image.now) (program_of image.now)) →
         (IsTrue judged.now.complete → NeverStuck (file_of image.now) (program_of image.now)) →
         (IsTrue judged.now.complete → NeverTurns (file_of image.now) (program_of image.now)) →
@@ -199,7 +204,8 @@ fn judged_of(alloc: Global, image: &Image, states: usize) -> Result<Judged, Allo
         (NeverStuck (file_of image.now) (program_of image.now))) }
     ensures stuck { IfOk result (λ j. IfSome j.stuck (λ path.
         LeavesStuck (file_of image.now) (program_of image.now) (replicate j.setup 0 ++ path.items))) }
-    ensures extent { IfOk result (λ j. IsExtent states j.states j.complete) }
+    ensures extent { IfOk result (λ j.
+        IsExtent (file_of image.now) (program_of image.now) states j.states j.complete) }
 {
     let judged = judge_schedules(alloc, image.checked().file(), image.program(), states)?;
     Ok(judged)
@@ -213,7 +219,8 @@ fn doubted_answer(
     doubt: Doubt,
     path: &[u8],
 ) -> Result<String, ToolFault>
-    ensures { (limit : ℕ) → ¬ AreBadStates limit → IsExtent limit judged.now.states judged.now.complete →
+    ensures { (limit : ℕ) → ¬ AreBadStates limit →
+        IsExtent (file_of image.now) (program_of image.now) limit judged.now.states judged.now.complete →
         IsDoubt (file_of image.now) (program_of image.now) usual doubt →
         (IsTrue judged.now.complete → IfNone judged.now.stuck
         (NeverStuck (file_of image.now) (program_of image.now))) →
@@ -241,7 +248,8 @@ fn wrong_answer(
     judged: &Judged,
     path: &[u8],
 ) -> Result<String, ToolFault>
-    ensures { (limit : ℕ) → ¬ AreBadStates limit → IsExtent limit judged.now.states judged.now.complete →
+    ensures { (limit : ℕ) → ¬ AreBadStates limit →
+        IsExtent (file_of image.now) (program_of image.now) limit judged.now.states judged.now.complete →
         IfNone judged.now.doubt
         (IsNotLinearizable (file_of image.now) (program_of image.now) (replicate judged.now.setup 0 ++ path.now)) →
         IfSome judged.now.doubt (IsDoubt (file_of image.now) (program_of image.now) usual) →
@@ -264,7 +272,8 @@ fn turning_answer(
     judged: &Judged,
     schedule: Schedule,
 ) -> Result<String, ToolFault>
-    ensures { (limit : ℕ) → ¬ AreBadStates limit → IsExtent limit judged.now.states judged.now.complete →
+    ensures { (limit : ℕ) → ¬ AreBadStates limit →
+        IsExtent (file_of image.now) (program_of image.now) limit judged.now.states judged.now.complete →
         TurnsForEver (file_of image.now) (program_of image.now) schedule →
         (IsTrue judged.now.complete → AllLinearizable (file_of image.now) (program_of image.now)) →
         (IsTrue judged.now.complete → NeverStuck (file_of image.now) (program_of image.now)) →
@@ -290,7 +299,8 @@ fn turning_of(alloc: Global, image: &Image, states: usize) -> Result<Turning, Al
 
 /// The text where it isn't known whether threads can turn for ever.
 fn unsure_answer(alloc: Global, image: &Image, judged: &Judged) -> Result<String, ToolFault>
-    ensures { (limit : ℕ) → ¬ AreBadStates limit → IsExtent limit judged.now.states judged.now.complete →
+    ensures { (limit : ℕ) → ¬ AreBadStates limit →
+        IsExtent (file_of image.now) (program_of image.now) limit judged.now.states judged.now.complete →
         (IsTrue judged.now.complete → AllLinearizable (file_of image.now) (program_of image.now)) →
         (IsTrue judged.now.complete → NeverStuck (file_of image.now) (program_of image.now)) →
         GivesText (Decided image.now limit) result }
@@ -306,7 +316,8 @@ fn quiet_answer(
     judged: &Judged,
     states: usize,
 ) -> Result<String, ToolFault>
-    ensures { (limit : ℕ) → ¬ AreBadStates limit → IsExtent limit judged.now.states judged.now.complete →
+    ensures { (limit : ℕ) → ¬ AreBadStates limit →
+        IsExtent (file_of image.now) (program_of image.now) limit judged.now.states judged.now.complete →
         (IsTrue judged.now.complete → AllLinearizable (file_of image.now) (program_of image.now)) →
         (IsTrue judged.now.complete → NeverStuck (file_of image.now) (program_of image.now)) →
         GivesText (Decided image.now limit) result }

@@ -4,12 +4,15 @@ ghost use Rattle.std.specs.Prelude.{◌≡◌, ◌≤◌, IfOk, IfSome, IsTrue, 
 ghost use Rattle.std.specs.List.{fold};
 ghost use Rattle.ls_checked.specs.Plain.{plain_file};
 ghost use Rattle.ls_checked.specs.PlainProgram.{plain_program};
+ghost use Rattle.ls_meaning.specs.Still.{IsActing};
+ghost use Rattle.ls_search_laws.specs.Configuration.{stride};
 ghost use Rattle.ls_search_laws.specs.Noticing.{noticed_after, noticed_of};
 ghost use Rattle.ls_search_laws.specs.Stepping.{SetsUp};
 ghost use Rattle.ls_transitions.specs.Seen.{table_of};
 ghost use Rattle.ls_search.specs.Answers.{ClosesAll, IsStuck, root_of};
 ghost use Rattle.ls_search.specs.Places.{AreThere};
 ghost use Rattle.ls_search.specs.Searched.{HidesNames};
+ghost use Rattle.ls_search.specs.Tried.{HasTried};
 
 use crate::numbering::{Numbered, number};
 use crate::observing::noted_of;
@@ -76,8 +79,8 @@ pub(crate) fn prepare<'a, O: Observer>(
 }
 
 /// Runs the setup as long as it acts, and looks for all that threads lead to from there. At most so many states are
-/// kept, and no more steps of the setup are run. A refusal is that memory ran out, that a store, a work or a state has no
-/// number left, or that a constant of the file names an object, which none does of a file that was read.
+/// kept, and no more steps of the setup are run. A refusal is that memory ran out, that a store, a work or a state has
+/// no number left, or that a constant of the file names an object, which none does of a file that was read.
 pub fn search_run<O: Observer>(
     alloc: Global,
     observer: &O,
@@ -89,8 +92,8 @@ pub fn search_run<O: Observer>(
     requires hides { HidesNames (O.next observer.now) }
     ensures up { IfOk result (λ r. SetsUp (plain_file file.now) (plain_program program.now) r.setup) }
     ensures closes { IfOk result (λ r. IsTrue r.found.complete →
-        ClosesAll (O.stands observer.now) (O.first observer.now) (O.next observer.now) (O.bad observer.now) (plain_file file.now)
-        (plain_program program.now) (length (plain_program program.now).threads)
+        ClosesAll (O.stands observer.now) (O.first observer.now) (O.next observer.now) (O.bad observer.now)
+        (plain_file file.now) (plain_program program.now) (length (plain_program program.now).threads)
         (noticed_of (O.first observer.now) (O.next observer.now) (plain_file file.now) (plain_program program.now)
         (replicate r.setup 0)) r.found.bad r.found.stuck) }
     ensures bad { IfOk result (λ r. IfSome r.found.bad (λ path. O.bad observer.now
@@ -105,6 +108,11 @@ pub fn search_run<O: Observer>(
         (replicate r.setup 0)) path.items).configuration)) }
     ensures cut { IfOk result (λ r. r.found.complete ≡ false → r.found.states ≡ limit) }
     ensures few { IfOk result (λ r. r.found.states ≤ limit) }
+    ensures tried { IfOk result (λ r. HasTried (λ path u. IsActing (stride (plain_file file.now)
+        (fold (noticed_after (O.first observer.now) (O.next observer.now) (plain_file file.now)
+        (plain_program program.now))
+        (noticed_of (O.first observer.now) (O.next observer.now) (plain_file file.now) (plain_program program.now)
+        (replicate r.setup 0)) path).configuration u).did) r.found.states) }
 {
     if !file_has_constants(file) {
         return Err(AllocError);

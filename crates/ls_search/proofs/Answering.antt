@@ -24,7 +24,8 @@ none_not h = cc
 
 module _ {S : Type 0} (first : S) (next : S → Event → S) (file : File) (program : Program) (threads : ℕ) (t : Table)
     (states : List S) (node : Node) where
-  pub sound_first : t.file ≡ file → FileHasConstants file → HidesNames next → node.before ≡ 0 → IsNode t states threads node.place →
+  pub sound_first : t.file ≡ file → FileHasConstants file → HidesNames next → node.before ≡ 0 →
+      IsNode t states threads node.place →
       IsSound first next file program threads t states (node ∷ [])
   sound_first file_is constants hides before is = record {
     file_is = file_is;

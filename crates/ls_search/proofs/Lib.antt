@@ -16,3 +16,5 @@ pub mod Lists
 pub mod Tracks
 pub mod Apart
 pub mod Stepping
+pub mod Growing
+pub mod Trying

@@ -7,7 +7,7 @@ use Rattle.ls_checked.specs.CheckedProgram.{Program}
 use Rattle.ls_meaning.specs.declared.step.Did.{Did}
 use Rattle.ls_meaning.specs.declared.step.Did.TheVariants as did
 use Rattle.ls_meaning.specs.Renamings.{IsRenaming}
-use Rattle.ls_meaning.specs.Still.{IsStill}
+use Rattle.ls_meaning.specs.Still.{IsActing, IsStill}
 use Rattle.ls_search_laws.specs.Stepping.{events_of}
 use Rattle.ls_search_laws.specs.Configuration.{Configuration, IsRenamedStride, renamed_did, stride}
 use Rattle.ls_search_laws.specs.Noticing.{Noticed, noticed_after, renamed_event}
@@ -29,7 +29,8 @@ other_both c d e g h = record {
 
 pub like_same : {S : Type 0} (p q : Noticed S) → q ≡ p → IsLike p q
 like_same {S} p q e = record {
-  other = subst (IsOther p.configuration) (ap (λ (r : Noticed S). r.configuration) (sym e)) (other_same p.configuration);
+  other = subst (IsOther p.configuration) (ap (λ (r : Noticed S). r.configuration) (sym e))
+      (other_same p.configuration);
   noted = ap (λ (r : Noticed S). r.noted) e;
 }
 
@@ -55,6 +56,15 @@ module _ (file : File) (c d : Configuration) (h : IsOther c d) where
     thread = stuck.thread;
     waits = (other_stride stuck.thread).did ∙ ap (renamed_did h.names) stuck.waits;
   }
+
+  acting_did : (names : ℕ → ℕ) (x : Did) → IsActing x → IsActing (renamed_did names x)
+  acting_did names (did.Acted action answer) acts = tt
+  acting_did names did.Waits acts = absurd acts
+  acting_did names did.Idle acts = absurd acts
+
+  -- what acts at one acts at the other
+  pub acting_other : (u : ℕ) → IsActing (stride file c u).did → IsActing (stride file d u).did
+  acting_other u acts = subst IsActing (sym (other_stride u).did) (acting_did h.names (stride file c u).did acts)
 
 module _ {S : Type 0} (first : S) (next : S → Event → S) (file : File) (program : Program) (hides : HidesNames next)
   where

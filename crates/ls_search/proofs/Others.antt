@@ -4,12 +4,10 @@ use Rattle.std.proofs.Common.{subst, arith}
 use Rattle.std.specs.Prelude.{slice_get, slice_index_or}
 use Rattle.std.proofs.lemmas.Bool.{cases_lt}
 use Rattle.std.proofs.lemmas.Option.{get_or_from_slice_get, slice_get_past}
-use Rattle.ls_checked.specs.CheckedTree.{File}
 use Rattle.ls_meaning.specs.Constants.{FileHasConstants}
 use Rattle.ls_meaning.specs.Course.{Answers}
 use Rattle.ls_meaning.specs.Renamings.{renamed_answers, renamed_next}
 use Rattle.ls_meaning.specs.Store.{Store}
-use Rattle.ls_search_laws.specs.Configuration.{Configuration}
 use Rattle.ls_search_laws.specs.Renaming.{IsRenamedStore}
 use Rattle.ls_source.specs.Calls.{Thread}
 use Rattle.ls_source.specs.Kept.{means}
@@ -32,7 +30,8 @@ module _ (t : Table) (store : ℕ) (works : List ℕ) (other : ℕ) (others : Li
   goes u later None e = by_place (cases_lt u (length others))
     where
       by_place : (u < length others) ⊎ (length others ≤ u) →
-          goes_with t (slice_get works u) (renamed_answers h.names later) ≡ renamed_next h.names (goes_with t None later)
+          goes_with t (slice_get works u) (renamed_answers h.names later) ≡
+          renamed_next h.names (goes_with t None later)
       by_place (inl less) = absurd (none_not (sym e ∙ (there others u less).1))
       by_place (inr past) =
           let far : length works ≤ u = omega (arith, past, h.width) in

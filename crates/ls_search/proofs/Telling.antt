@@ -1,6 +1,5 @@
 -- What a search that has closed tells.
 use Rattle.std.proofs.Common.{◌≡◌, ◌⊎◌, inl, inr, ℕ, ◌<◌, ◌≤◌, Bool, true, false, List, length, Option, None, Some}
-use Rattle.std.proofs.Common.{refl}
 use Rattle.std.proofs.Common.{sym, ap, ◌∙◌, subst, arith}
 use Rattle.std.specs.Prelude.{Contains, IfNone, IfSome, replicate, slice_get}
 use Rattle.std.proofs.lemmas.Bool.{cases_lt, cases_Bool}

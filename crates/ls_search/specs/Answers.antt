@@ -27,8 +27,8 @@ pub record IsStuck (file : File) (c : Configuration) : Type 0 where
 -- A list from the root on. Whatever one of so many threads does that acts at one of these leads to one of them, but for
 -- names of objects, by steps that are taken at once. Something stands for what is noted at each. Where no bad path was
 -- told, none of them is bad. Where no stuck one was told, none of them is stuck.
-pub record ClosesAll {N S P : Type 0} (stands : N → S) (first : S) (next : S → Event → S) (is_bad : S → Bool) (file : File)
-    (program : Program) (threads : ℕ) (root : Noticed S) (bad stuck : Option P) : Type 0 where
+pub record ClosesAll {N S P : Type 0} (stands : N → S) (first : S) (next : S → Event → S) (is_bad : S → Bool)
+    (file : File) (program : Program) (threads : ℕ) (root : Noticed S) (bad stuck : Option P) : Type 0 where
   pub pairs : List (Noticed S)
   pub begins : slice_get pairs 0 ≡ Some root
   pub more : (p : Noticed S) (u : ℕ) → Contains pairs p → u < threads → IsActing (stride file p.configuration u).did →

@@ -6,3 +6,5 @@ pub mod SeenSearch
 pub mod Answers
 pub mod Listed
 pub mod Watching
+pub mod Grown
+pub mod Tried

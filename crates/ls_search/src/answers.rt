@@ -7,12 +7,15 @@ ghost use Rattle.std.specs.List.{fold};
 ghost use Rattle.ls_checked.specs.Plain.{plain_file};
 ghost use Rattle.ls_checked.specs.PlainProgram.{plain_program};
 ghost use Rattle.ls_meaning.specs.Constants.{FileHasConstants};
+ghost use Rattle.ls_meaning.specs.Still.{IsActing};
+ghost use Rattle.ls_search_laws.specs.Configuration.{stride};
 ghost use Rattle.ls_search_laws.specs.Noticing.{Noticed, noticed_after};
 ghost use Rattle.ls_transitions.specs.Seen.{table_of};
 ghost use Rattle.ls_search.specs.declared.places.Seen.{Seen as SeenValue};
 ghost use Rattle.ls_search.specs.Places.{AreThere};
 ghost use Rattle.ls_search.specs.Searched.{AreExpanded, HidesNames};
 ghost use Rattle.ls_search.specs.SeenSearch.{IsSoundSearch, pairs_of};
+ghost use Rattle.ls_search.specs.Tried.{HasTried};
 ghost use Rattle.ls_search.specs.Answers.{ClosesAll, IsStuck, root_of};
 
 use crate::closing::close;
@@ -210,9 +213,9 @@ fn stuck_path<O: Observer>(
     }
 }
 
-/// Looks for all that the root leads to, but for names of objects. Each thread acts in turn at each state that was found, and turns and enterings
-/// after that are taken at once. At most so many states are kept. A refusal is that memory ran out, or that a store, a
-/// work or a state has no number left.
+/// Looks for all that the root leads to, but for names of objects. Each thread acts in turn at each state that was
+/// found, and turns and enterings after that are taken at once. At most so many states are kept. A refusal is that
+/// memory ran out, or that a store, a work or a state has no number left.
 pub fn search_from<'a, O: Observer>(
     ground: &Ground<'_, O>,
     transitions: Transitions<'a>,
@@ -226,7 +229,8 @@ pub fn search_from<'a, O: Observer>(
     requires most { ground.now.most ≤ 4096 }
     requires room { 1 ≤ ground.now.limit }
     ensures closes { IfOk result (λ f. IsTrue f.complete →
-        ClosesAll (O.stands ground.now.observer.now) (O.first ground.now.observer.now) (O.next ground.now.observer.now) (O.bad ground.now.observer.now)
+        ClosesAll (O.stands ground.now.observer.now) (O.first ground.now.observer.now)
+        (O.next ground.now.observer.now) (O.bad ground.now.observer.now)
         (plain_file ground.now.file.now) (plain_program ground.now.program.now) ground.now.threads
         (root_of (O.stands ground.now.observer.now) (table_of transitions.entry) root) f.bad f.stuck) }
     ensures bad { IfOk result (λ f. IfSome f.bad (λ path. O.bad ground.now.observer.now
@@ -239,6 +243,11 @@ pub fn search_from<'a, O: Observer>(
         (root_of (O.stands ground.now.observer.now) (table_of transitions.entry) root) path.items).configuration)) }
     ensures cut { IfOk result (λ f. f.complete ≡ false → f.states ≡ ground.now.limit) }
     ensures few { IfOk result (λ f. f.states ≤ ground.now.limit) }
+    ensures tried { IfOk result (λ f. HasTried (λ path u. IsActing (stride (plain_file ground.now.file.now)
+        (fold (noticed_after (O.first ground.now.observer.now) (O.next ground.now.observer.now)
+        (plain_file ground.now.file.now) (plain_program ground.now.program.now))
+        (root_of (O.stands ground.now.observer.now) (table_of transitions.entry) root) path).configuration u).did)
+        f.states) }
 {
     let mut search = start(ground, transitions, root)?;
     let complete = close(ground, &mut search)?;

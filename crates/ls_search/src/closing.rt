@@ -4,6 +4,7 @@ ghost use Rattle.std.specs.Prelude.{◌≡◌, ◌<◌, ◌≤◌, ◌+◌, IfOk
 ghost use Rattle.ls_checked.specs.Plain.{plain_file};
 ghost use Rattle.ls_checked.specs.PlainProgram.{plain_program};
 ghost use Rattle.ls_transitions.specs.Tables.{Keeps};
+ghost use Rattle.ls_search.specs.Grown.{AreGrown, HasGrown};
 ghost use Rattle.ls_search.specs.Searched.{AreExpanded};
 ghost use Rattle.ls_search.specs.SeenSearch.{IsSoundSearch, pairs_of};
 
@@ -30,6 +31,9 @@ fn expand<O: Observer>(
         (plain_file ground.now.file.now) (plain_program ground.now.program.now)
         (pairs_of (O.first ground.now.observer.now) (O.stands ground.now.observer.now) search.old) ground.now.threads
         search.old.seen.items }
+    requires grown { AreGrown (plain_file ground.now.file.now)
+        (pairs_of (O.first ground.now.observer.now) (O.stands ground.now.observer.now) search.old)
+        search.old.found.nodes.items at 0 }
     ensures sound { OnOk result (IsSoundSearch (O.first ground.now.observer.now) (O.next ground.now.observer.now)
         (O.stands ground.now.observer.now) (plain_file ground.now.file.now) (plain_program ground.now.program.now)
         ground.now.threads search.new) }
@@ -45,6 +49,9 @@ fn expand<O: Observer>(
     ensures few { OnOk result (length search.old.found.nodes.items ≤ ground.now.limit →
         length search.new.found.nodes.items ≤ ground.now.limit) }
     ensures within { OnOk result (length search.new.seen.items ≤ length search.new.found.nodes.items) }
+    ensures grown { OnOk result (AreGrown (plain_file ground.now.file.now)
+        (pairs_of (O.first ground.now.observer.now) (O.stands ground.now.observer.now) search.new)
+        search.new.found.nodes.items (at + 1) 0) }
 {
     let place = place_at(&search.found.nodes, at);
     let ended = has_setup_ended(ground.alloc, &mut search.transitions, place)?;
@@ -74,6 +81,9 @@ pub(crate) fn close<O: Observer>(
     requires sound { IsSoundSearch (O.first ground.now.observer.now) (O.next ground.now.observer.now)
         (O.stands ground.now.observer.now) (plain_file ground.now.file.now) (plain_program ground.now.program.now)
         ground.now.threads search.old }
+    requires grown { AreGrown (plain_file ground.now.file.now)
+        (pairs_of (O.first ground.now.observer.now) (O.stands ground.now.observer.now) search.old)
+        search.old.found.nodes.items 0 0 }
     ensures sound { OnOk result (IsSoundSearch (O.first ground.now.observer.now) (O.next ground.now.observer.now)
         (O.stands ground.now.observer.now) (plain_file ground.now.file.now) (plain_program ground.now.program.now)
         ground.now.threads search.new) }
@@ -89,6 +99,9 @@ pub(crate) fn close<O: Observer>(
     ensures cut { IfOk result (λ done. done ≡ false → length search.new.found.nodes.items ≡ ground.now.limit) }
     ensures few { OnOk result (length search.new.found.nodes.items ≤ ground.now.limit) }
     ensures within { OnOk result (length search.new.seen.items ≤ length search.new.found.nodes.items) }
+    ensures grown { OnOk result (HasGrown (plain_file ground.now.file.now)
+        (pairs_of (O.first ground.now.observer.now) (O.stands ground.now.observer.now) search.new)
+        search.new.found.nodes.items) }
 {
     for at in 0..ground.limit {
         if at >= search.found.nodes.len() {

@@ -4,7 +4,7 @@ ghost use Rattle.std.specs.Prelude.{◌≡◌, ◌≤◌, ◌++◌, IfNone, IfOk
 ghost use Rattle.ls_serial_search.specs.Told.{IsDoubt, usual};
 ghost use Rattle.ls_checked.specs.Plain.{plain_file};
 ghost use Rattle.ls_checked.specs.PlainProgram.{plain_program};
-ghost use Rattle.ls_state_space.specs.Verdicts.{LeavesStuck, NeverStuck};
+ghost use Rattle.ls_state_space.specs.Verdicts.{AreReached, LeavesStuck, NeverStuck};
 ghost use Rattle.ls_source_judge.specs.Judged.{AllLinearizable, IsNotLinearizable};
 
 use ls_checked::program::Program;
@@ -51,6 +51,8 @@ pub fn judge_schedules(
         LeavesStuck (plain_file file.now) (plain_program program.now) (replicate j.setup 0 ++ path.items))) }
     ensures cut { IfOk result (λ j. j.complete ≡ false → j.states ≡ limit) }
     ensures few { IfOk result (λ j. j.states ≤ limit) }
+    ensures reached { IfOk result (λ j.
+        AreReached (plain_file file.now) (plain_program program.now) j.setup j.states) }
 {
     bad_stays_bad();
     let serial = serial_observer(alloc, file, program, Bounds::usual())?;

@@ -12,7 +12,7 @@ use Rattle.ls_checked.specs.CheckedTree.{File}
 use Rattle.ls_checked.specs.CheckedProgram.{Program}
 use Rattle.ls_meaning.specs.Renamings.{IsRenaming}
 use Rattle.ls_meaning.specs.Runs.{State, source_history, source_run, step}
-use Rattle.ls_meaning.specs.Still.{IsStill}
+use Rattle.ls_meaning.specs.Still.{IsActing, IsStill}
 use Rattle.ls_search_laws.specs.Configuration.{configuration_of, stride}
 use Rattle.ls_search_laws.specs.Noticing.{IsAlikeUnder, Noticed, StaysBad, noticed_after, noticed_of}
 use Rattle.ls_search_laws.specs.Noticing.{renamed_event}
@@ -28,7 +28,7 @@ use Rattle.ls_search.specs.Strides.{at_once}
 use Rattle.ls_search.specs.Searched.{HidesNames}
 use Rattle.ls_search.proofs.Unrenamed.{own, unrenamed}
 use Rattle.ls_state_space.specs.Nameless.{is_nameless, nameless_bad, nameless_next}
-use Rattle.ls_state_space.specs.Verdicts.{AllGood, LeavesStuck, NeverStuck}
+use Rattle.ls_state_space.specs.Verdicts.{ActsAfter, AllGood, LeavesStuck, NeverStuck}
 
 none_not : {A : Type 0} {x : A} → None ≡ Some x → ⊥
 none_not h = cc
@@ -112,7 +112,8 @@ module _ {S : Type 0} (next : S → Event → S) where
 
 module _ {N S P : Type 0} (stands : N → S) (first : S) (next : S → Event → S) (is_bad : S → Bool) (file : File)
     (program : Program) (k : ℕ) (bad stuck : Option P) (up : SetsUp file program k)
-    (closes : ClosesAll (λ (n : N). Some (stands n)) (Some first) (nameless_next next) (nameless_bad is_bad) file program
+    (closes : ClosesAll (λ (n : N). Some (stands n)) (Some first) (nameless_next next) (nameless_bad is_bad) file
+    program
     (length program.threads)
     (noticed_of (Some first) (nameless_next next) file program (replicate k 0)) bad stuck) where
   alike : IsAlikeUnder IsRenaming (nameless_next next) (λ m n. m ≡ n)
@@ -135,7 +136,8 @@ module _ {N S P : Type 0} (stands : N → S) (first : S) (next : S → Event →
       pair = noticed_of (Some first) (nameless_next next) file program (replicate k 0);
       there = (
         0,
-        slice_get_within closes.pairs 0 (noticed_of (Some first) (nameless_next next) file program (replicate k 0)) closes.begins,
+        slice_get_within closes.pairs 0 (noticed_of (Some first) (nameless_next next) file program (replicate k 0))
+            closes.begins,
         get_or_from_slice_get closes.pairs 0 (noticed_of (Some first) (nameless_next next) file program (replicate k 0))
             (noticed_of (Some first) (nameless_next next) file program (replicate k 0)) closes.begins,
       );
@@ -168,15 +170,19 @@ module _ {N S P : Type 0} (stands : N → S) (first : S) (next : S → Event →
   pub never_stuck : IfNone stuck (NeverStuck file program)
   never_stuck =
       none_map _ _ stuck
-      (λ (none : (p : Noticed (Option S)) → Contains closes.pairs p → IsStuck file p.configuration → ⊥) (schedule : List ℕ)
+      (λ (none : (p : Noticed (Option S)) → Contains closes.pairs p → IsStuck file p.configuration → ⊥)
+      (schedule : List ℕ)
       (left : LeavesStuck file program schedule).
       by_end none schedule left
-      (finds_ends (Some first) (nameless_next next) at_once IsRenaming (λ m n. m ≡ n) file program k closes.pairs searched schedule left.over))
+      (finds_ends (Some first) (nameless_next next) at_once IsRenaming (λ m n. m ≡ n) file program k closes.pairs
+      searched schedule left.over))
       closes.free
     where
-      by_end : ((p : Noticed (Option S)) → Contains closes.pairs p → IsStuck file p.configuration → ⊥) → (schedule : List ℕ) →
+      by_end : ((p : Noticed (Option S)) → Contains closes.pairs p → IsStuck file p.configuration → ⊥) →
+          (schedule : List ℕ) →
           (left : LeavesStuck file program schedule) →
-          IsEndFound (Some first) (nameless_next next) at_once IsRenaming (λ m n. m ≡ n) file program closes.pairs schedule →
+          IsEndFound (Some first) (nameless_next next) at_once IsRenaming (λ m n. m ≡ n) file program closes.pairs
+          schedule →
           ⊥
       by_end none schedule left end = none end.found.pair end.found.there (record {
         still = end.over;
@@ -216,3 +222,15 @@ module _ {S : Type 0} (first : S) (next : S → Event → S) (file : File) (prog
         thread = at.thread;
         waits = same at.thread ∙ at.waits;
       }
+
+  pub acts_of : (u : ℕ) →
+      IsActing (stride file (fold (noticed_after first next file program)
+      (noticed_of first next file program (replicate k 0)) path).configuration u).did →
+      ActsAfter file program k path u
+  acts_of u acts =
+      let at : IsActing (stride file (noticed_of first next file program (replicate k 0 ++ path)).configuration u).did =
+      subst (λ (p : Noticed S). IsActing (stride file p.configuration u).did)
+      (tells_truth first next file program (replicate k 0) path) acts in
+      subst IsActing
+      (sym (step_stride file program (source_run file program (replicate k 0 ++ path))
+      (long_of_all file program (replicate k 0 ++ path)) u).0) at

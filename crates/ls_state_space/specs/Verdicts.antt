@@ -1,12 +1,13 @@
 -- What is told of all schedules of a program.
-use Rattle.std.specs.Prelude.{◌≡◌, ℕ, Bool, false, List}
+use Rattle.std.specs.Prelude.{◌≡◌, ℕ, ◌++◌, Bool, false, List, replicate}
 use Rattle.std.specs.List.{fold}
 use Rattle.ls_events.specs.declared.event.Event.{Event}
 use Rattle.ls_checked.specs.CheckedTree.{File}
 use Rattle.ls_checked.specs.CheckedProgram.{Program}
 use Rattle.ls_meaning.specs.declared.step.Did.TheVariants as did
 use Rattle.ls_meaning.specs.Runs.{source_history, source_run, step}
-use Rattle.ls_meaning.specs.Still.{IsOver}
+use Rattle.ls_meaning.specs.Still.{IsActing, IsOver}
+use Rattle.ls_search.specs.Tried.{HasTried}
 
 -- no schedule, of any length, has a bad history
 abbrev pub AllGood : {S : Type 0} → S → (S → Event → S) → (S → Bool) → File → Program → Type 0
@@ -22,3 +23,13 @@ pub record LeavesStuck (file : File) (program : Program) (schedule : List ℕ) :
 -- no schedule, of any length, leaves the threads so
 abbrev pub NeverStuck : File → Program → Type 0
 NeverStuck file program = (schedule : List ℕ) → LeavesStuck file program schedule → ⊥
+
+-- after so many steps of the setup and these steps, the thread acts
+abbrev pub ActsAfter : File → Program → ℕ → List ℕ → ℕ → Type 0
+ActsAfter file program setup path thread =
+    IsActing (step file program (source_run file program (replicate setup 0 ++ path)) thread).did
+
+-- There are so many schedules after these steps of the setup. Each goes on from an earlier one by steps of a thread
+-- that acts there, and no two go on from the same one by the same thread.
+abbrev pub AreReached : File → Program → ℕ → ℕ → Type 0
+AreReached file program setup states = HasTried (ActsAfter file program setup) states

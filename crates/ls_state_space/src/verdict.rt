@@ -7,7 +7,7 @@ ghost use Rattle.ls_checked.specs.PlainProgram.{plain_program};
 ghost use Rattle.ls_meaning.specs.Runs.{source_history};
 ghost use Rattle.ls_search_laws.specs.Noticing.{StaysBad};
 ghost use Rattle.ls_search_laws.specs.Stepping.{SetsUp};
-ghost use Rattle.ls_state_space.specs.Verdicts.{AllGood, LeavesStuck, NeverStuck};
+ghost use Rattle.ls_state_space.specs.Verdicts.{AllGood, AreReached, LeavesStuck, NeverStuck};
 
 use crate::nameless::Nameless;
 use ls_checked::program::Program;
@@ -31,8 +31,8 @@ pub struct Finding {
 }
 
 /// Has an observer look at the histories of all schedules of a program, by the states that threads lead to. At most so
-/// many states are kept. A refusal is that memory ran out, or that a store, a work or a state has no number left. A call
-/// that answers an object is refused too: the calls of a program that was read answer none.
+/// many states are kept. A refusal is that memory ran out, or that a store, a work or a state has no number left. A
+/// call that answers an object is refused too: the calls of a program that was read answer none.
 pub fn verdict<O: Observer>(
     alloc: Global,
     observer: &O,
@@ -55,6 +55,8 @@ pub fn verdict<O: Observer>(
         LeavesStuck (plain_file file.now) (plain_program program.now) (replicate f.setup 0 ++ path.items))) }
     ensures cut { IfOk result (λ f. f.complete ≡ false → f.states ≡ limit) }
     ensures few { IfOk result (λ f. f.states ≤ limit) }
+    ensures reached { IfOk result (λ f.
+        AreReached (plain_file file.now) (plain_program program.now) f.setup f.states) }
 {
     if limit == 0 {
         return Ok(Finding {

@@ -6,7 +6,7 @@ use Rattle.ls_checked.specs.Plain.{plain_file}
 use Rattle.ls_checked.specs.PlainProgram.{plain_program}
 use Rattle.ls_types.specs.CheckedFile.{outcome_of}
 use Rattle.ls_translation.specs.Texts.{file_of, program_of}
-use Rattle.ls_state_space.specs.Verdicts.{NeverStuck}
+use Rattle.ls_state_space.specs.Verdicts.{AreReached, NeverStuck}
 use Rattle.ls_explore_commands.proofs.deciding.judged_of.Goals as goal
 
 pub returns-clause-free : goal.returns-clause-free
@@ -19,3 +19,19 @@ returns-clause-free c = λ complete.
     subst (λ (p : Program). IfNone j.stuck (NeverStuck (file_of i) p)) program
     (subst (λ (f : File). IfNone j.stuck (NeverStuck f (plain_program c.program.result.now))) file
     (c.in_ok-judged.ensures.free complete))
+
+pub returns-clause-extent : goal.returns-clause-extent
+returns-clause-extent c =
+    let i = c.args.image.now in
+    let j = c.in_ok-judged.judged in
+    let file : plain_file c.file.result.now ≡ file_of i =
+    ap plain_file c.file.ensures ∙ ap (λ k. (outcome_of k).file) c.checked.ensures in
+    let program : plain_program c.program.result.now ≡ program_of i = ap plain_program c.program.ensures in
+    record {
+      within = c.in_ok-judged.ensures.few;
+      cut = c.in_ok-judged.ensures.cut;
+      setup = j.setup;
+      reached = subst (λ (p : Program). AreReached (file_of i) p j.setup j.states) program
+          (subst (λ (f : File). AreReached f (plain_program c.program.result.now) j.setup j.states) file
+          c.in_ok-judged.ensures.reached);
+    }

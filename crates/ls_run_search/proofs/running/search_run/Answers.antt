@@ -6,8 +6,11 @@ use Rattle.ls_checked.specs.CheckedTree.{File}
 use Rattle.ls_checked.specs.CheckedProgram.{Program}
 use Rattle.ls_checked.specs.Plain.{plain_file}
 use Rattle.ls_checked.specs.PlainProgram.{plain_program, plain_thread}
+use Rattle.ls_meaning.specs.Still.{IsActing}
+use Rattle.ls_search_laws.specs.Configuration.{stride}
 use Rattle.ls_search_laws.specs.Noticing.{Noticed, noticed_after, noticed_of}
 use Rattle.ls_search.specs.Answers.{ClosesAll, IsStuck}
+use Rattle.ls_search.specs.Tried.{HasTried}
 use Rattle.ls_run_search.proofs.running.search_run.Goals as goal
 
 pub returns-clause-closes : goal.returns-clause-closes
@@ -47,3 +50,13 @@ returns-clause-stuck g c =
     subst (λ (r : Noticed g.O.Observer.State). IfSome c.in_ok-found.found.stuck (λ (path : Vec ℕ Global).
     IsStuck file (fold (noticed_after first next file program) r path.items).configuration)) c.in_ok-steps.ensures.root
     c.in_ok-found.ensures.stuck
+
+pub returns-clause-tried : goal.returns-clause-tried
+returns-clause-tried g c =
+    let file : File = plain_file c.args.file.now in
+    let program : Program = plain_program c.args.program.now in
+    let first = g.O.Observer.first c.args.observer.now in
+    let next = g.O.Observer.next c.args.observer.now in
+    subst (λ (r : Noticed g.O.Observer.State). HasTried (λ path u. IsActing (stride file
+    (fold (noticed_after first next file program) r path).configuration u).did) c.in_ok-found.found.states)
+    c.in_ok-steps.ensures.root c.in_ok-found.ensures.tried

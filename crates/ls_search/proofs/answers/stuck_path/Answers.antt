@@ -1,4 +1,4 @@
-use Rattle.std.proofs.Common.{◌≡◌, ◌<◌, List, length, map, Some, sym, ap, ◌∙◌, subst, arith}
+use Rattle.std.proofs.Common.{◌≡◌, ◌<◌, List, length, map, Some, sym, ap, ◌∙◌, arith}
 use Rattle.std.specs.Prelude.{slice_get}
 use Rattle.ls_checked.specs.Plain.{plain_file}
 use Rattle.ls_checked.specs.PlainProgram.{plain_program}
@@ -7,7 +7,6 @@ use Rattle.ls_transitions.specs.Tables.{Table}
 use Rattle.ls_transitions.specs.Seen.{table_of}
 use Rattle.ls_transitions.proofs.Keeping.{below, there}
 use Rattle.ls_search.specs.declared.places.Seen.{Seen}
-use Rattle.ls_search.specs.Answers.{IsStuck}
 use Rattle.ls_search.specs.SeenSearch.{pairs_of}
 use Rattle.ls_search.proofs.Expanding.{pairs_length}
 use Rattle.ls_search.proofs.Likeness.{stuck_other}

@@ -20,4 +20,5 @@ loop-at-preserved g c =
       count = count;
       within = omega (arith, count, c.in_ok-expand.ensures.within);
       few = c.in_ok-expand.ensures.few inv.few;
+      grown = c.in_ok-expand.ensures.grown;
     }

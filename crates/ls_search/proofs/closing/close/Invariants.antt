@@ -2,6 +2,7 @@ use Rattle.std.proofs.Common.{◌≡◌, ◌≤◌, length}
 use Rattle.ls_checked.specs.Plain.{plain_file}
 use Rattle.ls_checked.specs.PlainProgram.{plain_program}
 use Rattle.ls_transitions.specs.Tables.{Keeps}
+use Rattle.ls_search.specs.Grown.{AreGrown}
 use Rattle.ls_search.specs.Searched.{AreExpanded}
 use Rattle.ls_search.specs.SeenSearch.{IsSoundSearch, pairs_of}
 use Rattle.ls_search.proofs.closing.close.Given as goal
@@ -21,4 +22,7 @@ invariant-loop-at g l = record {
   count : length l.search.seen.items ≡ l.at;
   within : l.at ≤ length l.search.found.nodes.items;
   few : length l.search.found.nodes.items ≤ l.ground.limit;
+  grown : AreGrown (plain_file l.ground.file.now)
+      (pairs_of (g.O.Observer.first l.ground.observer.now) (g.O.Observer.stands l.ground.observer.now) l.search)
+      l.search.found.nodes.items l.at 0;
 }

@@ -1,4 +1,4 @@
-use Rattle.std.proofs.Common.{◌≡◌, ◌<◌, ◌≤◌, List, length, map, Some, [], refl, sym, ap, ◌∙◌, arith, false}
+use Rattle.std.proofs.Common.{◌≡◌, ◌+◌, ◌<◌, ◌≤◌, List, length, map, Some, [], refl, sym, ap, ◌∙◌, arith, false}
 use Rattle.std.specs.Prelude.{slice_get}
 use Rattle.ls_checked.specs.CheckedTree.{File}
 use Rattle.ls_checked.specs.CheckedProgram.{Program}
@@ -14,6 +14,7 @@ use Rattle.ls_search.specs.Places.{configuration_of}
 use Rattle.ls_search.specs.Searched.{noticed_at, pairs_at}
 use Rattle.ls_search.specs.SeenSearch.{pairs_of}
 use Rattle.ls_search.proofs.Expanding.{expanded_cut, expanded_end, here_more, longer, pairs_length, same_there}
+use Rattle.ls_search.proofs.Growing.{grown_more, grown_path, grown_stays}
 use Rattle.ls_search.proofs.Pairs.{keeps_both}
 use Rattle.ls_search.proofs.Sights.{keeps_then, pair_here, sound_then}
 use Rattle.ls_search.proofs.Sounding.{expanded_none}
@@ -55,6 +56,9 @@ loop-thread-init g c =
       few = λ h. h;
       seen_same = refl;
       within = c.requires.at;
+      grown = grown_stays file old (pairs_at first t' states nodes) nodes c.args.at 0
+          (keeps_then first next file program c.args.ground.now.threads t t' states nodes c.requires.sound
+          c.has_setup_ended.ensures.grows) c.requires.grown;
     }
 
 pub look-requires-clause-ended : goal.look-requires-clause-ended
@@ -156,7 +160,35 @@ loop-thread-preserved g c =
       few = λ h. c.in_ok-looked.ensures.few (inv.few h);
       seen_same = c.look.ensures.seen ∙ inv.seen_same;
       within = omega (arith, inv.within, more);
+      grown = grown_more file mid new c.loop-thread.search.found.nodes.items c.look.new.search.found.nodes.items
+          c.args.at c.loop-thread.thread keeps mid_within c.in_ok-looked.ensures.grown inv.grown;
     }
+
+pub returns-in_default-clause-grown : goal.returns-in_default-clause-grown
+returns-in_default-clause-grown g c =
+    let first = g.O.Observer.first c.args.ground.now.observer.now in
+    let stands = g.O.Observer.stands c.args.ground.now.observer.now in
+    let file : File = plain_file c.args.ground.now.file.now in
+    let mid : List (Noticed g.O.Observer.State) = pairs_of first stands c.loop-thread.search in
+    let new : List (Noticed g.O.Observer.State) = pairs_of first stands c.look.new.search in
+    let inv = c.loop-thread.invariant in
+    let mid_within : c.args.at < length mid =
+    omega (
+      arith,
+      inv.within,
+      pairs_length first (table_of c.loop-thread.search.transitions)
+          (map stands c.loop-thread.search.pool.values.items) c.loop-thread.search.found.nodes.items,
+    ) in
+    grown_path file new c.look.new.search.found.nodes.items c.args.at (c.loop-thread.thread + 1)
+    (grown_more file mid new c.loop-thread.search.found.nodes.items c.look.new.search.found.nodes.items c.args.at
+    c.loop-thread.thread c.in_ok-looked.ensures.keeps mid_within c.in_ok-looked.ensures.grown inv.grown)
+
+pub returns-clause-grown : goal.returns-clause-grown
+returns-clause-grown g c =
+    let first = g.O.Observer.first c.args.ground.now.observer.now in
+    let stands = g.O.Observer.stands c.args.ground.now.observer.now in
+    grown_path (plain_file c.args.ground.now.file.now) (pairs_of first stands c.loop-thread.search)
+    c.loop-thread.search.found.nodes.items c.args.at c.loop-thread.thread c.loop-thread.invariant.grown
 
 pub returns-clause-expanded : goal.returns-clause-expanded
 returns-clause-expanded g c =

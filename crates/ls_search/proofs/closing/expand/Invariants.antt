@@ -5,6 +5,7 @@ use Rattle.ls_checked.specs.PlainProgram.{plain_program}
 use Rattle.ls_meaning.specs.Runs.{has_ended}
 use Rattle.ls_search_laws.specs.Noticing.{Noticed}
 use Rattle.ls_transitions.specs.Tables.{Keeps}
+use Rattle.ls_search.specs.Grown.{AreGrown}
 use Rattle.ls_search.specs.Searched.{IsExpanded}
 use Rattle.ls_search.specs.SeenSearch.{IsSoundSearch, pairs_of}
 use Rattle.ls_search.proofs.closing.expand.Given as goal
@@ -34,4 +35,7 @@ invariant-loop-thread g l = record {
   few : length l.fn.search.found.nodes.items ≤ l.ground.limit → length l.search.found.nodes.items ≤ l.ground.limit;
   seen_same : l.search.seen.items ≡ l.fn.search.seen.items;
   within : l.at < length l.search.found.nodes.items;
+  grown : AreGrown (plain_file l.ground.file.now)
+      (pairs_of (g.O.Observer.first l.ground.observer.now) (g.O.Observer.stands l.ground.observer.now) l.search)
+      l.search.found.nodes.items l.at l.thread;
 }

@@ -5,12 +5,16 @@ use Rattle.ls_checked.specs.CheckedProgram.{Program}
 use Rattle.ls_checked.specs.Plain.{plain_file}
 use Rattle.ls_checked.specs.PlainProgram.{plain_program}
 use Rattle.ls_meaning.specs.Runs.{source_history}
+use Rattle.ls_meaning.specs.Still.{IsActing}
+use Rattle.ls_search_laws.specs.Configuration.{stride}
 use Rattle.ls_search_laws.specs.Noticing.{noticed_after, noticed_of}
 use Rattle.ls_search.specs.Answers.{IsStuck}
 use Rattle.ls_search.proofs.Telling.{some_map}
+use Rattle.ls_search.proofs.Trying.{tried_if}
 use Rattle.ls_state_space.specs.Nameless.{nameless_bad, nameless_next}
-use Rattle.ls_state_space.specs.Verdicts.{LeavesStuck}
-use Rattle.ls_state_space.proofs.Judging.{all_good, bad_of, nameless_hides, never_stuck, stuck_of}
+use Rattle.ls_state_space.specs.Verdicts.{ActsAfter, LeavesStuck}
+use Rattle.ls_state_space.proofs.Judging.{acts_of, all_good, bad_of, nameless_hides, never_stuck}
+use Rattle.ls_state_space.proofs.Judging.{stuck_of}
 use Rattle.ls_state_space.proofs.verdict.verdict.Goals as goal
 
 pub search_run-requires-clause-hides : goal.search_run-requires-clause-hides
@@ -70,3 +74,16 @@ returns-clause-stuck g c =
     (λ (path : Vec ℕ Global). LeavesStuck file program (replicate k 0 ++ path.items))
     c.in_ok-told.told.found.stuck (λ path h. stuck_of (Some first) (nameless_next next) file program k path.items h)
     c.in_ok-told.ensures.stuck
+
+pub returns-clause-reached : goal.returns-clause-reached
+returns-clause-reached g c =
+    let first = g.O.Observer.first c.args.observer.now in
+    let next = g.O.Observer.next c.args.observer.now in
+    let file : File = plain_file c.args.file.now in
+    let program : Program = plain_program c.args.program.now in
+    let k = c.in_ok-told.told.setup in
+    tried_if
+    (λ path u. IsActing (stride file (fold (noticed_after (Some first) (nameless_next next) file program)
+    (noticed_of (Some first) (nameless_next next) file program (replicate k 0)) path).configuration u).did)
+    (ActsAfter file program k) c.in_ok-told.told.found.states
+    (λ path u acts. acts_of (Some first) (nameless_next next) file program k path u acts) c.in_ok-told.ensures.tried
