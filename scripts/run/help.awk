@@ -27,7 +27,7 @@ function print_broken(line,  at, indent) {
 /two parts, a history/ { files = "my.history my.order" }
 /input is a history/ { files = "my.history" }
 /input has a history, or class/ { files = "my.java my.program my.history" }
-/[Ii]nput is a class text/ { files = "my.java" }
+/[Ii]nput is a class text/ { files = "my.java my.menu" }
 /program and targets/ { files = "my.java my.program my.targets" }
 /input is tallies/ { files = "my.tally more.tally" }
 /^Usage: listset [a-z]/ { command = $3; $0 = $0 " [FILE]..." }
@@ -47,6 +47,11 @@ END {
         print "The parts can be named as files, in this order; one file may have several, - is"
         print "standard input, and after -- each word is a file:"
         print "  listset " command " " files
+        if (command == "find") {
+            print ""
+            print "A line of the menu can be a word:"
+            print "  listset find --menu \047lock(#); unlock(#)\047 my.java"
+        }
         if (command == "page") {
             print ""
             print "The page is put round what the program prints:"

@@ -1,7 +1,7 @@
 -- Why a class text has no programs, fault by fault.
 use Rattle.std.proofs.Common.{◌≡◌, ◌∙◌, ◌<◌, ◌⊎◌, ◌↔◌, inl, inr, ℕ, List, [], Result, Ok, Err, length, map, ap}
 use Rattle.std.proofs.Common.{sym, refl, subst}
-use Rattle.std.specs.Prelude.{IfErr, IsErrOf, Some, slice_get, string_bytes, String}
+use Rattle.std.specs.Prelude.{IfErr, IsErrOf, Option, Some, slice_get, string_bytes, String}
 use Rattle.std.specs.Global.{Global}
 use Rattle.std.proofs.lemmas.List.{length-map, nil_from_length}
 use Rattle.ls_families.specs.Families.{count_of, family_of}
@@ -21,68 +21,68 @@ use Rattle.ls_tree.specs.Trees.{ClassTree, File, Text}
 use Rattle.ls_tree.specs.Views.{bare_class}
 use Rattle.ls_tree.specs.declared.tree.Class.{Class}
 use Rattle.ls_tree.specs.declared.tree.ClassFile.{ClassFile}
-use Rattle.ls_menus.specs.Limits.{AreTooMany, ClassHasTooMany}
-use Rattle.ls_menus.specs.Menus.{class_calls, constructor_parameters, makings}
+use Rattle.ls_menus.specs.Limits.{AreTooMany}
+use Rattle.ls_menus.specs.Menus.{constructor_parameters, makings}
 use Rattle.ls_menus.specs.declared.fault.MenuFault.{MenuFault}
-use Rattle.ls_menus.specs.declared.fault.MenuFault.TheVariants as menu
+use Rattle.ls_menus.specs.declared.fault.MenuFault.TheVariants as menus
 use Rattle.ls_class_programs.specs.Chosen.{chosen}
 use Rattle.ls_class_programs.specs.ClassPrograms.{Chooses, IsClassFault, LacksAtPlace, LacksPrograms, NoFile}
-use Rattle.ls_class_programs.specs.ClassPrograms.{NoPrograms, OutOfMemory}
+use Rattle.ls_class_programs.specs.ClassPrograms.{HasTooManyCalls, NoPrograms, OutOfMemory, menu_calls}
 use Rattle.ls_class_programs.specs.Lifted.{fault_of_family, fault_of_menu, fault_of_text}
 use Rattle.ls_class_programs.specs.declared.choosing.Choosing.{Choosing}
 use Rattle.ls_class_programs.specs.declared.fault.ClassFault.{ClassFault}
 use Rattle.ls_class_programs.specs.declared.fault.ClassFault.TheVariants as faults
 
-module _ (o : Choosing) (c : ClassTree) where
+module _ (o : Choosing) (menu : Option Text) (c : ClassTree) where
   pub makings_fail : {T : Type 0} (e : MenuFault) →
-      (IsErrOf {T = T} (Err e) menu.TooMany → AreTooMany o.values (constructor_parameters c.members)) →
-      LacksPrograms o c (fault_of_menu e)
-  makings_fail menu.Memory many = tt
-  makings_fail menu.TooMany many = inr (many refl)
+      (IsErrOf {T = T} (Err e) menus.TooMany → AreTooMany o.values (constructor_parameters c.members)) →
+      LacksPrograms o menu c (fault_of_menu e)
+  makings_fail menus.Memory many = tt
+  makings_fail menus.TooMany many = inr (many refl)
 
-  pub calls_fail : {T : Type 0} (e : MenuFault) →
-      (IsErrOf {T = T} (Err e) menu.TooMany → ClassHasTooMany o.values c) → LacksPrograms o c (fault_of_menu e)
-  calls_fail menu.Memory many = tt
-  calls_fail menu.TooMany many = inl (many refl)
+  pub calls_fail : (f : ClassFault) →
+      (f ≡ faults.Memory) ⊎ ((f ≡ faults.TooManyCalls) × HasTooManyCalls menu o.values c) → LacksPrograms o menu c f
+  calls_fail f (inl memory) = subst (LacksPrograms o menu c) (sym memory) tt
+  calls_fail f (inr many) = subst (LacksPrograms o menu c) (sym many.0) (inl many.1)
 
   pub making_fails : (f : ClassFault) (texts : List (String Global)) → map string_bytes texts ≡ makings o.values c →
-      (f ≡ faults.Memory) ⊎ ((f ≡ faults.NoMaking) × (map string_bytes texts ≡ [])) → LacksPrograms o c f
-  making_fails f texts are (inl memory) = subst (LacksPrograms o c) (sym memory) tt
-  making_fails f texts are (inr none) = subst (LacksPrograms o c) (sym none.0) (sym are ∙ none.1)
+      (f ≡ faults.Memory) ⊎ ((f ≡ faults.NoMaking) × (map string_bytes texts ≡ [])) → LacksPrograms o menu c f
+  making_fails f texts are (inl memory) = subst (LacksPrograms o menu c) (sym memory) tt
+  making_fails f texts are (inr none) = subst (LacksPrograms o menu c) (sym none.0) (sym are ∙ none.1)
 
   pub family_fails : {T : Type 0} (e : FamilyFault) (calls : List (String Global)) (n : ℕ) →
-      map string_bytes calls ≡ class_calls o.values c → n ≡ length calls →
+      map string_bytes calls ≡ menu_calls menu o.values c → n ≡ length calls →
       (IsErrOf {T = T} (Err e) family.NoCalls ↔ (n ≡ 0)) →
       (IsErrOf {T = T} (Err e) family.BadBounds ↔ ((0 < n) × AreBad o.bounds)) →
       (IsErrOf {T = T} (Err e) family.TooMany → 1000000 < count_of (family_of n o.bounds)) →
-      LacksPrograms o c (fault_of_family e)
+      LacksPrograms o menu c (fault_of_family e)
   family_fails family.Memory calls n are is none bad many = tt
   family_fails family.NoCalls calls n are is none bad many =
       sym are ∙ ap (map string_bytes) (nil_from_length calls (sym is ∙ none.0 refl))
   family_fails family.BadBounds calls n are is none bad many = (bad.0 refl).1
   family_fails family.TooMany calls n are is none bad many =
-      let same : n ≡ length (class_calls o.values c) = is ∙ sym (length-map calls string_bytes) ∙ ap length are in
+      let same : n ≡ length (menu_calls menu o.values c) = is ∙ sym (length-map calls string_bytes) ∙ ap length are in
       subst (λ (k : ℕ). 1000000 < count_of (family_of k o.bounds)) same (many refl)
 
 of_err : {T E : Type 0} {a b : E} → IsErrOf {T = T} (Err a) b → a ≡ b
 of_err e = cc
 
 -- a text that spells no file
-pub text_fails : {T : Type 0} (o : Choosing) (classes : Text) (f : TextFault) →
+pub text_fails : {T : Type 0} (o : Choosing) (classes : Text) (menu : Option Text) (f : TextFault) →
     Refuses f ((file : File) → TextSpells file classes → ⊥) → MayCome classes f →
-    (text_limit < length classes → IsErrOf {T = T} (Err f) text.TooLong) → IsClassFault o classes (fault_of_text f)
-text_fails o classes text.Memory none may long = OutOfMemory
-text_fails o classes text.TooLong none may long =
+    (text_limit < length classes → IsErrOf {T = T} (Err f) text.TooLong) → IsClassFault o classes menu (fault_of_text f)
+text_fails o classes menu text.Memory none may long = OutOfMemory
+text_fails o classes menu text.TooLong none may long =
     NoFile text.TooLong (record { none = none; comes = record { may = may; long = λ l. of_err (long l) } })
-text_fails o classes (text.BadByte at) none may long =
+text_fails o classes menu (text.BadByte at) none may long =
     NoFile (text.BadByte at) (record { none = none; comes = record { may = may; long = λ l. of_err (long l) } })
-text_fails o classes (text.OpenComment at) none may long =
+text_fails o classes menu (text.OpenComment at) none may long =
     NoFile (text.OpenComment at) (record { none = none; comes = record { may = may; long = λ l. of_err (long l) } })
-text_fails o classes (text.BadNumber at) none may long =
+text_fails o classes menu (text.BadNumber at) none may long =
     NoFile (text.BadNumber at) (record { none = none; comes = record { may = may; long = λ l. of_err (long l) } })
-text_fails o classes (text.Syntax at) none may long =
+text_fails o classes menu (text.Syntax at) none may long =
     NoFile (text.Syntax at) (record { none = none; comes = record { may = may; long = λ l. of_err (long l) } })
-text_fails o classes (text.TooDeep at) none may long =
+text_fails o classes menu (text.TooDeep at) none may long =
     NoFile (text.TooDeep at) (record { none = none; comes = record { may = may; long = λ l. of_err (long l) } })
 
 -- the tokens of a text are those of the file that it spells
@@ -107,10 +107,10 @@ choose o classes f parsed ks at c spelled is tokens found there = record {
   is = ap (λ l. slice_get (map bare_class l) at) (sym is) ∙ there;
 }
 
-pub place_fails : {T : Type 0} (o : Choosing) (classes : Text) (cs : List ClassTree) (at : ℕ)
+pub place_fails : {T : Type 0} (o : Choosing) (classes : Text) (menu : Option Text) (cs : List ClassTree) (at : ℕ)
     (r : Result T ClassFault) →
-    ((c : ClassTree) → slice_get cs at ≡ Some c → Chooses o classes c) → IfErr r (LacksAtPlace o cs at) →
-    IfErr r (IsClassFault o classes)
-place_fails o classes cs at (Ok x) chooses lacks = tt
-place_fails o classes cs at (Err f) chooses (inl memory) = subst (IsClassFault o classes) (sym memory) OutOfMemory
-place_fails o classes cs at (Err f) chooses (inr there) = NoPrograms there.0 f (chooses there.0 there.1) there.2
+    ((c : ClassTree) → slice_get cs at ≡ Some c → Chooses o classes c) → IfErr r (LacksAtPlace o menu cs at) →
+    IfErr r (IsClassFault o classes menu)
+place_fails o classes menu cs at (Ok x) chooses lacks = tt
+place_fails o classes menu cs at (Err f) chooses (inl memory) = subst (IsClassFault o classes menu) (sym memory) OutOfMemory
+place_fails o classes menu cs at (Err f) chooses (inr there) = NoPrograms there.0 f (chooses there.0 there.1) there.2

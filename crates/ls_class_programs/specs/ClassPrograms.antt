@@ -1,5 +1,5 @@
 -- The programs of a class, and why there are none.
-use Rattle.std.specs.Prelude.{◌≡◌, ◌<◌, ◌⊎◌, ℕ, List, [], Some, None, length, slice_get}
+use Rattle.std.specs.Prelude.{◌≡◌, ◌<◌, ◌⊎◌, ℕ, List, [], Option, Some, None, length, map, slice_get}
 use Rattle.ls_lexer.specs.declared.fault.TextFault.{TextFault}
 use Rattle.ls_parser.specs.Comes.{Comes}
 use Rattle.ls_parser_spelling.specs.Spelling.{spell}
@@ -11,6 +11,7 @@ use Rattle.ls_families.specs.Shapes.{AreBad}
 use Rattle.ls_family_search.specs.Judged.{Programs}
 use Rattle.ls_menus.specs.Limits.{AreTooMany, ClassHasTooMany}
 use Rattle.ls_menus.specs.Menus.{class_calls, constructor_parameters, makings}
+use Rattle.ls_menus.specs.Written.{Entry, entries}
 use Rattle.ls_class_programs.specs.Chosen.{chosen}
 use Rattle.ls_class_programs.specs.declared.choosing.Choosing.{Choosing}
 use Rattle.ls_class_programs.specs.declared.fault.ClassFault.{ClassFault}
@@ -24,39 +25,53 @@ pub record Chooses (o : Choosing) (classes : Text) (c : ClassTree) : Type 0 wher
   pub chosen : chosen o.class (spell file) file.classes ≡ Some at
   pub is : slice_get file.classes at ≡ Some c
 
+-- the calls of an entry, as text
+abbrev pub calls_in : Entry → Text
+calls_in e = e.calls
+
+-- the menu of a class, or one that is written by hand
+abbrev pub menu_calls : Option Text → ℕ → ClassTree → List Text
+menu_calls None values c = class_calls values c
+menu_calls (Some text) values c = map calls_in (entries text)
+
 -- The programs of a class: each begins with its first making, and its calls are those of the menu.
-pub record AreOfClass (o : Choosing) (c : ClassTree) (p : Programs) : Type 0 where
+pub record AreOfClass (o : Choosing) (menu : Option Text) (c : ClassTree) (p : Programs) : Type 0 where
   pub making : slice_get (makings o.values c) 0 ≡ Some p.making
-  pub calls : p.calls ≡ class_calls o.values c
+  pub calls : p.calls ≡ menu_calls menu o.values c
   pub family : p.family ≡ family_of (length p.calls) o.bounds
 
 -- those of the class that is chosen
-abbrev pub AreProgramsOf : Choosing → Text → Programs → Type 0
-AreProgramsOf o classes p = (c : ClassTree) × Chooses o classes c × AreOfClass o c p
+abbrev pub AreProgramsOf : Choosing → Text → Option Text → Programs → Type 0
+AreProgramsOf o classes menu p = (c : ClassTree) × Chooses o classes c × AreOfClass o menu c p
 
 -- there are no integers to choose from, or more than nine
 abbrev pub AreBadValues : ℕ → Type 0
 AreBadValues values = (values ≡ 0) ⊎ (9 < values)
 
+-- a method has too many lists of arguments; a menu that is written by hand asks for none
+abbrev pub HasTooManyCalls : Option Text → ℕ → ClassTree → Type 0
+HasTooManyCalls None values c = ClassHasTooMany values c
+HasTooManyCalls (Some text) values c = ⊥
+
 -- why a class has no programs
-abbrev pub LacksPrograms : Choosing → ClassTree → ClassFault → Type 0
-LacksPrograms o c faults.Memory = Unit {0}
-LacksPrograms o c (faults.Text f) = ⊥
-LacksPrograms o c faults.NotOneClass = ⊥
-LacksPrograms o c faults.NoMaking = makings o.values c ≡ []
-LacksPrograms o c faults.NoCalls = class_calls o.values c ≡ []
-LacksPrograms o c faults.BadBounds = AreBad o.bounds
-LacksPrograms o c faults.TooManyCalls =
-    ClassHasTooMany o.values c ⊎ AreTooMany o.values (constructor_parameters c.members)
-LacksPrograms o c faults.TooManyPrograms =
-    1000000 < count_of (family_of (length (class_calls o.values c)) o.bounds)
+abbrev pub LacksPrograms : Choosing → Option Text → ClassTree → ClassFault → Type 0
+LacksPrograms o menu c faults.Memory = Unit {0}
+LacksPrograms o menu c (faults.Text f) = ⊥
+LacksPrograms o menu c faults.NotOneClass = ⊥
+LacksPrograms o menu c faults.NoMaking = makings o.values c ≡ []
+LacksPrograms o menu c faults.NoCalls = menu_calls menu o.values c ≡ []
+LacksPrograms o menu c faults.BadBounds = AreBad o.bounds
+LacksPrograms o menu c faults.TooManyCalls =
+    HasTooManyCalls menu o.values c ⊎ AreTooMany o.values (constructor_parameters c.members)
+LacksPrograms o menu c faults.TooManyPrograms =
+    1000000 < count_of (family_of (length (menu_calls menu o.values c)) o.bounds)
 
 -- the programs of the class at a place of these, and why it has none
-abbrev pub AreOfPlace : Choosing → List ClassTree → ℕ → Programs → Type 0
-AreOfPlace o cs at p = (c : ClassTree) × (slice_get cs at ≡ Some c) × AreOfClass o c p
+abbrev pub AreOfPlace : Choosing → Option Text → List ClassTree → ℕ → Programs → Type 0
+AreOfPlace o menu cs at p = (c : ClassTree) × (slice_get cs at ≡ Some c) × AreOfClass o menu c p
 
-abbrev pub LacksAtPlace : Choosing → List ClassTree → ℕ → ClassFault → Type 0
-LacksAtPlace o cs at f = (f ≡ faults.Memory) ⊎ ((c : ClassTree) × (slice_get cs at ≡ Some c) × LacksPrograms o c f)
+abbrev pub LacksAtPlace : Choosing → Option Text → List ClassTree → ℕ → ClassFault → Type 0
+LacksAtPlace o menu cs at f = (f ≡ faults.Memory) ⊎ ((c : ClassTree) × (slice_get cs at ≡ Some c) × LacksPrograms o menu c f)
 
 -- the text spells no file
 pub record SpellsNone (classes : Text) (f : TextFault) : Type 0 where
@@ -64,12 +79,12 @@ pub record SpellsNone (classes : Text) (f : TextFault) : Type 0 where
   pub comes : Comes classes f
 
 -- why a class text has none: it spells no file; or no class is chosen, or the class that is chosen has none
-pub data IsClassFault (o : Choosing) (classes : Text) : ClassFault → Type 0 where
-  OutOfMemory : IsClassFault o classes faults.Memory
-  NoFile : (f : TextFault) → SpellsNone classes f → IsClassFault o classes (faults.Text f)
-  NoValues : AreBadValues o.values → IsClassFault o classes faults.BadBounds
+pub data IsClassFault (o : Choosing) (classes : Text) (menu : Option Text) : ClassFault → Type 0 where
+  OutOfMemory : IsClassFault o classes menu faults.Memory
+  NoFile : (f : TextFault) → SpellsNone classes f → IsClassFault o classes menu (faults.Text f)
+  NoValues : AreBadValues o.values → IsClassFault o classes menu faults.BadBounds
   NotOne : (file : File) →
       TextSpells file classes →
       chosen o.class (spell file) file.classes ≡ None →
-      IsClassFault o classes faults.NotOneClass
-  NoPrograms : (c : ClassTree) (f : ClassFault) → Chooses o classes c → LacksPrograms o c f → IsClassFault o classes f
+      IsClassFault o classes menu faults.NotOneClass
+  NoPrograms : (c : ClassTree) (f : ClassFault) → Chooses o classes c → LacksPrograms o menu c f → IsClassFault o classes menu f

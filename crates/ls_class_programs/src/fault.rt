@@ -24,7 +24,7 @@ pub enum ClassFault {
     /// The constructor takes a reference.
     #[error("no object of the class can be made")]
     NoMaking,
-    /// Each method is private, takes a reference or answers one.
+    /// Each method is private, takes a reference or answers one; or the menu that is written by hand has no entry.
     #[error("no method can be called")]
     NoCalls,
     /// No integers or more than 9; fewer than 2 threads or more than 4, no calls of a thread or more than 4, or more

@@ -71,7 +71,8 @@ fn bounds_command<'a>(alloc: Global) -> Result<Command<'a>, AllocError>
         alloc,
         "find",
         "Finds the first small program of a class with a history that isn't linearizable, or threads that wait for ever",
-        "Standard input is a class text:\n  \
+        "Standard input is a class text. As a second part, after a line %%, it may have a menu in place of the class's \
+         methods. A line of it has calls that stand together, as lock(#); unlock(#), where # is the thread's number:\n  \
          printf 'class C { int n; int next() { n = n + 1; return n; } }' | listset find",
     );
     let threads = number_option(
@@ -158,6 +159,8 @@ pub(crate) fn find_command<'a>(alloc: Global) -> Result<Command<'a>, AllocError>
         "looks for no threads that wait for ever",
     );
     let command = with_option(command, waiting);
+    let turning = flag_option(alloc, "turning", "looks for threads that turn for ever too");
+    let command = with_option(command, turning);
     let set = flag_option(
         alloc,
         "set",

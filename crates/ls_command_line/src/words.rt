@@ -44,6 +44,8 @@ pub struct Seeking {
     pub print: Option<u64>,
     /// Whether threads that wait for ever are looked for.
     pub waiting: bool,
+    /// Whether threads that turn for ever are looked for.
+    pub turning: bool,
     /// Whether histories are looked for that are illegal as those of a set.
     pub set: bool,
     /// Whether the exit status says what is found.
@@ -337,6 +339,7 @@ fn asked_find(options: &ArgMatches<'_>) -> Seeking
         to: number(options, "to", LAST_PROGRAM),
         print: number_asked(options, "print"),
         waiting: !flag(options, "no-waiting"),
+        turning: flag(options, "turning"),
         set: flag(options, "set"),
         check: flag(options, "check"),
         progress: flag(options, "progress"),

@@ -21,6 +21,7 @@ part_name parts.Schedule = codes "schedule"
 part_name parts.History = codes "history"
 part_name parts.Order = codes "order"
 part_name parts.Tallies = codes "tallies"
+part_name parts.Menu = codes "menu"
 
 -- the number of the part, from 0, in an input of `count` parts; a history is the third of three, and an order the last
 abbrev pub part_number : Part → ℕ → ℕ
@@ -30,6 +31,7 @@ part_number parts.Schedule count = 2
 part_number parts.History count = if count == 3 then 2 else 0
 part_number parts.Order count = count - 1
 part_number parts.Tallies count = 0
+part_number parts.Menu count = 1
 
 -- a space below each character, a tab below a tab
 abbrev pub space_below : ℕ → Bytes

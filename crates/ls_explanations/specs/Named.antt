@@ -27,6 +27,7 @@ part_of_fault (faults.Schedule f) = Some parts.Schedule
 part_of_fault (faults.Aim f) = Some parts.Schedule
 part_of_fault (faults.History f) = Some parts.History
 part_of_fault (faults.Order f) = Some parts.Order
+part_of_fault (faults.BadEntry at) = Some parts.Menu
 part_of_fault _ = None
 
 -- the byte of an input of `count` parts with which a part begins

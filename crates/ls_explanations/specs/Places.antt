@@ -88,4 +88,5 @@ place_of (faults.Aim f) = aim_place f
 place_of (faults.History f) = history_place f
 place_of (faults.Order f) = order_place f
 place_of (faults.Tally f) = tally_place f
+place_of (faults.BadEntry at) = at_byte parts.Menu at
 place_of _ = None

@@ -96,4 +96,6 @@ sentence (faults.Order (order.BadOrder at)) classes = codes "expected a call, as
 sentence (faults.Tally (tally.BadTally at)) classes = codes
     "expected a line as `seed 7 count 3`, then a history, then an empty line\n"
 sentence faults.BadOptions classes = codes "these options don't go together, or not with so many parts\n"
+sentence (faults.BadEntry at) classes =
+    codes "expected calls of the class without the object, as `lock(#); unlock(#)`: `#` is the thread's number\n"
 sentence _ classes = []

@@ -28,6 +28,7 @@ fn part_of_fault(fault: ToolFault) -> Option<Part>
         ToolFault::Schedule(_) | ToolFault::Aim(_) => Some(Part::Schedule),
         ToolFault::History(_) => Some(Part::History),
         ToolFault::Order(_) => Some(Part::Order),
+        ToolFault::BadEntry { at: _ } => Some(Part::Menu),
         _ => None,
     }
 }

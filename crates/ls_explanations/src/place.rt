@@ -28,6 +28,7 @@ pub enum Part {
     History,
     Order,
     Tallies,
+    Menu,
 }
 
 impl Clone for Part {
@@ -45,7 +46,7 @@ impl Part {
         match self {
             Part::Classes | Part::Tallies => 0,
             Part::History => { if count == 3 { 2 } else { 0 } }
-            Part::Program => 1,
+            Part::Program | Part::Menu => 1,
             Part::Schedule => 2,
             Part::Order => count.saturating_sub(1),
         }
@@ -62,6 +63,7 @@ impl Part {
             Part::History => "history",
             Part::Order => "order",
             Part::Tallies => "tallies",
+            Part::Menu => "menu",
         }
     }
 }
@@ -179,7 +181,7 @@ fn tally_place(fault: TallyFault) -> Option<Place>
     }
 }
 
-/// The place of a fault in its part, or none. Faults of programs, schedules, histories, orders and tallies are at one
+/// The place of a fault in its part, or none. Faults of programs, schedules, histories, orders, tallies and menus are at one
 /// byte. Limits of whole texts, faults of a run and faults of the streams have no place.
 pub fn place_of(fault: ToolFault) -> Option<Place>
     ensures { result ≡ place_of fault }
@@ -193,6 +195,7 @@ pub fn place_of(fault: ToolFault) -> Option<Place>
         ToolFault::History(fault) => history_place(fault),
         ToolFault::Order(fault) => order_place(fault),
         ToolFault::Tally(fault) => tally_place(fault),
+        ToolFault::BadEntry { at } => at_byte(Part::Menu, at),
         _ => None,
     }
 }

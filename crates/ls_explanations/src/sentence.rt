@@ -139,6 +139,9 @@ pub(crate) fn sentence(fault: ToolFault, classes: &[u8]) -> &'static str
         ToolFault::Tally(TallyFault::BadTally { at: _ }) => {
             "expected a line as `seed 7 count 3`, then a history, then an empty line\n"
         }
+        ToolFault::BadEntry { at: _ } => {
+            "expected calls of the class without the object, as `lock(#); unlock(#)`: `#` is the thread's number\n"
+        }
         ToolFault::BadOptions => "these options don't go together, or not with so many parts\n",
         _ => "",
     }

@@ -31,13 +31,13 @@ IsJudgement IsGood IsCut Halts (judgements.Halt h) = Halts h
 
 -- a program that the search passes: it is a double, or the judge says so of its text
 abbrev pub IsPassed : Programs → (Text → Type 0) → (Text → Type 0) → Plan → Passed → Type 0
-IsPassed p IsGood IsCut plan passed.Double = is_double plan ≡ true
+IsPassed p IsGood IsCut plan passed.Double = is_double p.calls plan ≡ true
 IsPassed p IsGood IsCut plan passed.Good = IsGood (text_of p plan)
 IsPassed p IsGood IsCut plan passed.Cut = IsCut (text_of p plan)
 
 -- a program with which it ends
 pub record IsHalted {H : Type 0} (p : Programs) (Halts : Text → H → Type 0) (plan : Plan) (h : Halted H) : Type 0 where
-  pub single : is_double plan ≡ false
+  pub single : is_double p.calls plan ≡ false
   pub text : string_bytes h.program ≡ text_of p plan
   pub halts : Halts (text_of p plan) h.halt
 

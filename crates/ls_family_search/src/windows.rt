@@ -22,7 +22,7 @@ fn outcome_of<J: Judge>(
     ensures { IfOk result (IsOutcome programs.now (J.IsGood judge.now) (J.IsCut judge.now) (J.Halts judge.now)
         plan.now) }
 {
-    if is_double(plan) {
+    if is_double(programs.calls(), plan) {
         return Ok(Outcome::Passes(Passed::Double));
     }
     let program = print_plan(alloc, programs.making(), programs.calls(), plan)?;

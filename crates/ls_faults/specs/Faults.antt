@@ -36,6 +36,8 @@ use Rattle.ls_translation.specs.declared.fault.TranslationFault.TheVariants as t
 use Rattle.ls_live.specs.declared.fault.LiveFault.TheVariants as opening
 use Rattle.ls_live.specs.declared.fault.PlayFault.{PlayFault as LiveFault}
 use Rattle.ls_live.specs.declared.fault.PlayFault.TheVariants as live
+use Rattle.ls_entries.specs.declared.fault.EntryFault.{EntryFault}
+use Rattle.ls_entries.specs.declared.fault.EntryFault.TheVariants as entry
 use Rattle.ls_following.specs.declared.fault.FollowFault.TheVariants as follow
 use Rattle.ls_following.specs.declared.fault.TapeFault.{TapeFault as TurnsFault}
 use Rattle.ls_following.specs.declared.fault.TapeFault.TheVariants as turns
@@ -133,6 +135,11 @@ abbrev pub lifted_class : ClassFault → ToolFault
 lifted_class class.Memory = faults.Memory
 lifted_class (class.Text f) = lifted_text f
 lifted_class f = faults.Class f
+
+abbrev pub lifted_entry : EntryFault → ToolFault
+lifted_entry entry.Memory = faults.Memory
+lifted_entry (entry.NotCalls at) = faults.BadEntry at
+lifted_entry (entry.NotCompiled f) = lifted_compile f
 
 -- `fault N Name`
 abbrev pub plain : List ℕ → List ℕ
@@ -277,6 +284,7 @@ fault_line (faults.Explore f) = explore_line f
 fault_line (faults.Class f) = class_line f
 fault_line faults.BadNumbers = plain (codes "70 BadNumbers")
 fault_line faults.BadOptions = plain (codes "71 BadOptions")
+fault_line (faults.BadEntry at) = placed (codes "72 BadEntry") at
 fault_line (faults.Aim f) = aim_line f
 fault_line (faults.History f) = history_line f
 fault_line (faults.Order f) = order_line f

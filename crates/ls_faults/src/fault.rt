@@ -2,7 +2,7 @@
 
 ghost use Rattle.std.specs.Prelude.{◌≡◌};
 ghost use Rattle.ls_faults.specs.Faults.{lifted_aim, lifted_batch, lifted_build, lifted_cells, lifted_check};
-ghost use Rattle.ls_faults.specs.Faults.{lifted_class};
+ghost use Rattle.ls_faults.specs.Faults.{lifted_class, lifted_entry};
 ghost use Rattle.ls_faults.specs.Faults.{lifted_compile, lifted_explore, lifted_history, lifted_live, lifted_order};
 ghost use Rattle.ls_faults.specs.Faults.{lifted_program, lifted_schedule, lifted_search, lifted_tally, lifted_text};
 ghost use Rattle.ls_faults.specs.Faults.{lifted_translation, lifted_turns};
@@ -13,6 +13,7 @@ use ls_batch::BatchFault;
 use ls_class_programs::ClassFault;
 use ls_compiler::fault::CompileFault;
 use ls_emit::fault::EmitFault;
+use ls_entries::EntryFault;
 use ls_explore_images::ExploreFault;
 use ls_following::{FollowFault, TapeFault as TurnsPlayFault};
 use ls_lexer::fault::TextFault;
@@ -64,6 +65,9 @@ pub enum ToolFault {
     BadNumbers,
     #[error("these options don't go together")]
     BadOptions,
+    /// The entry of a menu whose line begins at this byte isn't calls of the class.
+    #[error("an entry of the menu isn't calls of the class")]
+    BadEntry { at: usize },
     #[error(transparent)]
     Aim(AimFault),
     #[error(transparent)]
@@ -307,6 +311,18 @@ impl From<ClassFault> for ToolFault {
             ClassFault::Memory => ToolFault::Memory,
             ClassFault::Text(fault) => ToolFault::from(fault),
             other => ToolFault::Class(other),
+        }
+    }
+}
+
+impl From<EntryFault> for ToolFault {
+    ghost from_gives = { λ f e. e ≡ lifted_entry f };
+
+    fn from(fault: EntryFault) -> ToolFault {
+        match fault {
+            EntryFault::Memory => ToolFault::Memory,
+            EntryFault::NotCalls { at } => ToolFault::BadEntry { at },
+            EntryFault::NotCompiled(fault) => ToolFault::from(fault),
         }
     }
 }

@@ -344,6 +344,7 @@ pub fn fault_line(fault: ToolFault) -> Line
         ToolFault::Class(fault) => class_line(fault),
         ToolFault::BadNumbers => plain("70 BadNumbers"),
         ToolFault::BadOptions => plain("71 BadOptions"),
+        ToolFault::BadEntry { at } => placed("72 BadEntry", at),
         ToolFault::Aim(fault) => aim_line(fault),
         ToolFault::History(HistoryFault::BadHistory { at }) => placed("77 BadHistory", at),
         ToolFault::Order(OrderFault::BadOrder { at }) => placed("78 BadOrder", at),

@@ -7,7 +7,8 @@ use Rattle.ls_events.specs.declared.event.Event.{Event}
 use Rattle.ls_explore.specs.Rows.{Told}
 use Rattle.ls_explore_images.specs.Tellings.{TellTruth, TellWhole, schedule_of}
 use Rattle.ls_explore_verdicts.specs.Verdicts.{EachIsLegal, HasLegalOrder}
-use Rattle.ls_find.specs.Sought.{AllLegal, AllNamed, AreNamed, IsSetVerdict, IsVerdictFor}
+use Rattle.ls_find.specs.Sought.{AllLegal, AllNamed, AreNamed, EndsWell, IsEndVerdict, IsSetVerdict}
+use Rattle.ls_find.specs.Sought.{IsTurningVerdict, IsVerdictFor}
 use Rattle.ls_find.specs.Verdicts.{IsBad, IsGood, ShowsRow}
 use Rattle.ls_find.specs.declared.sought.Sought.{Sought}
 use Rattle.ls_find.specs.declared.verdict.Reason.{Reason}
@@ -60,7 +61,13 @@ shown_illegal file program k rows at truth is (verdicts.Bad reason schedule) sho
 
 -- both verdicts together
 pub with_set : (sought : Sought) (file : File) (program : Program) (v : Verdict) → IsGood sought.waiting file program →
-    IsSetVerdict file program v → IsVerdictFor sought file program v
+    IsSetVerdict file program v → IsEndVerdict sought file program v
 with_set sought file program verdicts.Good good legal = record { good = good; legal = λ e. legal }
 with_set sought file program verdicts.Unknown good legal = tt
 with_set sought file program (verdicts.Bad reason schedule) good bad = bad
+
+pub with_turning : (sought : Sought) (file : File) (program : Program) (v : Verdict) → EndsWell sought file program →
+    IsTurningVerdict file program v → IsVerdictFor sought file program v
+with_turning sought file program verdicts.Good ends never = record { ends = ends; turns = λ e. never }
+with_turning sought file program verdicts.Unknown ends never = tt
+with_turning sought file program (verdicts.Bad reason schedule) ends bad = bad

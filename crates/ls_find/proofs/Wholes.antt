@@ -22,14 +22,14 @@ some_is e = cc
 passed_so : (sought : Sought) (classes : Text) (p : Programs) (f : Finding Why) (k : ℕ) (plan : Plan) →
     IsWhole sought classes p f → (said : Passed) → slice_get f.passed.items k ≡ Some said →
     IsPassed p (IsSound sought classes) (IsCut classes) plan said →
-    (is_double plan ≡ true) ⊎ IsSound sought classes (text_of p plan)
+    (is_double p.calls plan ≡ true) ⊎ IsSound sought classes (text_of p plan)
 passed_so sought classes p f k plan whole Double at is = inl is
 passed_so sought classes p f k plan whole Good at is = inr is
 passed_so sought classes p f k plan whole Cut at is = absurd (whole.uncut k at)
 
 pub sound_at : (sought : Sought) (classes : Text) (p : Programs) (f : Finding Why) (k : ℕ) (plan : Plan) →
     IsWhole sought classes p f → k < length (plans p.family) → slice_index_or (plans p.family) k plan ≡ plan →
-    (is_double plan ≡ true) ⊎ IsSound sought classes (text_of p plan)
+    (is_double p.calls plan ≡ true) ⊎ IsSound sought classes (text_of p plan)
 sound_at sought classes p f k plan whole within is =
     let many : 0 + length f.passed.items ≡ length (plans p.family) =
     subst (EndsSo p (IsWhy classes) (0 + length f.passed.items) (length (plans p.family))) whole.none

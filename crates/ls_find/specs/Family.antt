@@ -23,9 +23,9 @@ pub record IsWhole (sought : Sought) (classes : Text) (p : Programs) (f : Findin
   pub uncut : (k : ℕ) → slice_get f.passed.items k ≡ Some Cut → ⊥
 
 -- Then each program within the bounds is a double, or good for what is looked for: the history of each of its schedules is
--- linearizable, no thread waits for ever, and each history is legal as one of a set.
+-- linearizable, no thread waits or turns for ever, and each history is legal as one of a set.
 abbrev pub EachIsSound : Type 0
 EachIsSound =
     (menu : ℕ) (b : Bounds) (sought : Sought) (classes : Text) (p : Programs) (f : Finding Why) → 0 < menu → 0 < b.calls →
     p.family ≡ family_of menu b → IsWhole sought classes p f → (plan : Plan) → IsPlanOf menu b plan →
-    (is_double plan ≡ true) ⊎ IsSound sought classes (text_of p plan)
+    (is_double p.calls plan ≡ true) ⊎ IsSound sought classes (text_of p plan)

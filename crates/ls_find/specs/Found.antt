@@ -45,6 +45,7 @@ reason_text reasons.NotLinearizable names threads schedule = codes "not lineariz
 reason_text reasons.Waits names threads schedule =
     codes "threads wait for ever: " ++ waiting names (scene_of names schedule) 0 threads
 reason_text reasons.Illegal names threads schedule = codes "no order of the set calls is legal"
+reason_text reasons.Turns names threads schedule = codes "threads turn for ever"
 
 -- with this program it compiles, and a schedule is bad for a reason; these are the texts of the reason and of the schedule
 pub record IsBadProgram (classes program because text : Text) : Type 0 where

@@ -46,5 +46,6 @@ pub(crate) fn reason_text(
             Ok(text)
         }
         Reason::Illegal => String::from_str(alloc, "no order of the set calls is legal"),
+        Reason::Turns => String::from_str(alloc, "threads turn for ever"),
     }
 }

@@ -1,12 +1,13 @@
 // What is looked for in a program.
 
 ghost use Rattle.std.specs.Prelude.{IfOk};
-ghost use Rattle.ls_find.specs.Sought.{AllNamed, IsVerdictFor};
+ghost use Rattle.ls_find.specs.Sought.{AllNamed, IsEndVerdict, IsTurningVerdict, IsVerdictFor};
 ghost use Rattle.ls_translation.specs.Texts.{file_of, program_of};
 
 use crate::legal::set_verdict;
-use crate::verdict::{Verdict, verdict_on};
+use crate::verdict::{Reason, Verdict, verdict_on};
 use ls_image::image::Image;
+use ls_spinning::{Turning, find_turning};
 use std::alloc::{AllocError, Global};
 
 /// What is looked for in programs, besides a history that isn't linearizable.
@@ -14,6 +15,8 @@ use std::alloc::{AllocError, Global};
 pub struct Sought {
     /// Whether threads that wait for ever are looked for.
     pub waiting: bool,
+    /// Whether threads that turn for ever are looked for.
+    pub turning: bool,
     /// Whether histories are looked for that are illegal as those of a set.
     pub set: bool,
 }
@@ -26,6 +29,41 @@ impl Clone for Sought {
 
 /// Says of the program of an image what `verdict_on` does; and if all is well and those of a set are looked for, whether
 /// each history is legal.
+fn end_verdict(
+    alloc: Global,
+    image: &Image,
+    cells: usize,
+    states: usize,
+    sought: Sought,
+) -> Result<Verdict, AllocError>
+    requires { AllNamed (file_of image.now) (program_of image.now) }
+    ensures { IfOk result (IsEndVerdict sought (file_of image.now) (program_of image.now)) }
+{
+    match verdict_on(alloc, image, cells, states, sought.waiting)? {
+        Verdict::Good => {
+            if sought.set {
+                return set_verdict(alloc, image, cells, states);
+            }
+            Ok(Verdict::Good)
+        }
+        Verdict::Unknown => Ok(Verdict::Unknown),
+        Verdict::Bad(reason, schedule) => Ok(Verdict::Bad(reason, schedule)),
+    }
+}
+
+/// Whether threads of the program of an image can turn for ever.
+fn turning_verdict(alloc: Global, image: &Image, states: usize) -> Result<Verdict, AllocError>
+    ensures { IfOk result (IsTurningVerdict (file_of image.now) (program_of image.now)) }
+{
+    match find_turning(alloc, image.checked().file(), image.program(), states)? {
+        Turning::Never => Ok(Verdict::Good),
+        Turning::Unknown => Ok(Verdict::Unknown),
+        Turning::After(schedule) => Ok(Verdict::Bad(Reason::Turns, schedule)),
+    }
+}
+
+/// Says of the program of an image what `verdict_on` does. If all is well, it says of what else is looked for whether
+/// each history is legal as one of a set, and whether threads can turn for ever.
 ///
 /// The only refusal is that memory ran out.
 pub fn sought_verdict(
@@ -38,10 +76,10 @@ pub fn sought_verdict(
     requires { AllNamed (file_of image.now) (program_of image.now) }
     ensures { IfOk result (IsVerdictFor sought (file_of image.now) (program_of image.now)) }
 {
-    match verdict_on(alloc, image, cells, states, sought.waiting)? {
+    match end_verdict(alloc, image, cells, states, sought)? {
         Verdict::Good => {
-            if sought.set {
-                return set_verdict(alloc, image, cells, states);
+            if sought.turning {
+                return turning_verdict(alloc, image, states);
             }
             Ok(Verdict::Good)
         }

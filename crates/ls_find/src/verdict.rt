@@ -24,6 +24,8 @@ pub enum Reason {
     Waits,
     /// Its history is one of a set, and no order of it is legal.
     Illegal,
+    /// After it threads turn for ever.
+    Turns,
 }
 
 impl Clone for Reason {
@@ -35,8 +37,8 @@ impl Clone for Reason {
 /// What an exploration says of a program.
 #[derive(Drop)]
 pub enum Verdict {
-    /// The history of each schedule is linearizable; no thread waits for ever, and each history is legal, if that was
-    /// looked for.
+    /// The history of each schedule is linearizable; no thread waits or turns for ever, and each history is legal, if
+    /// that was looked for.
     Good,
     /// The exploration isn't whole, or the schedule is too long to be shown.
     Unknown,

@@ -5,6 +5,8 @@ use Rattle.std.specs.Prelude.{string_bytes}
 use Rattle.ls_class_programs.specs.ClassPrograms.{AreProgramsOf, IsClassFault}
 use Rattle.ls_class_programs.specs.declared.choosing.Choosing.{Choosing}
 use Rattle.ls_class_programs.specs.declared.fault.ClassFault.{ClassFault}
+use Rattle.ls_entries.specs.Entries.{AllAreCalls, HasNoCall}
+use Rattle.ls_entries.specs.declared.fault.EntryFault.{EntryFault}
 use Rattle.ls_explore_images.specs.Faults.{AreBadStates}
 use Rattle.ls_explore_images.specs.declared.fault.ExploreFault.TheVariants as explore
 use Rattle.ls_families.specs.Families.{Plan, plans}
@@ -12,7 +14,7 @@ use Rattle.ls_family_search.specs.Judged.{Programs, text_of}
 use Rattle.ls_family_search.specs.declared.judging.Halted.{Halted}
 use Rattle.ls_family_search.specs.declared.judging.Passed.{Passed}
 use Rattle.ls_family_search.specs.declared.searching.Finding.{Finding}
-use Rattle.ls_faults.specs.Faults.{lifted_class, lifted_compile}
+use Rattle.ls_faults.specs.Faults.{lifted_class, lifted_compile, lifted_entry}
 use Rattle.ls_faults.specs.declared.fault.ToolFault.{ToolFault}
 use Rattle.ls_faults.specs.declared.fault.ToolFault.TheVariants as faults
 use Rattle.ls_find.specs.Family.{IsFound}
@@ -48,27 +50,50 @@ pub data FindsIn (classes : Text) (p : Programs) (r : Range) : Result Text ToolF
       FindsIn classes p r
       (halted_answer (r.from - 1) (min r.to (length (plans p.family))) (length (plans p.family)) f.passed.items f.halted)
 
+-- each entry of a menu that is written by hand is calls of the class, as each of so many threads makes them
+abbrev pub EntriesFit : Text → Text → ℕ → Option Text → Type 0
+EntriesFit classes making threads None = Unit {0}
+EntriesFit classes making threads (Some menu) = AllAreCalls classes making threads menu
+
+-- one isn't
+abbrev pub IsUnfit : Text → Text → ℕ → Option Text → EntryFault → Type 0
+IsUnfit classes making threads None f = ⊥
+IsUnfit classes making threads (Some menu) f = HasNoCall classes making threads menu f
+
+-- the programs of a class text, over a menu that is written by hand if one is given
+pub record AreProgramsFor (o : Choosing) (classes : Text) (menu : Option Text) (p : Programs) : Type 0 where
+  pub programs : AreProgramsOf o classes menu p
+  pub fit : EntriesFit classes p.making o.bounds.threads menu
+
+-- why there are none
+pub data HasNoPrograms (o : Choosing) (classes : Text) (menu : Option Text) : ToolFault → Type 0 where
+  NoPrograms : (f : ClassFault) → IsClassFault o classes menu f → HasNoPrograms o classes menu (lifted_class f)
+  NotCalls : (p : Programs) (f : EntryFault) →
+      AreProgramsOf o classes menu p →
+      IsUnfit classes p.making o.bounds.threads menu f →
+      HasNoPrograms o classes menu (lifted_entry f)
+
 -- What is found among those of a class text, or why there are none.
-pub data FindsTo (o : Choosing) (r : Range) (classes : Text) : Result Text ToolFault → Type 0 where
-  NoStates : AreBadStates r.states → FindsTo o r classes (Err (faults.Explore explore.BadStates))
-  NoPrograms : (f : ClassFault) →
+pub data FindsTo (o : Choosing) (r : Range) (classes : Text) (menu : Option Text) : Result Text ToolFault → Type 0 where
+  NoStates : AreBadStates r.states → FindsTo o r classes menu (Err (faults.Explore explore.BadStates))
+  NotAny : (f : ToolFault) →
       ¬ AreBadStates r.states →
-      IsClassFault o classes f →
-      FindsTo o r classes (Err (lifted_class f))
+      HasNoPrograms o classes menu f →
+      FindsTo o r classes menu (Err f)
   Among : (p : Programs) (answer : Result Text ToolFault) →
       ¬ AreBadStates r.states →
-      AreProgramsOf o classes p →
+      AreProgramsFor o classes menu p →
       FindsIn classes p r answer →
-      FindsTo o r classes answer
+      FindsTo o r classes menu answer
 
 -- The program of a number, from 1, or why there is none.
-pub data PrintsTo (o : Choosing) (n : ℕ) (classes : Text) : Result Text ToolFault → Type 0 where
-  NoClass : (f : ClassFault) → IsClassFault o classes f → PrintsTo o n classes (Err (lifted_class f))
+pub data PrintsTo (o : Choosing) (n : ℕ) (classes : Text) (menu : Option Text) : Result Text ToolFault → Type 0 where
+  NoneThere : (f : ToolFault) → HasNoPrograms o classes menu f → PrintsTo o n classes menu (Err f)
   NoNumber : (p : Programs) →
-      AreProgramsOf o classes p →
+      AreProgramsFor o classes menu p →
       (n ≡ 0) ⊎ (length (plans p.family) < n) →
-      PrintsTo o n classes (Err faults.BadNumbers)
+      PrintsTo o n classes menu (Err faults.BadNumbers)
   Prints : (p : Programs) (plan : Plan) →
-      AreProgramsOf o classes p →
+      AreProgramsFor o classes menu p →
       slice_get (plans p.family) (n - 1) ≡ Some plan →
-      PrintsTo o n classes (Ok (text_of p plan))
+      PrintsTo o n classes menu (Ok (text_of p plan))

@@ -1,14 +1,17 @@
 // The command `find`.
 
 ghost use Rattle.std.specs.Prelude.{◌≡◌, ◌+◌, ◌<◌, ◌≤◌, ◌^◌, ◌↔◌, IfSome, IsTrue, false, length};
+ghost use Rattle.std.specs.Prelude.{option_map};
 ghost use Rattle.ls_explore.specs.Watching.{GoesOn};
 ghost use Rattle.ls_explore_images.specs.Faults.{AreBadStates};
 ghost use Rattle.ls_faults.specs.Given.{GivesText};
+ghost use Rattle.ls_parts.specs.Cutting.{plain_text};
 ghost use Rattle.ls_find_commands.specs.Found.{FindsIn, FindsTo, IsBadRange, PrintsTo};
 ghost use Rattle.ls_find_commands.specs.Found.{halted_answer, why_answer};
 
+use crate::menus::{Texts, programs_for};
 use crate::noting::searched;
-use ls_class_programs::{Choosing, programs_of};
+use ls_class_programs::Choosing;
 use ls_explore::Watch;
 use ls_explore_images::{ExploreFault, MOST_STATES};
 use ls_families::print_plan;
@@ -138,7 +141,7 @@ fn found<W: Watch>(
 /// how the programs before it were passed, its text, and as another part the schedule. Or that there is none. A program
 /// that isn't explored whole is counted as cut.
 ///
-/// Refused with 61 as `explore` is; else as `programs_of` is; else with 70 if no program has the first number, or the
+/// Refused with 61 as `explore` is; else as `programs_for` is; else with 70 if no program has the first number, or the
 /// last number comes before it; else as `compile` is for a program.
 ///
 /// Programs are explored side by side. The answer is the one of a single thread.
@@ -147,32 +150,34 @@ pub fn find<W: Watch>(
     alloc: Global,
     choosing: Choosing,
     range: Range,
-    classes: &str,
+    texts: Texts<'_>,
     watch: &mut W,
 ) -> Result<String, ToolFault>
-    ensures gives { GivesText (FindsTo choosing range classes.now) result }
+    ensures gives { GivesText (FindsTo choosing range texts.entry.classes.now
+        (option_map plain_text texts.entry.menu)) result }
     ensures watched { GoesOn W.Since watch.old watch.new }
 {
     if are_bad_states(range.states) {
         return Err(ToolFault::Explore(ExploreFault::BadStates));
     }
-    let made = programs_of(alloc, choosing, classes)?;
+    let made = programs_for(alloc, choosing, texts)?;
     let programs = made.programs();
-    found(rt, alloc, classes, &programs, range, watch)
+    found(rt, alloc, texts.classes, &programs, range, watch)
 }
 
 /// The text of the program of a number, from 1, of a class text.
 ///
-/// Refused as `programs_of` is; else with 70 if no program has the number.
+/// Refused as `programs_for` is; else with 70 if no program has the number.
 pub fn print_program(
     alloc: Global,
     choosing: Choosing,
     number: u64,
-    classes: &str,
+    texts: Texts<'_>,
 ) -> Result<String, ToolFault>
-    ensures { GivesText (PrintsTo choosing number classes.now) result }
+    ensures { GivesText (PrintsTo choosing number texts.entry.classes.now
+        (option_map plain_text texts.entry.menu)) result }
 {
-    let made = programs_of(alloc, choosing, classes)?;
+    let made = programs_for(alloc, choosing, texts)?;
     let programs = made.programs();
     if number == 0 {
         return Err(ToolFault::BadNumbers);

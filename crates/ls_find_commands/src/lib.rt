@@ -3,9 +3,11 @@
 
 mod command;
 pub mod laws;
+mod menus;
 mod noting;
 
 pub use command::{Range, find, print_program};
 pub use ls_class_programs::Choosing;
 pub use ls_families::Bounds;
 pub use ls_find::Sought;
+pub use menus::Texts;

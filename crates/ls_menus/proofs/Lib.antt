@@ -1,3 +1,4 @@
 pub mod Steps
 pub mod Counted
 pub mod Choices
+pub mod Lines

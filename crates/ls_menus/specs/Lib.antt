@@ -1,3 +1,4 @@
 pub mod Menus
 pub mod Meant
 pub mod Limits
+pub mod Written

@@ -5,8 +5,10 @@ mod arguments;
 mod choosing;
 mod fault;
 mod menus;
+mod written;
 
 pub use arguments::MOST_VALUES;
 pub use choosing::meant;
 pub use fault::MenuFault;
 pub use menus::{calls_of, makings_of};
+pub use written::{Entry, entries_of};

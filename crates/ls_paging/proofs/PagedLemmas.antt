@@ -40,6 +40,7 @@ through May g same (fault.Explore f) h = subst May (same (fault.Explore f)) h
 through May g same (fault.Class f) h = subst May (same (fault.Class f)) h
 through May g same fault.BadNumbers h = subst May (same fault.BadNumbers) h
 through May g same fault.BadOptions h = subst May (same fault.BadOptions) h
+through May g same (fault.BadEntry at) h = subst May (same (fault.BadEntry at)) h
 through May g same (fault.Aim f) h = subst May (same (fault.Aim f)) h
 through May g same (fault.History f) h = subst May (same (fault.History f)) h
 through May g same (fault.Order f) h = subst May (same (fault.Order f)) h

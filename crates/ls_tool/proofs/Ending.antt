@@ -75,6 +75,7 @@ given May (fault.Explore f) other h = h
 given May (fault.Class f) other h = h
 given May fault.BadNumbers other h = h
 given May fault.BadOptions other h = h
+given May (fault.BadEntry at) other h = h
 given May (fault.Aim f) other h = h
 given May (fault.History f) other h = h
 given May (fault.Order f) other h = h
@@ -134,6 +135,8 @@ decide_err words input l f (refusal.Fault (fault.Class g)) e h r = plain words i
 decide_err words input l f (refusal.Fault fault.BadNumbers) e h r = plain words input l f fault.BadNumbers e r
     (subst (λ x. GivesText (AnswersText (names_in words) l.request input) (Err x)) (sym r.0) h)
 decide_err words input l f (refusal.Fault fault.BadOptions) e h r = plain words input l f fault.BadOptions e r
+    (subst (λ x. GivesText (AnswersText (names_in words) l.request input) (Err x)) (sym r.0) h)
+decide_err words input l f (refusal.Fault (fault.BadEntry at)) e h r = plain words input l f (fault.BadEntry at) e r
     (subst (λ x. GivesText (AnswersText (names_in words) l.request input) (Err x)) (sym r.0) h)
 decide_err words input l f (refusal.Fault (fault.Aim g)) e h r = plain words input l f (fault.Aim g) e r
     (subst (λ x. GivesText (AnswersText (names_in words) l.request input) (Err x)) (sym r.0) h)
@@ -224,6 +227,7 @@ tells words input (fault.Explore f) exit out err s k t d = AsAsked (Tells (fault
 tells words input (fault.Class f) exit out err s k t d = AsAsked (Tells (fault_line (fault.Class f))) d (s, k, t)
 tells words input fault.BadNumbers exit out err s k t d = AsAsked (Tells (fault_line fault.BadNumbers)) d (s, k, t)
 tells words input fault.BadOptions exit out err s k t d = AsAsked (Tells (fault_line fault.BadOptions)) d (s, k, t)
+tells words input (fault.BadEntry at) exit out err s k t d = AsAsked (Tells (fault_line (fault.BadEntry at))) d (s, k, t)
 tells words input (fault.Aim f) exit out err s k t d = AsAsked (Tells (fault_line (fault.Aim f))) d (s, k, t)
 tells words input (fault.History f) exit out err s k t d = AsAsked (Tells (fault_line (fault.History f))) d (s, k, t)
 tells words input (fault.Order f) exit out err s k t d = AsAsked (Tells (fault_line (fault.Order f))) d (s, k, t)

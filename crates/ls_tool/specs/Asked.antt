@@ -17,12 +17,18 @@ choosing_of s = record {
 
 -- the numbers of the programs that are looked through
 abbrev pub range_of : Seeking → Range
-range_of s = record { states = s.states; sought = record { waiting = s.waiting; set = s.set }; from = s.from; to = s.to }
+range_of s = record {
+  states = s.states;
+  sought = record { waiting = s.waiting; turning = s.turning; set = s.set };
+  from = s.from;
+  to = s.to;
+}
 
 -- one program is printed, or the first is found that is bad
-abbrev pub asked_for : Seeking → Option ℕ → Text → Result Text ToolFault → Type 0
-asked_for s None classes answer = FindsTo (choosing_of s) (range_of s) classes answer
-asked_for s (Some n) classes answer = PrintsTo (choosing_of s) n classes answer
+abbrev pub asked_for : Seeking → Option ℕ → Text → Option Text → Result Text ToolFault → Type 0
+asked_for s None classes menu answer = FindsTo (choosing_of s) (range_of s) classes menu answer
+asked_for s (Some n) classes menu answer = PrintsTo (choosing_of s) n classes menu answer
 
-abbrev pub OnClass : Seeking → Text → Result Text ToolFault → Type 0
-OnClass s classes answer = asked_for s s.print classes answer
+-- on a class text, and a menu that is written by hand if one is given
+abbrev pub OnClass : Seeking → Text → Option Text → Result Text ToolFault → Type 0
+OnClass s classes menu answer = asked_for s s.print classes menu answer

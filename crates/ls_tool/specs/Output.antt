@@ -55,7 +55,7 @@ use Rattle.ls_tool.specs.declared.refusal.Refusal.TheVariants as refusals
 -- what a command may answer on one text: a text or a fault
 abbrev pub OnOne : Request → Text → Result Text ToolFault → Type 0
 OnOne requests.Order history answer = OrdersTo history answer
-OnOne (requests.Find seeking) classes answer = OnClass seeking classes answer
+OnOne (requests.Find seeking) classes answer = OnClass seeking classes None answer
 OnOne other text answer = answer ≡ Err faults.WrongParts
 
 abbrev exploring : Option ℕ → ℕ → Bool → Bool → Exploring
@@ -85,6 +85,7 @@ OnTwo (requests.Explore cells states illegal first progress) classes program ans
 OnTwo (requests.Verdict states false) classes program answer = VerdictsTo states classes program answer
 OnTwo (requests.Verdict states true) classes program answer = answer ≡ Err faults.BadOptions
 OnTwo (requests.Page paging) classes program answer = PagesOnTwo paging classes program answer
+OnTwo (requests.Find seeking) classes menu answer = OnClass seeking classes (Some menu) answer
 OnTwo other first second answer = answer ≡ Err faults.WrongParts
 
 -- what is shown of a run

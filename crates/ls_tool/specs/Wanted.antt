@@ -10,7 +10,7 @@ two_parts = codes "two parts, class text and thread program"
 abbrev pub wanted_parts : Request → Text
 wanted_parts requests.Check = codes "two parts, history and order"
 wanted_parts requests.Order = codes "one part, a history; or three, class text, thread program and history"
-wanted_parts (requests.Find seeking) = codes "one part, a class text"
+wanted_parts (requests.Find seeking) = codes "one part, a class text; or two, class text and menu"
 wanted_parts requests.Compile = two_parts
 wanted_parts (requests.Live cells limit) = two_parts
 wanted_parts (requests.Batch seed count steps switch cells judge) = two_parts

@@ -1,6 +1,6 @@
 // What the words and the input ask for.
 
-ghost use Rattle.std.specs.Prelude.{◌≡◌, List, Some, map, string_bytes};
+ghost use Rattle.std.specs.Prelude.{◌≡◌, List, Some, map, option_map, string_bytes};
 ghost use Rattle.ls_commands.specs.Tallied.{drawing};
 ghost use Rattle.ls_explore.specs.Watching.{GoesOn};
 ghost use Rattle.ls_faults.specs.Given.{GivesText};
@@ -27,7 +27,7 @@ use ls_explore::{Nobody, Watch};
 use ls_explore_commands::{Exploring, explore, verdict};
 use ls_faults::fault::ToolFault;
 use ls_files::{asking, names_in, unmarked};
-use ls_find_commands::{Bounds, Choosing, Range, Sought, find, print_program};
+use ls_find_commands::{Bounds, Choosing, Range, Sought, Texts, find, print_program};
 use ls_merging::merge;
 use ls_parts::{parts_of, text_of};
 use ls_views::aim::aim;
@@ -39,22 +39,22 @@ use std::alloc::Global;
 use std::sync::Wait;
 use std::thread::Threads;
 
-/// What `find` answers on a class text.
+/// What `find` answers on a class text, and on a menu that is written by hand if one is given.
 fn on_class<R: Threads + Sync, W: Watch>(
     rt: &R,
     alloc: Global,
     seeking: Seeking,
-    classes: &str,
+    texts: Texts<'_>,
     watch: &mut W,
 ) -> Result<String, ToolFault>
-    ensures gives { GivesText (OnClass seeking classes.now) result }
+    ensures gives { GivesText (OnClass seeking texts.entry.classes.now (option_map plain_text texts.entry.menu)) result }
     ensures watched { GoesOn W.Since watch.old watch.new }
 {
     let choosing = choosing_of(seeking);
     if let Some(number) = seeking.print {
-        return print_program(alloc, choosing, number, classes);
+        return print_program(alloc, choosing, number, texts);
     }
-    find(rt, alloc, choosing, range_of(seeking), classes, watch)
+    find(rt, alloc, choosing, range_of(seeking), texts, watch)
 }
 
 /// Which class of the text is chosen, and what its programs may be.
@@ -80,6 +80,7 @@ fn range_of(seeking: Seeking) -> Range
         states: seeking.states as usize,
         sought: Sought {
             waiting: seeking.waiting,
+            turning: seeking.turning,
             set: seeking.set,
         },
         from: seeking.from,
@@ -100,7 +101,13 @@ fn on_one<R: Threads + Sync, W: Watch>(
 {
     match request {
         Request::Order => order(alloc, text),
-        Request::Find(seeking) => on_class(rt, alloc, seeking, text, watch),
+        Request::Find(seeking) => {
+            let texts = Texts {
+                classes: text,
+                menu: None,
+            };
+            on_class(rt, alloc, seeking, texts, watch)
+        }
         Request::Check
         | Request::Compile
         | Request::Replay { .. }
@@ -225,6 +232,13 @@ fn on_two<R: Threads + Wait + Sync, W: Watch>(
             verdict(alloc, states as usize, first, second)
         }
         Request::Page(paging) => page_on_two(alloc, paging, first, second),
+        Request::Find(seeking) => {
+            let texts = Texts {
+                classes: first,
+                menu: Some(second),
+            };
+            on_class(rt, alloc, seeking, texts, watch)
+        }
         Request::Order
         | Request::Replay { .. }
         | Request::Source
@@ -233,7 +247,6 @@ fn on_two<R: Threads + Wait + Sync, W: Watch>(
         | Request::States { .. }
         | Request::Aim
         | Request::Translate { .. }
-        | Request::Find(_)
         | Request::Merge { .. } => Err(ToolFault::WrongParts),
     }
 }

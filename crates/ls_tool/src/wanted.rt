@@ -12,7 +12,7 @@ pub(crate) fn wanted_parts(request: Request) -> &'static str
     match request {
         Request::Check => "two parts, history and order",
         Request::Order => "one part, a history; or three, class text, thread program and history",
-        Request::Find(_) => "one part, a class text",
+        Request::Find(_) => "one part, a class text; or two, class text and menu",
         Request::Compile
         | Request::Live { .. }
         | Request::Batch { .. }

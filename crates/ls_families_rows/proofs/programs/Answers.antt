@@ -7,5 +7,6 @@ returns c = record {
   none_after = refl;
   counts = (refl, refl, refl, refl);
   doubles = (refl, refl, refl, refl, refl, refl, refl);
-  texts = refl;
+  numbered = (refl, refl, refl);
+  texts = (refl, refl, refl);
 }

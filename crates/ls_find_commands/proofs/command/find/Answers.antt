@@ -1,10 +1,11 @@
 use Rattle.std.proofs.Common.{subst}
-use Rattle.std.proofs.lemmas.Result.{err_from_is_err_and}
+use Rattle.std.specs.Prelude.{option_map}
 use Rattle.ls_explore_images.specs.Faults.{AreBadStates}
 use Rattle.ls_family_search.specs.Judged.{Programs}
-use Rattle.ls_faults.proofs.Answering.{fails, wider}
-use Rattle.ls_faults.specs.Faults.{lifted_class}
-use Rattle.ls_find_commands.specs.Found.{Among, FindsIn, FindsTo, NoPrograms, NoStates}
+use Rattle.ls_faults.proofs.Answering.{wider}
+use Rattle.ls_parts.specs.Cutting.{plain_text}
+use Rattle.ls_find_commands.specs.Found.{Among, FindsIn, FindsTo, NoStates, NotAny}
+use Rattle.ls_find_commands.proofs.Menus.{refused}
 use Rattle.ls_find_commands.proofs.Ranges.{not_both}
 use Rattle.ls_find_commands.proofs.command.find.Goals as goal
 
@@ -13,19 +14,19 @@ returns-then-are_bad_states-clause-gives g c = NoStates (c.are_bad_states.ensure
 
 pub returns-in_err-made-clause-gives : goal.returns-in_err-made-clause-gives
 returns-in_err-made-clause-gives g c =
-    let p = err_from_is_err_and c.from_residual.result c.from_residual.ensures.1 in
     let good : ¬ AreBadStates c.args.range.states =
     λ bad. not_both (c.are_bad_states.ensures.1 bad) c.if-are_bad_states.false in
-    rw (p.1, p.2) (fails (FindsTo c.args.choosing c.args.range c.args.classes.now)
-    (lifted_class c.in_err-made.field-0.0)
-    (NoPrograms c.in_err-made.field-0.0 good c.in_err-made.ensures.refused))
+    let menu = option_map plain_text c.args.texts.menu in
+    refused (FindsTo c.args.choosing c.args.range c.args.texts.classes.now menu) c.args.choosing c.args.texts.classes.now
+    menu c.in_err-made.field-0.0 (NotAny c.in_err-made.field-0.0 good) c.in_err-made.ensures.refused
 
 pub returns-clause-gives : goal.returns-clause-gives
 returns-clause-gives g c =
     let good : ¬ AreBadStates c.args.range.states =
     λ bad. not_both (c.are_bad_states.ensures.1 bad) c.if-are_bad_states.false in
-    wider (FindsIn c.args.classes.now c.programs-programs.result c.args.range)
-    (FindsTo c.args.choosing c.args.range c.args.classes.now) c.found.result
+    let classes = c.args.texts.classes.now in
+    wider (FindsIn classes c.programs-programs.result c.args.range)
+    (FindsTo c.args.choosing c.args.range classes (option_map plain_text c.args.texts.menu)) c.found.result
     (λ a h. Among c.in_ok-made.made a good c.in_ok-made.ensures.programs
-    (subst (λ (p : Programs). FindsIn c.args.classes.now p c.args.range a) c.programs-programs.ensures h))
+    (subst (λ (p : Programs). FindsIn classes p c.args.range a) c.programs-programs.ensures h))
     c.found.ensures.gives
