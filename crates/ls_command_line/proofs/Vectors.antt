@@ -82,7 +82,7 @@ version p = refl
 
 few_states : (p : ValueParser) →
     request_of p (codes "listset" ∷ codes "explore" ∷ codes "--states" ∷ codes "12" ∷ []) ≡
-    Some (plainly (request.Explore None 12 false false false))
+    Some (plainly (request.Explore None 12 false false false false))
 unfolding clap_on_literals
 few_states p = refl
 
@@ -118,21 +118,27 @@ no_seed p = refl
 
 few_cells : (p : ValueParser) →
     request_of p (codes "listset" ∷ codes "explore" ∷ codes "--cells=99" ∷ codes "--first" ∷ []) ≡
-    Some (plainly (request.Explore (Some 99) 1000000 false true false))
+    Some (plainly (request.Explore (Some 99) 1000000 false true false false))
 unfolding clap_on_literals
 few_cells p = refl
 
 first_illegal : (p : ValueParser) →
     request_of p (codes "listset" ∷ codes "explore" ∷ codes "--illegal" ∷ codes "--first" ∷ []) ≡
-    Some (plainly (request.Explore None 1000000 true true false))
+    Some (plainly (request.Explore None 1000000 true true false false))
 unfolding clap_on_literals
 first_illegal p = refl
 
 with_progress : (p : ValueParser) →
     request_of p (codes "listset" ∷ codes "explore" ∷ codes "--progress" ∷ codes "--states=70000" ∷ []) ≡
-    Some (plainly (request.Explore None 70000 false false true))
+    Some (plainly (request.Explore None 70000 false false false true))
 unfolding clap_on_literals
 with_progress p = refl
+
+with_orders : (p : ValueParser) →
+    request_of p (codes "listset" ∷ codes "explore" ∷ codes "--order" ∷ []) ≡
+    Some (plainly (request.Explore None 1000000 false false true false))
+unfolding clap_on_literals
+with_orders p = refl
 
 a_verdict : (p : ValueParser) →
     request_of p (codes "listset" ∷ codes "explore" ∷ codes "--verdict" ∷ []) ≡
@@ -145,6 +151,12 @@ a_mixed_verdict : (p : ValueParser) →
     Some (plainly (request.Verdict 9 true))
 unfolding clap_on_literals
 a_mixed_verdict p = refl
+
+a_verdict_with_orders : (p : ValueParser) →
+    request_of p (codes "listset" ∷ codes "explore" ∷ codes "--order" ∷ codes "--verdict" ∷ []) ≡
+    Some (plainly (request.Verdict 1000000 true))
+unfolding clap_on_literals
+a_verdict_with_orders p = refl
 
 an_aim : (p : ValueParser) → request_of p (codes "listset" ∷ codes "aim" ∷ []) ≡ Some (plainly request.Aim)
 unfolding clap_on_literals

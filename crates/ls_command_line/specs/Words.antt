@@ -130,10 +130,12 @@ explore_line =
     (with_rule
     (with_rule
     (with_rule
+    (with_rule
     (with_rule (with_explain (codes "explore")) cells_rule)
     (number_rule false (codes "states")))
     (flag_rule (codes "illegal")))
     (flag_rule (codes "first")))
+    (flag_rule (codes "order")))
     (flag_rule (codes "progress")))
     (flag_rule (codes "verdict"))
 
@@ -262,7 +264,7 @@ asked_state rows =
 -- an option of `explore` is given that goes with the histories alone
 abbrev pub is_mixed : List Row → Bool
 is_mixed rows = is_some (number_asked (codes "cells") rows) || (flag_of (codes "illegal") rows ||
-    (flag_of (codes "first") rows || flag_of (codes "progress") rows))
+    (flag_of (codes "first") rows || (flag_of (codes "order") rows || flag_of (codes "progress") rows)))
 
 -- the histories of all schedules, or a wrong run alone
 abbrev pub asked_explore : List Row → Request
@@ -270,7 +272,8 @@ asked_explore rows =
     if flag_of (codes "verdict") rows
     then requests.Verdict (number_of (codes "states") 1000000 rows) (is_mixed rows)
     else requests.Explore (number_asked (codes "cells") rows) (number_of (codes "states") 1000000 rows)
-    (flag_of (codes "illegal") rows) (flag_of (codes "first") rows) (flag_of (codes "progress") rows)
+    (flag_of (codes "illegal") rows) (flag_of (codes "first") rows) (flag_of (codes "order") rows)
+    (flag_of (codes "progress") rows)
 
 -- which programs of a class are looked through
 abbrev pub asked_find : List Row → Seeking

@@ -48,6 +48,12 @@ pub(crate) fn explore_command<'a>(alloc: Global) -> Result<Command<'a>, AllocErr
     let command = with_option(command, illegal);
     let first = flag_option(alloc, "first", "prints only the first of the histories");
     let command = with_option(command, first);
+    let order = flag_option(
+        alloc,
+        "order",
+        "prints below each history the order of whole calls that explains it, as `order` does",
+    );
+    let command = with_option(command, order);
     let progress = flag_option(
         alloc,
         "progress",

@@ -144,6 +144,8 @@ pub enum Request {
         illegal: bool,
         /// Only the first of them.
         first: bool,
+        /// What the command `order` tells of a history below each.
+        order: bool,
         /// Whether it tells on standard error how many states it keeps.
         progress: bool,
     },
@@ -347,10 +349,10 @@ fn asked_find(options: &ArgMatches<'_>) -> Seeking
 }
 
 /// Whether one of these holds.
-fn one_of(cells: bool, illegal: bool, first: bool, progress: bool) -> bool
-    ensures { result ≡ cells || (illegal || (first || progress)) }
+fn one_of(cells: bool, illegal: bool, first: bool, order: bool, progress: bool) -> bool
+    ensures { result ≡ cells || (illegal || (first || (order || progress))) }
 {
-    cells || illegal || first || progress
+    cells || illegal || first || order || progress
 }
 
 /// Whether an option of `explore` is given that goes with the histories alone.
@@ -360,8 +362,9 @@ fn is_mixed(options: &ArgMatches<'_>) -> bool
     let cells = number_asked(options, "cells").is_some();
     let illegal = flag(options, "illegal");
     let first = flag(options, "first");
+    let order = flag(options, "order");
     let progress = flag(options, "progress");
-    one_of(cells, illegal, first, progress)
+    one_of(cells, illegal, first, order, progress)
 }
 
 fn asked_explore(options: &ArgMatches<'_>) -> Request
@@ -377,6 +380,7 @@ fn asked_explore(options: &ArgMatches<'_>) -> Request
         states,
         illegal: flag(options, "illegal"),
         first: flag(options, "first"),
+        order: flag(options, "order"),
         progress: flag(options, "progress"),
     }
 }

@@ -26,7 +26,7 @@ use Rattle.ls_explore_reports.specs.declared.printing.Exploring.{Exploring}
 use Rattle.ls_explore_commands.specs.Finding.{AreGoodFor, IsRefused, TellBy}
 use Rattle.ls_explore_commands.specs.Explored.{Explored, Endless, IsExploration, NoCells, NoStates, NotTranslated}
 use Rattle.ls_explore_commands.specs.Explored.{RowTooLong, Tells, names_in}
-use Rattle.ls_explore_reports.specs.Judged.{AreHistories, IsJudged, IsToldLinear, Judged, rows_of}
+use Rattle.ls_explore_reports.specs.Judged.{AreHistories, IsJudged, IsToldBelow, IsToldLinear, Judged, rows_of}
 use Rattle.ls_explore_reports.specs.Laws.{LinearityIsMeant, NoneIllegal, NoneIsNotLinearizable}
 use Rattle.ls_explore_reports.specs.Long.{HasLong}
 use Rattle.ls_explore_reports.specs.Printing.{explored_text}
@@ -34,8 +34,8 @@ use Rattle.ls_explore_commands.specs.Readable.{SourceRunsAreReadable}
 
 -- what the rows tell, with the verdicts on them
 pub judged_so : LinearityIsMeant → NoneIllegal → NoneIsNotLinearizable →
-    (i : Image) (count : Option ℕ) (limit k : ℕ) (rows : List Told) (judged : List Judged) (kept : ℕ)
-    (complete roomy : Bool) →
+    (i : Image) (count : Option ℕ) (limit : ℕ) (orders : Bool) (k : ℕ) (rows : List Told) (judged : List Judged)
+    (kept : ℕ) (complete roomy : Bool) →
     rows_of judged ≡ rows →
     TellTruth (file_of i) (program_of i) k rows →
     TellStates (file_of i) (program_of i) k rows kept →
@@ -44,9 +44,10 @@ pub judged_so : LinearityIsMeant → NoneIllegal → NoneIsNotLinearizable →
     (complete ≡ true → roomy ≡ true → TellWhole (file_of i) (program_of i) rows) → AreApart rows →
     IsSorted row_order rows → All (IsJudged (program_of i)) judged →
     All (IsToldLinear (file_of i) (program_of i) (complete && roomy) rows) judged →
-    IsExploration i count limit k judged kept complete roomy
-judged_so meant legal linearizable i count limit k rows judged kept complete roomy e truth states cut by whole apart
-    order verdicts linear =
+    All (IsToldBelow orders (file_of i) (program_of i)) judged →
+    IsExploration i count limit orders k judged kept complete roomy
+judged_so meant legal linearizable i count limit orders k rows judged kept complete roomy e truth states cut by whole
+    apart order verdicts linear below =
     let so : TellTruth (file_of i) (program_of i) k (rows_of judged) =
     subst (TellTruth (file_of i) (program_of i) k) (sym e) truth in
     let each : complete ≡ true → roomy ≡ true → TellWhole (file_of i) (program_of i) (rows_of judged) =
@@ -64,6 +65,7 @@ judged_so meant legal linearizable i count limit k rows judged kept complete roo
       verdicts = verdicts;
       linear = told;
       meant = meant (file_of i) (program_of i) k complete roomy judged so each told;
+      below = below;
       none_illegal = λ yes room decided none.
           legal (file_of i) (program_of i) judged verdicts decided none (each yes room);
       all_linearizable = λ yes room known none.
@@ -84,6 +86,16 @@ linear_so i file program complete roomy whole slice rows judged of_file of_progr
     (subst (λ w. All (IsToldLinear (file_of i) (program_of i) w slice) judged) of_whole
     (subst (λ (p : CodeProgram). All (IsToldLinear (file_of i) (plain_program p) whole slice) judged) of_program
     (subst (λ f. All (IsToldLinear f (plain_program program) whole slice) judged) of_file linear)))
+
+-- what stands below the rows, of the file and the program of an image
+pub below_so : (i : Image) (file : File) (program : CodeProgram) (orders : Bool) (judged : List Judged) →
+    file ≡ file_of i →
+    program ≡ program_of_image i →
+    All (IsToldBelow orders file (plain_program program)) judged →
+    All (IsToldBelow orders (file_of i) (program_of i)) judged
+below_so i file program orders judged of_file of_program below =
+    subst (λ (p : CodeProgram). All (IsToldBelow orders (file_of i) (plain_program p)) judged) of_program
+    (subst (λ f. All (IsToldBelow orders f (plain_program program)) judged) of_file below)
 
 any_default : (xs : List Told) (n : ℕ) (d e : Told) → n < length xs → slice_index_or xs n d ≡ slice_index_or xs n e
 any_default [] n d e h = absurd (omega arith)
@@ -116,8 +128,9 @@ module _ (i : Image) (e : Exploring) where
   pub long_fails : {T : Type 0} (f : TranslationFault) (k kept : ℕ) (judged slice : List Judged) (complete roomy : Bool)
       →
       (f ≡ translation.Memory) ⊎ (f ≡ translation.ResultTooLong) →
-      AreGoodFor (code_of_image i) e.cells e.states → IsExploration i e.cells e.states k judged kept complete roomy
-      → slice ≡ judged →
+      AreGoodFor (code_of_image i) e.cells e.states →
+      IsExploration i e.cells e.states e.order k judged kept complete roomy →
+      slice ≡ judged →
       (IsErrOf {T = T} (Err f) translation.ResultTooLong → HasLong k (rows_of slice)) →
       GivesText (Explored i e) (Err (lifted_translation f))
   long_fails translation.Memory k kept judged slice complete roomy only good so is long = tt
@@ -131,7 +144,7 @@ module _ (i : Image) (e : Exploring) where
 
   pub explore_tells : (k : ℕ) (judged : List Judged) (kept : ℕ) (complete roomy : Bool) (t : Text) →
       AreGoodFor (code_of_image i) e.cells e.states →
-      IsExploration i e.cells e.states k judged kept complete roomy →
+      IsExploration i e.cells e.states e.order k judged kept complete roomy →
       t ≡ explored_text (names_in i) (names_of_image i) k judged kept complete roomy e → Explored i e (Ok t)
   explore_tells k judged kept complete roomy t good is said = subst (λ x. Explored i e (Ok x)) (sym said)
       (Tells k judged kept complete roomy good is)

@@ -22,8 +22,8 @@ use Rattle.ls_faults.specs.declared.fault.ToolFault.{ToolFault}
 use Rattle.ls_faults.specs.declared.fault.ToolFault.TheVariants as faults
 use Rattle.ls_commands.specs.Compiled.{AnswersOn, names_of_image}
 use Rattle.ls_explore_reports.specs.declared.printing.Exploring.{Exploring}
-use Rattle.ls_explore_reports.specs.Judged.{AreMeant, IsJudged, IsToldLinear, Judged, are_decided, are_known}
-use Rattle.ls_explore_reports.specs.Judged.{count_illegal, count_not_linearizable, rows_of}
+use Rattle.ls_explore_reports.specs.Judged.{AreMeant, IsJudged, IsToldBelow, IsToldLinear, Judged, are_decided}
+use Rattle.ls_explore_reports.specs.Judged.{are_known, count_illegal, count_not_linearizable, rows_of}
 use Rattle.ls_explore_reports.specs.Long.{HasLong}
 use Rattle.ls_explore_reports.specs.Printing.{explored_text}
 use Rattle.ls_explore_commands.specs.Finding.{AreGoodFor, HasGoodCells, TellBy}
@@ -38,11 +38,12 @@ names_in i = record {
 }
 
 -- Rows that tell the truth, the shortest schedule first, no two with one history, each with its verdict, and with what
--- the rows and the serial runs say of its linearizability. Each of so many states has a row. Where they are complete
--- they tell of all schedules that fit the cells, if a number of cells is asked for; and where no schedule runs out of
--- cells, of all. Where they are cut, so many states were kept as may be.
-pub record IsExploration (i : Image) (count : Option ℕ) (limit k : ℕ) (judged : List Judged) (kept : ℕ)
-    (complete roomy : Bool) : Type 0 where
+-- the rows and the serial runs say of its linearizability. Below each is what the command `order` tells of its history,
+-- if orders are asked for. Each of so many states has a row. Where they are complete they tell of all schedules that fit
+-- the cells, if a number of cells is asked for; and where no schedule runs out of cells, of all. Where they are cut, so
+-- many states were kept as may be.
+pub record IsExploration (i : Image) (count : Option ℕ) (limit : ℕ) (orders : Bool) (k : ℕ) (judged : List Judged)
+    (kept : ℕ) (complete roomy : Bool) : Type 0 where
   pub truth : TellTruth (file_of i) (program_of i) k (rows_of judged)
   pub states : TellStates (file_of i) (program_of i) k (rows_of judged) kept
   pub cut : complete ≡ false → limit ≤ kept
@@ -53,6 +54,7 @@ pub record IsExploration (i : Image) (count : Option ℕ) (limit k : ℕ) (judge
   pub verdicts : All (IsJudged (program_of i)) judged
   pub linear : All (IsToldLinear (file_of i) (program_of i) (complete && roomy) (rows_of judged)) judged
   pub meant : AreMeant (file_of i) (program_of i) judged
+  pub below : All (IsToldBelow orders (file_of i) (program_of i)) judged
   -- what `illegal 0` and `not linearizable 0` say beside `complete`
   pub none_illegal : complete ≡ true → roomy ≡ true → are_decided judged ≡ true → count_illegal judged ≡ 0 →
       (schedule : List ℕ) → HasLegalOrder (program_of i) (source_history (file_of i) (program_of i) schedule)
@@ -64,7 +66,7 @@ pub record IsExploration (i : Image) (count : Option ℕ) (limit k : ℕ) (judge
 pub data Explored (i : Image) (e : Exploring) : Result Text ToolFault → Type 0 where
   Tells : (k : ℕ) (judged : List Judged) (kept : ℕ) (complete roomy : Bool) →
       AreGoodFor (code_of_image i) e.cells e.states →
-      IsExploration i e.cells e.states k judged kept complete roomy →
+      IsExploration i e.cells e.states e.order k judged kept complete roomy →
       Explored i e (Ok (explored_text (names_in i) (names_of_image i) k judged kept complete roomy e))
   NoCells : (cells : ℕ) → e.cells ≡ Some cells → AreBadCells (code_of_image i).names cells →
       Explored i e (Err faults.BadCells)
@@ -84,7 +86,7 @@ pub data Explored (i : Image) (e : Exploring) : Result Text ToolFault → Type 0
   -- so are the steps of a row
   RowTooLong : (k : ℕ) (judged : List Judged) (kept : ℕ) (complete roomy : Bool) →
       AreGoodFor (code_of_image i) e.cells e.states →
-      IsExploration i e.cells e.states k judged kept complete roomy → HasLong k (rows_of judged) →
+      IsExploration i e.cells e.states e.order k judged kept complete roomy → HasLong k (rows_of judged) →
       Explored i e (Err (faults.Translation translation.ResultTooLong))
 
 abbrev pub ExploresTo : Exploring → Text → Text → Result Text ToolFault → Type 0

@@ -54,7 +54,14 @@ fn explored<W: Watch>(
     let found = find_rows(alloc, image, exploring, watch)?;
     let whole = is_whole(found.complete, found.roomy);
     let file = image.checked().file();
-    let judged = judge_rows(alloc, found.rows.as_slice(), file, image.program(), whole)?;
+    let judged = judge_rows(
+        alloc,
+        found.rows.as_slice(),
+        file,
+        image.program(),
+        whole,
+        exploring.order,
+    )?;
     linearity_is_meant();
     none_is_illegal();
     none_is_not_linearizable();
@@ -65,8 +72,9 @@ fn explored<W: Watch>(
 /// The histories of all schedules of the compiled program, where at most so many states are kept: each with how it
 /// ends, the verdict on it, and a schedule of source steps. If a number of cells is given, the states are those of a
 /// machine with so many; else they are those of the source. With `illegal` only those of a set without a legal order
-/// are printed, and others that are not linearizable; with `first` the first of those that would be printed. The last
-/// line has the counts, and whether these are all. While it goes on it tells how many states there are.
+/// are printed, and others that are not linearizable; with `first` the first of those that would be printed. With
+/// `order` what the command `order` tells of a history stands below it. The last line has the counts, and whether these
+/// are all. While it goes on it tells how many states there are.
 ///
 /// Refused as `compile` is; else as `explore_image` is, or `explore_source`; and as a schedule of over 1,000,000 steps
 /// is.

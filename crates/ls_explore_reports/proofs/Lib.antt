@@ -1,3 +1,4 @@
+pub mod BelowRows
 pub mod Waiting
 pub mod Undoubted
 pub mod Others

@@ -5,6 +5,8 @@ use Rattle.ls_checked.specs.CheckedTree.{File}
 use Rattle.ls_checked.specs.CheckedProgram.{Program}
 use Rattle.ls_events.specs.declared.event.Event.{Event}
 use Rattle.ls_explore.specs.Rows.{Told}
+use Rattle.ls_explore_reports.specs.Below.{IsBelow}
+use Rattle.ls_report.specs.Events.{Text}
 use Rattle.ls_linearizable.specs.Linearizable.{IsLinearizable}
 use Rattle.ls_explore_linearizable.specs.Rows.{RowsExplain}
 use Rattle.ls_serial_search.specs.Open.{HasLongCall, HasManyOrders}
@@ -19,6 +21,8 @@ pub record Judged : Type 0 where
   pub row : Told
   pub verdict : Verdict
   pub linearity : Linearity
+  -- what stands below the row
+  pub below : Text
 
 abbrev pub rows_of : List Judged → List Told
 rows_of judged = map (λ j. j.row) judged
@@ -46,6 +50,10 @@ IsLinearity file program whole rows h linearities.ManyOrders =
 -- it is said so of the row's history
 abbrev pub IsToldLinear : File → Program → Bool → List Told → Judged → Type 0
 IsToldLinear file program whole rows j = IsLinearity file program whole rows j.row.history j.linearity
+
+-- with orders it is what the command `order` tells of the row's history
+abbrev pub IsToldBelow : Bool → File → Program → Judged → Type 0
+IsToldBelow orders file program j = IsBelow orders file program j.row.history j.below
 
 abbrev pub AreMeant : File → Program → List Judged → Type 0
 AreMeant file program judged = All (λ (j : Judged). IsMeant file program usual j.row.history j.linearity) judged

@@ -60,12 +60,13 @@ linear_part verdicts.TooManyTrapped l = beside_part l
 abbrev pub verdict_part : Verdict → Linearity → Text
 verdict_part v l = set_part v ++ linear_part v l
 
--- how a row ends and the verdict, its schedule, its history's lines, an empty line
+-- how a row ends and the verdict, its schedule, its history's lines, what stands below it, an empty line
 abbrev pub row_text : Names → List Text → ℕ → Judged → Text
 row_text names threads k j =
     ending_text j.row.ending (waiting names (scene_of names (schedule_of k j.row)) 0 threads)
     ++ (verdict_part j.verdict j.linearity ++
-    (10 ∷ (schedule_text threads (schedule_of k j.row) ++ (run_text names.program j.row.history ++ 10 ∷ []))))
+    (10 ∷ (schedule_text threads (schedule_of k j.row) ++ (run_text names.program j.row.history ++
+    (j.below ++ 10 ∷ [])))))
 
 -- a set's history without a legal order, or one that is not linearizable
 abbrev pub is_wrong : Verdict → Linearity → Bool

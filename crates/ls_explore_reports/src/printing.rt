@@ -47,6 +47,8 @@ pub struct Exploring {
     pub illegal: bool,
     /// Whether the first of the rows is printed alone.
     pub first: bool,
+    /// Whether what the command `order` tells of a row's history stands below the row.
+    pub order: bool,
 }
 
 impl Clone for Exploring {
@@ -239,7 +241,7 @@ fn push_verdict(out: &mut String, verdict: Verdict, linearity: Linearity) -> Res
     out.push_str(linear_part(verdict, linearity))
 }
 
-/// A row: how it ends and the verdict, its schedule, its history's lines, an empty line.
+/// A row: how it ends and the verdict, its schedule, its history's lines, what stands below it, an empty line.
 fn push_row(
     alloc: Global,
     out: &mut String,
@@ -262,6 +264,7 @@ fn push_row(
     out.push_str("\n")?;
     out.push_str(steps.as_str())?;
     out.push_str(history.as_str())?;
+    out.push_str(judged.below())?;
     out.push_str("\n")?;
     Ok(())
 }

@@ -12,9 +12,11 @@ use Rattle.ls_report.specs.Lines.{event_text, line}
 use Rattle.ls_report.specs.Printing.{named, run_text}
 use Rattle.ls_order_search.specs.OrderLines.{order_line}
 use Rattle.ls_order_search.specs.Telling.{hopeless_text}
+use Rattle.ls_serial_orders.specs.Known.{file_of, program_of, IsKnownOf}
 use Rattle.ls_serial_orders.specs.Named.{AreNamed}
 use Rattle.ls_serial_orders.specs.Orders.{IsHopeless, IsOrderOf}
 use Rattle.ls_serial_orders.specs.Telling.{Hopeless, Tells}
+use Rattle.ls_serial_orders.specs.declared.finding.Known.{Known}
 use Rattle.ls_serial_orders.proofs.NameLemmas.{event_there}
 
 module _ (p : Program) where
@@ -42,3 +44,13 @@ module _ (file : File) (p : Program) (run : List RunEvent) where
   hopeless_told at r order text hopeless before there is events named =
       let found = event_there p run events at r named there in
       subst (Tells file p run events) (sym (is found.0 found.2)) (Hopeless at found.0 order hopeless found.1 before)
+
+-- what is told where the runs are known already is told of their program
+pub known_tells : (f : File) (p : Program) (k : Known) (run : List RunEvent) (text : Text) →
+    IsKnownOf f p k →
+    ((events : List Event) → AreNamed (program_of k) run events → Tells (file_of k) (program_of k) run events text) →
+    (events : List Event) → AreNamed p run events → Tells f p run events text
+known_tells f p k run text is told =
+    subst (λ (q : Program). (events : List Event) → AreNamed q run events → Tells f q run events text) is.program
+    (subst (λ (g : File). (events : List Event) → AreNamed (program_of k) run events →
+    Tells g (program_of k) run events text) is.file told)

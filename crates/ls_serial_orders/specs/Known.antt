@@ -1,5 +1,5 @@
 -- A program of a file, and its serial runs.
-use Rattle.std.specs.Prelude.{Bool}
+use Rattle.std.specs.Prelude.{◌≡◌, Bool}
 use Rattle.ls_checked.specs.CheckedTree.{File}
 use Rattle.ls_checked.specs.CheckedProgram.{Program}
 use Rattle.ls_checked.specs.Plain.{plain_file}
@@ -20,3 +20,9 @@ is_complete known = known.search.complete
 -- they are those that a search found
 abbrev pub IsKnown : Known → Type 0
 IsKnown known = Tells (file_of known) (program_of known) usual known.search
+
+-- they are those of this program of this file
+pub record IsKnownOf (f : File) (p : Program) (k : Known) : Type 0 where
+  pub known : IsKnown k
+  pub file : file_of k ≡ f
+  pub program : program_of k ≡ p

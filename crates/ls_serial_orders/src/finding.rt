@@ -5,7 +5,7 @@ ghost use Rattle.ls_events.specs.declared.event.Event.{Event as EventValue};
 ghost use Rattle.ls_checked.specs.Plain.{plain_file};
 ghost use Rattle.ls_checked.specs.PlainProgram.{plain_program};
 ghost use Rattle.ls_linearizable.specs.Linearizable.{IsLinearizable};
-ghost use Rattle.ls_serial_orders.specs.Known.{file_of, is_complete, program_of, IsKnown};
+ghost use Rattle.ls_serial_orders.specs.Known.{file_of, is_complete, program_of, IsKnown, IsKnownOf};
 ghost use Rattle.ls_serial_orders.specs.Orders.{IsOrderOf, IsOutcome};
 
 use crate::calls::calls_of;
@@ -30,10 +30,26 @@ pub enum Outcome {
 
 /// A program of a file, and its serial runs.
 #[derive(Drop)]
-struct Known<'a> {
+pub struct Known<'a> {
+    file: &'a File,
+    pub(crate) program: &'a Program,
+    search: SerialSearch,
+}
+
+/// A program of a file, and the serial runs that a search finds. The only refusal is that memory ran out.
+pub fn known_of<'a>(
+    alloc: Global,
     file: &'a File,
     program: &'a Program,
-    search: SerialSearch,
+) -> Result<Known<'a>, AllocError>
+    ensures { IfOk result (IsKnownOf (plain_file file.now) (plain_program program.now)) }
+{
+    let search = serial_runs(alloc, file, program, &Bounds::usual())?;
+    Ok(Known {
+        file,
+        program,
+        search,
+    })
 }
 
 /// An order that explains a history. None if none does that was found.
@@ -104,8 +120,9 @@ fn unexplained(alloc: Global, known: &Known<'_>, history: &[Event]) -> Result<Ou
     Ok(unknown(known))
 }
 
-/// What the serial runs say of a history.
-fn outcome_on(alloc: Global, known: &Known<'_>, history: &[Event]) -> Result<Outcome, AllocError>
+/// What the serial runs say of a history: an order of whole calls that explains it, or else the event from which on
+/// none does. The only refusal is that memory ran out.
+pub fn find(alloc: Global, known: &Known<'_>, history: &[Event]) -> Result<Outcome, AllocError>
     requires { IsKnown known.now }
     ensures { IfOk result (IsOutcome (file_of known.now) (program_of known.now) history.now) }
 {
@@ -113,24 +130,4 @@ fn outcome_on(alloc: Global, known: &Known<'_>, history: &[Event]) -> Result<Out
         Some(order) => Ok(Outcome::Ordered(order)),
         None => unexplained(alloc, known, history),
     }
-}
-
-/// An order of whole calls of a program of a file that explains a history, or else the event from which on none does.
-/// The only refusal is that memory ran out.
-pub fn find(
-    alloc: Global,
-    file: &File,
-    program: &Program,
-    history: &[Event],
-) -> Result<Outcome, AllocError>
-    ensures { IfOk result (IsOutcome (plain_file file.now) (plain_program program.now) history.now) }
-{
-    let search = serial_runs(alloc, file, program, &Bounds::usual())?;
-    let known = Known {
-        file,
-        program,
-        search,
-    };
-    let outcome = outcome_on(alloc, &known, history)?;
-    Ok(outcome)
 }

@@ -9,11 +9,12 @@ ghost use Rattle.ls_report.specs.Events.{Event as NamedValue};
 ghost use Rattle.ls_report.specs.Lines.{event_text};
 ghost use Rattle.ls_report.specs.Printing.{named};
 ghost use Rattle.ls_order_search.specs.Telling.{hopeless_text};
+ghost use Rattle.ls_serial_orders.specs.Known.{file_of, program_of, IsKnown};
 ghost use Rattle.ls_serial_orders.specs.Named.{AreNamed};
 ghost use Rattle.ls_serial_orders.specs.Orders.{IsOutcome};
 ghost use Rattle.ls_serial_orders.specs.Telling.{Tells};
 
-use crate::finding::{Outcome, find};
+use crate::finding::{Known, Outcome, find, known_of};
 use ls_checked::program::Program;
 use ls_checked::tree::File;
 use ls_events::event::Event;
@@ -86,6 +87,18 @@ fn outcome_text(
     }
 }
 
+/// The same as `tell`, where the serial runs of the program are found already.
+pub fn tell_known(alloc: Global, known: &Known<'_>, history: &[Event]) -> Result<String, AllocError>
+    requires { IsKnown known.now }
+    ensures { IfOk result (λ text. (events : List NamedValue) →
+        AreNamed (program_of known.now) history.now events →
+        Tells (file_of known.now) (program_of known.now) history.now events (string_bytes text)) }
+{
+    let outcome = find(alloc, known, history)?;
+    let text = outcome_text(alloc, known.program, history, &outcome)?;
+    Ok(text)
+}
+
 /// An order of whole calls of a program of a file that explains a history of the program, or else the event from which
 /// on none does. The only refusal is that memory ran out.
 pub fn tell(
@@ -98,7 +111,7 @@ pub fn tell(
         AreNamed (plain_program program.now) history.now events →
         Tells (plain_file file.now) (plain_program program.now) history.now events (string_bytes text)) }
 {
-    let outcome = find(alloc, file, program, history)?;
-    let text = outcome_text(alloc, program, history, &outcome)?;
+    let known = known_of(alloc, file, program)?;
+    let text = tell_known(alloc, &known, history)?;
     Ok(text)
 }

@@ -58,8 +58,14 @@ OnOne requests.Order history answer = OrdersTo history answer
 OnOne (requests.Find seeking) classes answer = OnClass seeking classes None answer
 OnOne other text answer = answer ≡ Err faults.WrongParts
 
-abbrev exploring : Option ℕ → ℕ → Bool → Bool → Exploring
-exploring cells states illegal first = record { cells = cells; states = states; illegal = illegal; first = first }
+abbrev exploring : Option ℕ → ℕ → Bool → Bool → Bool → Exploring
+exploring cells states illegal first order = record {
+  cells = cells;
+  states = states;
+  illegal = illegal;
+  first = first;
+  order = order;
+}
 
 -- and what one that draws schedules by seeds may answer on two
 abbrev pub OnSamples : Request → Text → Text → Result Text ToolFault → Type 0
@@ -80,8 +86,8 @@ OnTwo (requests.Batch seed count steps switch cells judge) classes program answe
     (requests.Batch seed count steps switch cells judge) classes program answer
 OnTwo (requests.Sample seed steps switch cells) classes program answer = OnSamples
     (requests.Sample seed steps switch cells) classes program answer
-OnTwo (requests.Explore cells states illegal first progress) classes program answer = ExploresTo
-    (exploring cells states illegal first) classes program answer
+OnTwo (requests.Explore cells states illegal first order progress) classes program answer = ExploresTo
+    (exploring cells states illegal first order) classes program answer
 OnTwo (requests.Verdict states false) classes program answer = VerdictsTo states classes program answer
 OnTwo (requests.Verdict states true) classes program answer = answer ≡ Err faults.BadOptions
 OnTwo (requests.Page paging) classes program answer = PagesOnTwo paging classes program answer
@@ -280,7 +286,7 @@ telling_if true telling = telling
 telling_if false telling = tellings.Nothing
 
 abbrev pub progress_of : Request → Telling
-progress_of (requests.Explore cells states illegal first progress) = telling_if progress tellings.States
+progress_of (requests.Explore cells states illegal first order progress) = telling_if progress tellings.States
 progress_of (requests.Find seeking) = telling_if seeking.progress tellings.Programs
 progress_of other = tellings.Nothing
 

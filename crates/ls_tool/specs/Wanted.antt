@@ -15,7 +15,7 @@ wanted_parts requests.Compile = two_parts
 wanted_parts (requests.Live cells limit) = two_parts
 wanted_parts (requests.Batch seed count steps switch cells judge) = two_parts
 wanted_parts (requests.Sample seed steps switch cells) = two_parts
-wanted_parts (requests.Explore cells states illegal first progress) = two_parts
+wanted_parts (requests.Explore cells states illegal first order progress) = two_parts
 wanted_parts (requests.Verdict states mixed) = two_parts
 wanted_parts (requests.Page paging) =
     codes "two to four parts, class text, thread program, schedule and an order"

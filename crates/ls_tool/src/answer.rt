@@ -215,6 +215,7 @@ fn on_two<R: Threads + Wait + Sync, W: Watch>(
             states,
             illegal,
             first: one,
+            order,
             progress: _,
         } => {
             let exploring = Exploring {
@@ -222,6 +223,7 @@ fn on_two<R: Threads + Wait + Sync, W: Watch>(
                 states: states as usize,
                 illegal,
                 first: one,
+                order,
             };
             explore(alloc, exploring, first, second, watch)
         }

@@ -62,6 +62,7 @@ pub(crate) fn progress_of(request: Request) -> Telling
             states: _,
             illegal: _,
             first: _,
+            order: _,
             progress,
         } => telling_if(progress, Telling::States),
         Request::Find(seeking) => telling_if(seeking.progress, Telling::Programs),

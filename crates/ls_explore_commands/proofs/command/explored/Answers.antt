@@ -11,8 +11,8 @@ use Rattle.ls_types.specs.CheckedFile.{outcome_of}
 use Rattle.ls_explore_reports.specs.Judged.{AreHistories, IsJudged}
 use Rattle.ls_explore_reports.specs.Printing.{explored_text}
 use Rattle.ls_explore_commands.specs.Explored.{names_in}
-use Rattle.ls_explore_commands.proofs.ExploredLemmas.{explore_fails, explore_tells, judged_so, linear_so, long_fails}
-use Rattle.ls_explore_commands.proofs.ExploredLemmas.{rows_named}
+use Rattle.ls_explore_commands.proofs.ExploredLemmas.{below_so, explore_fails, explore_tells, judged_so, linear_so}
+use Rattle.ls_explore_commands.proofs.ExploredLemmas.{long_fails, rows_named}
 use Rattle.ls_explore_commands.proofs.command.explored.Goals as goal
 
 pub returns-in_err-found-clause-gives : goal.returns-in_err-found-clause-gives
@@ -41,12 +41,15 @@ returns-in_err-text-clause-gives g c =
     c.is_whole-whole.result c.as_slice.result.now found.rows.items judged (ap plain_file c.file-file.ensures
     ∙ ap (λ k. (outcome_of k).file) c.checked.ensures) c.program.ensures c.is_whole-whole.ensures
     c.as_slice.ensures.value c.in_ok-judged.ensures.linear in
+    let below = below_so i (plain_file c.file-file.result.now) c.program.result.now c.args.exploring.order judged
+    (ap plain_file c.file-file.ensures ∙ ap (λ k. (outcome_of k).file) c.checked.ensures) c.program.ensures
+    c.in_ok-judged.ensures.below in
     let so =
     judged_so c.linearity_is_meant.ensures c.none_is_illegal.ensures.whole c.none_is_not_linearizable.ensures.whole i
-    c.args.exploring.cells c.args.exploring.states found.setup found.rows.items judged found.states
-    found.complete found.roomy of_rows c.in_ok-found.ensures.found.truth c.in_ok-found.ensures.found.states
+    c.args.exploring.cells c.args.exploring.states c.args.exploring.order found.setup found.rows.items judged
+    found.states found.complete found.roomy of_rows c.in_ok-found.ensures.found.truth c.in_ok-found.ensures.found.states
     c.in_ok-found.ensures.found.cut c.in_ok-found.ensures.found.by c.in_ok-found.ensures.found.whole
-    c.in_ok-found.ensures.found.apart c.in_ok-found.ensures.found.order verdicts linear
+    c.in_ok-found.ensures.found.apart c.in_ok-found.ensures.found.order verdicts linear below
     in
     let p = err_from_is_err_and c.from_residual-in_err-text.result c.from_residual-in_err-text.ensures.1 in
     rw (p.1, p.2)
@@ -68,6 +71,9 @@ returns-clause-gives g c =
     c.is_whole-whole.result c.as_slice.result.now found.rows.items judged (ap plain_file c.file-file.ensures
     ∙ ap (λ k. (outcome_of k).file) c.checked.ensures) c.program.ensures c.is_whole-whole.ensures
     c.as_slice.ensures.value c.in_ok-judged.ensures.linear in
+    let below = below_so i (plain_file c.file-file.result.now) c.program.result.now c.args.exploring.order judged
+    (ap plain_file c.file-file.ensures ∙ ap (λ k. (outcome_of k).file) c.checked.ensures) c.program.ensures
+    c.in_ok-judged.ensures.below in
     let first = subst (λ (ns : Names). t ≡ explored_text ns (thread_names c.names_in.result.program.now) found.setup
     c.as_slice-2.result.now found.states found.complete found.roomy e) c.names_in.ensures.names
     c.in_ok-text.ensures.text in
@@ -77,8 +83,8 @@ returns-clause-gives g c =
     found.states found.complete found.roomy e) c.as_slice-2.ensures.value next in
     explore_tells i e found.setup judged found.states found.complete found.roomy t c.in_ok-found.ensures.found.good
     (judged_so c.linearity_is_meant.ensures c.none_is_illegal.ensures.whole c.none_is_not_linearizable.ensures.whole i
-    e.cells e.states found.setup found.rows.items judged found.states found.complete found.roomy of_rows
+    e.cells e.states e.order found.setup found.rows.items judged found.states found.complete found.roomy of_rows
     c.in_ok-found.ensures.found.truth c.in_ok-found.ensures.found.states c.in_ok-found.ensures.found.cut
     c.in_ok-found.ensures.found.by c.in_ok-found.ensures.found.whole c.in_ok-found.ensures.found.apart
-    c.in_ok-found.ensures.found.order verdicts linear)
+    c.in_ok-found.ensures.found.order verdicts linear below)
     said

@@ -1,0 +1,49 @@
+// What stands below a row: what the command `order` tells of its history, if that is asked for.
+
+ghost use Rattle.std.specs.Prelude.{Bool, IfOk, string_bytes};
+ghost use Rattle.ls_checked.specs.CheckedTree.{File as FileValue};
+ghost use Rattle.ls_checked.specs.CheckedProgram.{Program as ProgramValue};
+ghost use Rattle.ls_checked.specs.Plain.{plain_file};
+ghost use Rattle.ls_checked.specs.PlainProgram.{plain_program};
+ghost use Rattle.ls_explore_reports.specs.Below.{IsBelow, IsFor};
+ghost use Rattle.ls_verdicts.specs.Verdicts.{IsHistoryOf};
+
+use ls_checked::program::Program;
+use ls_checked::tree::File;
+use ls_explore::Row;
+use ls_serial_orders::{Known, known_of, tell_known};
+use std::alloc::{AllocError, Global};
+
+/// The serial runs of a program of a file, if orders are asked for.
+pub(crate) fn known_if<'a>(
+    alloc: Global,
+    file: &'a File,
+    program: &'a Program,
+    orders: bool,
+) -> Result<Option<Known<'a>>, AllocError>
+    ensures { IfOk result (IsFor orders (plain_file file.now) (plain_program program.now)) }
+{
+    if !orders {
+        return Ok(None);
+    }
+    let known = known_of(alloc, file, program)?;
+    Ok(Some(known))
+}
+
+/// What stands below a row.
+pub(crate) fn below(
+    alloc: Global,
+    known: &Option<Known<'_>>,
+    row: &Row,
+) -> Result<String, AllocError>
+    requires { (orders : Bool) × (file : FileValue) × (program : ProgramValue) × IsFor orders file program known.now }
+    ensures { IfOk result (λ text. (orders : Bool) (file : FileValue) (program : ProgramValue) →
+        IsFor orders file program known.now → IsHistoryOf program row.now.history →
+        IsBelow orders file program row.now.history (string_bytes text)) }
+{
+    let Some(known) = known else {
+        return Ok(String::new(alloc));
+    };
+    let text = tell_known(alloc, known, row.history())?;
+    Ok(text)
+}
