@@ -2,7 +2,7 @@
 use Rattle.std.specs.Prelude.{ℕ, Bool, true, false, List, [], ◌∷◌, ◌++◌, codes}
 use Rattle.std.specs.Fmt.{decimal}
 use Rattle.ls_meaning.specs.Runs.{source_history}
-use Rattle.ls_fewest_switches.specs.Switches.{switches}
+use Rattle.ls_fewest_switches.specs.Wording.{switches_text}
 use Rattle.ls_report.specs.Events.{Text}
 use Rattle.ls_report.specs.Printing.{run_text}
 use Rattle.ls_labels.specs.Names.{Names}
@@ -19,11 +19,6 @@ end_text false = codes " cut\n"
 -- how many states were kept, and whether these are all, as `states 402 complete`
 abbrev pub last_text : ℕ → Bool → Text
 last_text states complete = codes "states " ++ (decimal states ++ end_text complete)
-
--- how many context switches a schedule has, if none with its history has fewer, as `; context switches 2`
-abbrev pub switches_text : Bool → List ℕ → Text
-switches_text true schedule = codes "; context switches " ++ decimal (switches schedule)
-switches_text false schedule = []
 
 -- what is wrong with a run, its context switches, its schedule, its history's lines, an empty line
 abbrev pub run_report : Bool → Names → List Text → Text → List ℕ → Text

@@ -6,12 +6,12 @@ ghost use Rattle.ls_meaning.specs.Runs.{source_history};
 ghost use Rattle.ls_report.specs.Printing.{run_text};
 ghost use Rattle.ls_schedule.specs.Reading.{thread_names};
 ghost use Rattle.ls_explore_commands.specs.Reports.{bad_text, doubt_text, doubtful_text, end_text, free_text, last_text};
-ghost use Rattle.ls_explore_commands.specs.Reports.{run_report, stuck_and_doubtful_text, stuck_text, switches_text};
+ghost use Rattle.ls_explore_commands.specs.Reports.{run_report, stuck_and_doubtful_text, stuck_text};
 ghost use Rattle.ls_explore_commands.specs.Reports.{turning_text, unsure_text};
 
 use ls_events::schedule::Schedule;
 use ls_explore_reports::waiting_after;
-use ls_fewest_switches::{SimpleRun, switches};
+use ls_fewest_switches::{SimpleRun, push_switches};
 use ls_labels::names::Names;
 use ls_report::print_history;
 use ls_schedule::print_schedule;
@@ -65,18 +65,6 @@ fn history_after(alloc: Global, names: Names<'_>, schedule: &Schedule) -> Result
     let scene = Scene::after(alloc, names, schedule.steps())?;
     let text = print_history(alloc, scene.run.history(), names.program)?;
     Ok(text)
-}
-
-/// Adds how many context switches a run has, if none with its history has fewer.
-fn push_switches(out: &mut String, run: &SimpleRun) -> Result<(), AllocError>
-    ensures { OnOk result (string_bytes out.new ≡ string_bytes out.old ++
-        switches_text run.now.fewest run.now.schedule) }
-{
-    if run.fewest {
-        let count = switches(&run.schedule);
-        write!(out, "; context switches {count}")?;
-    }
-    Ok(())
 }
 
 /// Adds what is wrong with a run, its context switches, its schedule, its history's lines, an empty line.

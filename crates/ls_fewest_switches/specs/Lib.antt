@@ -2,3 +2,4 @@ pub mod Switches
 pub mod Reached
 pub mod Spots
 pub mod Levels
+pub mod Wording

@@ -8,5 +8,7 @@ mod fewest;
 mod following;
 mod levels;
 mod spots;
+mod wording;
 
 pub use fewest::{SimpleRun, simplest, switches};
+pub use wording::push_switches;

@@ -4,3 +4,4 @@ pub mod Waits
 pub mod Wholes
 pub mod Goodness
 pub mod Legalities
+pub mod Simpler

@@ -2,3 +2,4 @@ pub mod Verdicts
 pub mod Found
 pub mod Family
 pub mod Sought
+pub mod Fewest

@@ -7,7 +7,8 @@ ghost use Rattle.ls_find.specs.Sought.{AllNamed};
 ghost use Rattle.ls_image.specs.Images.{Compiles};
 ghost use Rattle.ls_translation.specs.Texts.{file_of, program_of};
 
-use crate::reasons::{names_in, reason_text};
+use crate::reasons::{names_in, why_text};
+use crate::simplifying::simplified;
 use crate::sought::{Sought, sought_verdict};
 use crate::verdict::Verdict;
 use ls_compiler::compile::compile;
@@ -21,7 +22,7 @@ use std::alloc::{AllocError, Global};
 /// Why the search ends with a program.
 #[derive(Drop)]
 pub enum Why {
-    /// A schedule is bad: why, and the text of the schedule.
+    /// A schedule is bad: why, with its context switches if none with its history has fewer, and its text.
     Bad { why: String, schedule: String },
     /// The class text doesn't compile with the program.
     NotCompiled(CompileFault),
@@ -55,8 +56,9 @@ fn judged(
         Verdict::Good => Ok(Judgement::Good),
         Verdict::Unknown => Ok(Judgement::Cut),
         Verdict::Bad(reason, steps) => {
-            let why = reason_text(alloc, reason, names_in(image), &steps)?;
-            let schedule = print_schedule(alloc, &steps, image.program())?;
+            let run = simplified(alloc, image, reason, &steps)?;
+            let why = why_text(alloc, reason, names_in(image), &run)?;
+            let schedule = print_schedule(alloc, &run.schedule, image.program())?;
             Ok(Judgement::Halt(Why::Bad { why, schedule }))
         }
     }

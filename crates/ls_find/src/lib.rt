@@ -6,6 +6,7 @@ mod explorer;
 pub mod laws;
 mod legal;
 mod reasons;
+mod simplifying;
 mod sought;
 mod states;
 mod verdict;

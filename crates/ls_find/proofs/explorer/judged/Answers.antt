@@ -2,7 +2,7 @@ use Rattle.std.proofs.Common.{◌∙◌, ap, subst}
 use Rattle.ls_schedule.specs.Printing.{schedule_text}
 use Rattle.ls_schedule.specs.Reading.{thread_names}
 use Rattle.ls_translation.specs.Texts.{file_of, program_of}
-use Rattle.ls_find.specs.Found.{reason_text}
+use Rattle.ls_find.specs.Found.{why_text}
 use Rattle.ls_find.specs.Sought.{IsVerdictFor}
 use Rattle.ls_find.proofs.explorer.judged.Goals as goal
 
@@ -19,11 +19,15 @@ returns-in_ok-schedule-in-Bad c = λ classes program compiles. record {
   image = c.args.image.now;
   compiles = compiles;
   reason = c.in-Bad.reason;
-  schedule = c.in-Bad.steps;
-  bad = subst (IsVerdictFor c.args.sought (file_of c.args.image.now) (program_of c.args.image.now)) c.in-Bad.is
-      c.in_ok-sought_verdict.ensures;
+  schedule = c.in_ok-run-in-Bad.run'.schedule;
+  bad = c.in_ok-run-in-Bad.ensures.bad
+      (subst (IsVerdictFor c.args.sought (file_of c.args.image.now) (program_of c.args.image.now)) c.in-Bad.is
+      c.in_ok-sought_verdict.ensures);
+  is_fewest = c.in_ok-run-in-Bad.run'.fewest;
+  fewest = c.in_ok-run-in-Bad.ensures.fewest;
   why = c.in_ok-why-in-Bad.ensures ∙
-      (λ i. reason_text c.in-Bad.reason (c.names_in.ensures.names i) (thread_names (c.names_in.ensures.program i))
-      c.in-Bad.steps);
-  said = c.in_ok-schedule-in-Bad.ensures ∙ ap (λ p. schedule_text (thread_names p) c.in-Bad.steps) c.program.ensures;
+      (λ i. why_text c.in-Bad.reason c.in_ok-run-in-Bad.run'.fewest (c.names_in.ensures.names i)
+      (thread_names (c.names_in.ensures.program i)) c.in_ok-run-in-Bad.run'.schedule);
+  said = c.in_ok-schedule-in-Bad.ensures ∙
+      ap (λ p. schedule_text (thread_names p) c.in_ok-run-in-Bad.run'.schedule) c.program.ensures;
 }

@@ -1,11 +1,12 @@
 use Rattle.std.proofs.Common.{subst}
 use Rattle.std.specs.Prelude.{option_map}
+use Rattle.std.proofs.lemmas.Result.{err_from_is_err_and}
 use Rattle.ls_explore_images.specs.Faults.{AreBadStates}
 use Rattle.ls_family_search.specs.Judged.{Programs}
 use Rattle.ls_faults.proofs.Answering.{wider}
 use Rattle.ls_parts.specs.Cutting.{plain_text}
 use Rattle.ls_find_commands.specs.Found.{Among, FindsIn, FindsTo, NoStates, NotAny}
-use Rattle.ls_find_commands.proofs.Menus.{refused}
+use Rattle.ls_find_commands.proofs.Refusals.{refused}
 use Rattle.ls_find_commands.proofs.Ranges.{not_both}
 use Rattle.ls_find_commands.proofs.command.find.Goals as goal
 
@@ -17,8 +18,9 @@ returns-in_err-made-clause-gives g c =
     let good : ¬ AreBadStates c.args.range.states =
     λ bad. not_both (c.are_bad_states.ensures.1 bad) c.if-are_bad_states.false in
     let menu = option_map plain_text c.args.texts.menu in
-    refused (FindsTo c.args.choosing c.args.range c.args.texts.classes.now menu) c.args.choosing c.args.texts.classes.now
-    menu c.in_err-made.field-0.0 (NotAny c.in_err-made.field-0.0 good) c.in_err-made.ensures.refused
+    let p = err_from_is_err_and c.from_residual.result c.from_residual.ensures.1 in
+    rw (p.1, p.2) (refused (FindsTo c.args.choosing c.args.range c.args.texts.classes.now menu) c.args.choosing c.args.texts.classes.now
+    menu c.in_err-made.field-0.0 (NotAny c.in_err-made.field-0.0 good) c.in_err-made.ensures.refused)
 
 pub returns-clause-gives : goal.returns-clause-gives
 returns-clause-gives g c =

@@ -1,8 +1,8 @@
 use Rattle.std.proofs.Common.{◌++◌, ◌∙◌, Bool, sym, ap}
 use Rattle.std.specs.Prelude.{string_bytes, codes}
 use Rattle.std.specs.Fmt.{decimal}
-use Rattle.ls_explore_commands.specs.Reports.{switches_text}
-use Rattle.ls_explore_commands.proofs.reporting.push_switches.Goals as goal
+use Rattle.ls_fewest_switches.specs.Wording.{switches_text}
+use Rattle.ls_fewest_switches.proofs.wording.push_switches.Goals as goal
 
 pub returns-in_ok-write : goal.returns-in_ok-write
 returns-in_ok-write c =
