@@ -141,8 +141,8 @@ fn found<W: Watch>(
 /// how the programs before it were passed, its text, and as another part the schedule. Or that there is none. A program
 /// that isn't explored whole is counted as cut.
 ///
-/// Refused with 61 as `explore` is; else as `programs_for` is; else with 70 if no program has the first number, or the
-/// last number comes before it; else as `compile` is for a program.
+/// Refused with 61 as `explore` is; else as `programs_of` is; else as `check_entries` is, if a menu is given; else with 70
+/// if no program has the first number, or the last number comes before it; else as `compile` is for a program.
 ///
 /// Programs are explored side by side. The answer is the one of a single thread.
 pub fn find<W: Watch>(
@@ -167,7 +167,7 @@ pub fn find<W: Watch>(
 
 /// The text of the program of a number, from 1, of a class text.
 ///
-/// Refused as `programs_for` is; else with 70 if no program has the number.
+/// Refused as `programs_of` is; else as `check_entries` is, if a menu is given; else with 70 if no program has the number.
 pub fn print_program(
     alloc: Global,
     choosing: Choosing,
