@@ -6,4 +6,6 @@ pub mod Seeing
 pub mod Loops
 pub mod Saving
 pub mod Order
+pub mod Choosing
+pub mod Listing
 pub mod Telling

@@ -7,7 +7,8 @@ use Rattle.std.proofs.lemmas.Cmp.{nat_cmp_total, nat_list_cmp_total, on_total, t
 use Rattle.std.proofs.lemmas.List.Quantifiers.{all_pairs_push}
 use Rattle.std.proofs.lemmas.List.Sorted.{IsPermutation-keeps}
 use Rattle.ls_headline.proofs.Lists.{get_within, length-set, set_other, set_same}
-use Rattle.ls_explore.specs.Rows.{AreApart, HasRow, Told, row_order}
+use Rattle.std.specs.Prelude.{Contains}
+use Rattle.ls_explore.specs.Rows.{AreApart, Told, row_order}
 
 pub order_total : IsTotalOrder row_order
 order_total = then_total (on_total (λ (r : Told). length r.path) nat_cmp_total)
@@ -151,17 +152,13 @@ apart_kept old new perm h = of_places new (IsPermutation-keeps old Apart (to_pla
 -- one row more, of a history that none of them has
 pub apart_more : (old new : List Told) (r : Told) →
     new ≡ old ++ r ∷ [] →
-    (HasRow old r.history → ⊥) →
+    ((x : Told) → Contains old x → x.history ≡ r.history → ⊥) →
     AreApart old →
     AreApart new
 apart_more old new r more none h =
     subst AreApart (sym more) (all_pairs_push (λ (x y : Told). x.history ≢ y.history) old r h
     (λ k d lt e.
-    none (record {
-      row = slice_index_or old k d;
-      there = (k, lt, any_default old k (slice_index_or old k d) d lt);
-      same = e;
-    })))
+    none (slice_index_or old k d) (k, lt, any_default old k (slice_index_or old k d) d lt) e))
 
 pub apart_none : (rows : List Told) → rows ≡ [] → AreApart rows
 apart_none rows e = subst AreApart (sym e) (λ i j d less within. absurd (omega arith))

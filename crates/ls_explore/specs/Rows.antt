@@ -1,6 +1,6 @@
 -- Histories with paths that lead to them.
-use Rattle.std.specs.Prelude.{◌≡◌, ◌≢◌, ℕ, ◌+◌, ◌<◌, ◌++◌, [], ◌∷◌, AllPairs, Bool, true, false, List, Option, length, map}
-use Rattle.std.specs.Prelude.{replicate, Contains, None, Some, slice_get}
+use Rattle.std.specs.Prelude.{◌≡◌, ◌≢◌, ℕ, ◌<◌, ◌++◌, [], ◌∷◌, AllPairs, Bool, true, false, List, Option, length, map}
+use Rattle.std.specs.Prelude.{replicate, Contains, None, Some}
 use Rattle.std.specs.declared.cmp.Ordering.{Ordering}
 use Rattle.std.specs.Ordering.{nat_cmp, ordering_then}
 use Rattle.std.specs.Cmp.Lexicographic.{slice_cmp}
@@ -15,13 +15,13 @@ use Rattle.ls_headline.specs.Same.{Fits, IsCells}
 use Rattle.ls_headline.specs.Acting.{ActsInTime, first_did}
 use Rattle.ls_explore_laws.specs.Bursts.{ActsAlong, burst}
 use Rattle.ls_explore_laws.specs.Ends.{AreQuiet, HasSteps}
+use Rattle.ls_explore_laws.specs.Room.{IsFull, StaysWithin, StopsForRoom}
 use Rattle.ls_meaning.specs.Still.{IsOver}
 use Rattle.ls_explore_laws.specs.Explored.{HasHistories, IsSetUp}
 use Rattle.ls_events.specs.Beginnings.{IsBeginning}
 use Rattle.ls_explore.specs.declared.rows.Ending.{Ending}
 use Rattle.ls_explore.specs.declared.rows.Ending.TheVariants as ending
 use Rattle.ls_explore.specs.declared.searching.Seen.{Seen}
-use Rattle.ls_explore.specs.Walks.{walked}
 
 -- a path, a history, and how it ends
 pub record Told : Type 0 where
@@ -36,6 +36,10 @@ row_order r s = ordering_then (nat_cmp (length r.path) (length s.path)) (slice_c
 -- no two rows have one history
 abbrev pub AreApart : List Told → Type 0
 AreApart rows = AllPairs (λ (r s : Told). r.history ≢ s.history) rows
+
+-- no row ends so
+abbrev pub NoneEnds : Ending → List Told → Type 0
+NoneEnds e rows = (r : Told) → Contains rows r → r.ending ≢ e
 
 -- what so many threads do after a machine: all are quiet; or none acts, and one would stop the machine for want of
 -- cells; or one acts
@@ -53,6 +57,11 @@ IsEnd ending.OutOfCells = Unit {0}
 IsEnd ending.GoesOn = ⊥
 IsEnd ending.NotSeen = ⊥
 
+-- the history of a row that doesn't end begins that of no other
+abbrev pub StandAlone : List Told → Type 0
+StandAlone rows = (r s : Told) → Contains rows r → Contains rows s → (IsEnd r.ending → ⊥) →
+    IsBeginning r.history s.history → r.history ≡ s.history
+
 -- how a path ends, by what is seen after it
 abbrev pub ending_of_seen : Bool → Bool → Ending
 ending_of_seen true stops = ending.GoesOn
@@ -63,27 +72,10 @@ abbrev pub ending_of : Option Seen → Ending
 ending_of None = ending.NotSeen
 ending_of (Some seen) = ending_of_seen seen.acts seen.stops
 
-abbrev pub row_of : List ℕ → List Event → Ending → Told
-row_of path history e = record { path = path; history = history; ending = e }
-
--- the rows stay, and others may have come
-abbrev pub Keeps : List Told → List Told → Type 0
-Keeps old new = (r : Told) → Contains old r → Contains new r
-
--- each of the rows ends
-abbrev pub AllEnd : List Told → Type 0
-AllEnd rows = (r : Told) → Contains rows r → IsEnd r.ending
-
 -- the path leads to a machine, each of its threads acting in turn, that has this history and ends so
 abbrev pub IsTold : ℕ → ℕ → Machine → Told → Type 0
 IsTold n threads root r = (m : Machine) × ActsAlong n root r.path m × (r.history ≡ m.history) ×
     EndsAs n threads m r.ending
-
--- one of the rows has this history
-pub record HasRow (rows : List Told) (history : List Event) : Type 0 where
-  pub row : Told
-  pub there : Contains rows row
-  pub same : row.history ≡ history
 
 -- one of the rows has this history, and ends
 pub record HasEnd (rows : List Told) (history : List Event) : Type 0 where
@@ -98,25 +90,12 @@ pub record IsToldBy (rows : List Told) (history : List Event) : Type 0 where
   pub there : Contains rows row
   pub begins : IsBeginning history row.history
 
--- each path before this place that was seen to end has a row that ends
-abbrev pub HaveEnds : ℕ → Machine → List (List ℕ) → List Seen → ℕ → List Told → Type 0
-HaveEnds n root paths seen i rows =
-    (j : ℕ) (path : List ℕ) (s : Seen) → j < i → slice_get paths j ≡ Some path → slice_get seen j ≡ Some s →
-    s.acts ≡ false →
-    HasEnd rows (walked n root path).history
-
--- the history of each of the last so many paths is the beginning of a row's
-abbrev pub HaveBegun : ℕ → Machine → List (List ℕ) → ℕ → List Told → Type 0
-HaveBegun n root paths i rows =
-    (j : ℕ) (path : List ℕ) → length paths < j + i + 1 → slice_get paths j ≡ Some path →
-    IsToldBy rows (walked n root path).history
-
 -- each step of the schedule acts
 abbrev pub ActAll : File → Program → List ℕ → Type 0
 ActAll file program schedule = map (λ e. e.thread) (source_trace file program schedule) ≡ schedule
 
--- So many paths, no two the same: after the setup's steps one step of each thread of a path acts, and the history of
--- these steps is the beginning of a row's.
+-- So many paths, no two the same, and those of the rows among them: after the setup's steps one step of each thread of
+-- a path acts, and the history of these steps is the beginning of a row's.
 pub record TellStates (file : File) (program : Program) (k : ℕ) (rows : List Told) (states : ℕ) : Type 0 where
   pub paths : List (List ℕ)
   pub many : length paths ≡ states
@@ -125,6 +104,7 @@ pub record TellStates (file : File) (program : Program) (k : ℕ) (rows : List T
       Contains paths path →
       map (λ e. e.thread) (source_trace file program (replicate k 0 ++ path)) ≡ replicate k 0 ++ path
   pub told : (path : List ℕ) → Contains paths path → IsToldBy rows (source_history file program (replicate k 0 ++ path))
+  pub own : (r : Told) → Contains rows r → Contains paths r.path
 
 -- For each file and program that the code runs as, and whose setup these steps are: so it is of so many states.
 abbrev pub TellsStates : Code → ℕ → List ℕ → List Told → ℕ → Type 0
@@ -148,6 +128,28 @@ TellsActs code cells setup rows =
     IsSetUp file program code cells k (machine_run (loaded code cells) setup) → (r : Told) → Contains rows r →
     ActAll file program (replicate k 0 ++ r.path)
     × (r.ending ≡ ending.GoesOn → (t : ℕ) × ActAll file program ((replicate k 0 ++ r.path) ++ t ∷ []))
+
+-- That schedule fits the cells.
+abbrev pub TellsFits : Code → ℕ → List ℕ → List Told → Type 0
+TellsFits code cells setup rows =
+    (file : File) (program : Program) (k : ℕ) → IsCells code cells → StaysWithin file program code →
+    IsSetUp file program code cells k (machine_run (loaded code cells) setup) → (r : Told) → Contains rows r →
+    Fits file program cells (replicate k 0 ++ r.path)
+
+-- After the schedule of a row that is out of cells some thread acts, and none for whose next step there is room.
+abbrev pub TellsFull : Code → ℕ → List ℕ → ℕ → List Told → Type 0
+TellsFull code cells setup threads rows =
+    (file : File) (program : Program) (k : ℕ) → IsCells code cells → ActsInTime file program code →
+    StopsForRoom file program code →
+    IsSetUp file program code cells k (machine_run (loaded code cells) setup) → length program.threads ≡ threads →
+    (r : Told) → Contains rows r → r.ending ≡ ending.OutOfCells → IsFull file program cells (replicate k 0 ++ r.path)
+
+-- Some schedule doesn't fit the cells.
+abbrev pub TellsNarrow : Code → ℕ → List ℕ → Type 0
+TellsNarrow code cells setup =
+    (file : File) (program : Program) (k : ℕ) → IsCells code cells → StopsForRoom file program code →
+    IsSetUp file program code cells k (machine_run (loaded code cells) setup) →
+    (schedule : List ℕ) × ¬ Fits file program cells schedule
 
 -- After the schedule of a row that is over no thread of the source acts.
 abbrev pub TellsOver : Code → ℕ → List ℕ → ℕ → List Told → Type 0

@@ -1,11 +1,15 @@
 // All that threads lead to from the machine after a setup.
 
 ghost use Rattle.ls_code.specs.Limits.{most_instructions};
-ghost use Rattle.std.specs.Prelude.{◌≡◌, ◌+◌, All, IfOk, IsSorted, IsTrue, IsErrOf, ◌↔◌, ◌≤◌, false, length};
+ghost use Rattle.std.specs.Prelude.{◌≡◌, ◌+◌, All, Contains, IfOk, IsSorted, IsTrue, IsErrOf, ◌↔◌, ◌≤◌, false, length};
+ghost use Rattle.std.specs.Prelude.{true};
 ghost use Rattle.ls_headline.specs.Translations.{most_silent};
 ghost use Rattle.ls_machine.specs.Room.{AreBadCells};
-ghost use Rattle.ls_explore.specs.Rows.{AreApart, TellsAll, TellsEnds, TellsOver, TellsStates, TellsTruth};
-ghost use Rattle.ls_explore.specs.Rows.{TellsActs, TellsWhole, row_order};
+ghost use Rattle.ls_explore.specs.declared.rows.Ending.TheVariants.{NotSeen};
+ghost use Rattle.ls_explore.specs.declared.searching.Seen.{Seen as SeenValue};
+ghost use Rattle.ls_explore.specs.Rows.{AreApart, NoneEnds, StandAlone, TellsActs, TellsAll, TellsEnds, TellsFits};
+ghost use Rattle.ls_explore.specs.Rows.{TellsFull, TellsNarrow, TellsOver, TellsStates, TellsTruth, TellsWhole};
+ghost use Rattle.ls_explore.specs.Rows.{row_order};
 ghost use Rattle.ls_explore.specs.Watching.{GoesOn};
 
 use crate::rows::Row;
@@ -38,9 +42,15 @@ fn most_steps(code: &Code) -> u64
 
 /// Whether no thread was seen to stop a machine for want of cells.
 fn are_roomy(seen: &[Seen]) -> bool
-    ensures { IsTrue result → All (λ s. s.stops ≡ false) seen.now }
+    ensures all { IsTrue result → All (λ s. s.stops ≡ false) seen.now }
+    ensures some { result ≡ false → (s : SeenValue) × Contains seen.now s × (s.stops ≡ true) }
 {
-    seen.iter().all(|s| !s.stops)
+    for at in 0..seen.len() {
+        if seen[at].stops {
+            return false;
+        }
+    }
+    true
 }
 
 /// How many threads there are, the setup with them, and how many states are kept at the most.
@@ -58,19 +68,20 @@ impl Clone for Extent {
 
 /// Explores all that so many threads lead to from the machine after the setup's steps, on so many cells. At most so
 /// many states are kept, and while it goes on it tells how many there are. Each row's history is that of a schedule of
-/// source steps: the steps of the setup, and then one step of each thread of the row's path. After the schedule of a
-/// row that is over, no thread of the source acts.
+/// source steps: the steps of the setup, and then one step of each thread of the row's path. The schedule fits the
+/// cells. After the schedule of a row that is over, no thread of the source acts. After that of a row that is out of
+/// cells some thread does, and no thread for whose next step there is room.
 ///
 /// If the rows are complete, take a schedule of source steps that fits the cells, of any length. Its history is the
 /// beginning of a row's. If no thread acts after the schedule, its history is that of a row that ends. This is so for
 /// each text that the code runs as. If also no machine ran out of cells, this is so of each schedule, whether it fits
-/// or not.
+/// or not. If one did, some schedule doesn't fit.
 ///
 /// If the rows are cut, as many states were kept as may be. Each state has a path of its own, whose steps act after the
 /// setup's, and its history is the beginning of a row's. So there is a row.
 ///
-/// No history stands twice. The row of the shortest path comes first, and of those of one length the row of the
-/// least.
+/// No history stands twice, and that of a row that doesn't end begins no other. The row of the shortest path comes
+/// first, and of those of one length the row of the least.
 pub fn explore<W: Watch>(
     alloc: Global,
     code: &Code,
@@ -84,7 +95,12 @@ pub fn explore<W: Watch>(
     ensures told { IfOk result (λ e. TellsTruth code.now cells setup.now e.rows.items) }
     ensures acts { IfOk result (λ e. TellsActs code.now cells setup.now e.rows.items) }
     ensures found { IfOk result (λ e. TellsStates code.now cells setup.now e.rows.items e.states) }
+    ensures few { IfOk result (λ e. 1 ≤ extent.limit → e.states ≤ extent.limit) }
     ensures cut { IfOk result (λ e. e.complete ≡ false → extent.limit ≤ e.states) }
+    ensures fits { IfOk result (λ e. TellsFits code.now cells setup.now e.rows.items) }
+    ensures full { IfOk result (λ e. TellsFull code.now cells setup.now extent.threads e.rows.items) }
+    ensures narrow { IfOk result (λ e. e.roomy ≡ false → TellsNarrow code.now cells setup.now) }
+    ensures seen { IfOk result (λ e. IsTrue e.complete → NoneEnds NotSeen e.rows.items) }
     ensures over { IfOk result (λ e. TellsOver code.now cells setup.now extent.threads e.rows.items) }
     ensures tells { IfOk result (λ e. IsTrue e.complete →
         TellsAll code.now cells setup.now extent.threads e.rows.items) }
@@ -92,6 +108,7 @@ pub fn explore<W: Watch>(
         TellsEnds code.now cells setup.now extent.threads e.rows.items) }
     ensures whole { IfOk result (λ e. IsTrue e.complete → IsTrue e.roomy →
         TellsWhole code.now cells setup.now extent.threads e.rows.items) }
+    ensures alone { IfOk result (λ e. StandAlone e.rows.items) }
     ensures apart { IfOk result (λ e. AreApart e.rows.items) }
     ensures order { IfOk result (λ e. IsSorted row_order e.rows.items) }
     ensures watched { GoesOn W.Since watch.old watch.new }

@@ -4,6 +4,7 @@
 mod exploring;
 mod hints;
 mod links;
+mod mixing;
 mod rows;
 mod searching;
 mod table;

@@ -1,12 +1,10 @@
 // Rows: histories with paths that lead to them.
 
-ghost use Rattle.std.specs.Prelude.{◌≡◌, Decides, IfOk, IsPermutation, IsSorted, IsTrue, false};
-ghost use Rattle.ls_explore.specs.Rows.{IsEnd, ending_of, row_order};
-ghost use Rattle.ls_events.specs.Beginnings.{IsBeginning};
+ghost use Rattle.std.specs.Prelude.{◌≡◌, IfOk, IsPermutation, IsSorted};
+ghost use Rattle.ls_explore.specs.Rows.{ending_of, row_order};
 
 use crate::searching::Seen;
 use ls_events::event::Event;
-use ls_events::same::are_same_events;
 use std::alloc::{AllocError, Global};
 use std::cmp::Ordering;
 use std::marker::Model;
@@ -55,29 +53,6 @@ pub(crate) fn ending_of(seen: Option<Seen>) -> Ending
             },
         ) => Ending::Over,
     }
-}
-
-/// Whether no thread acts any more.
-pub(crate) fn is_end(ending: Ending) -> bool
-    ensures is { IsTrue result → IsEnd ending }
-    ensures none { result ≡ false → IsEnd ending → ⊥ }
-{
-    match ending {
-        Ending::Over | Ending::OutOfCells => true,
-        Ending::GoesOn | Ending::NotSeen => false,
-    }
-}
-
-/// Whether events begin with others. True only where they do.
-fn begin_so(events: &[Event], first: &[Event]) -> bool
-    ensures { IsTrue result → IsBeginning first.now events.now }
-{
-    let count = first.len();
-    if count > events.len() {
-        return false;
-    }
-    let part = &events[..count];
-    are_same_events(part, first)
 }
 
 /// A history, a path that leads to a machine of that history, and what the threads do after it. A path has the thread
@@ -135,20 +110,6 @@ impl Row {
         ensures { result ≡ self.now.ending }
     {
         self.ending
-    }
-
-    /// Whether it has a history.
-    pub(crate) fn is_of(&self, history: &[Event]) -> bool
-        ensures { Decides result (self.now.history ≡ history.now) }
-    {
-        are_same_events(self.history.as_slice(), history)
-    }
-
-    /// Whether its history begins so. True only where it does.
-    pub(crate) fn begins(&self, history: &[Event]) -> bool
-        ensures { IsTrue result → IsBeginning history.now self.now.history }
-    {
-        begin_so(self.history.as_slice(), history)
     }
 
     /// How it stands to another: the shorter path comes first, and of two of one length the lesser.

@@ -13,7 +13,7 @@ ghost use Rattle.ls_explore.specs.Searches.{StandOnce, paths_of, seen_with};
 
 use crate::hints::Hints;
 use crate::links::{Link, Path};
-use crate::table::number_of;
+use crate::mixing::number_of;
 use crate::walking::{Ground, Place, go_back, has_acted, see};
 use ls_code::step::{Did, is_stop};
 use ls_machine::{Machine, Saved, Shelf};
@@ -123,6 +123,8 @@ impl Nodes {
         ensures seen { self.new.seen.items ≡ self.old.seen.items }
         ensures full { IfOk result (λ kept. kept ≡ false → self.new.paths.items ≡ self.old.paths.items) }
         ensures cut { IfOk result (λ kept. kept ≡ false → ground.now.limit ≤ length self.new.paths.items) }
+        ensures few { OnOk result (length self.old.paths.items ≤ ground.now.limit →
+            length self.new.paths.items ≤ ground.now.limit) }
         ensures grown { OnOk result ((paths_of self.new.paths.items ≡ paths_of self.old.paths.items) ⊎
             (paths_of self.new.paths.items ≡ paths_of self.old.paths.items ++
             (slice_index_or (paths_of self.old.paths.items) at [] ++ thread ∷ []) ∷ [])) }
@@ -182,6 +184,8 @@ fn look(
     ensures distinct { OnOk result (AreDistinct (paths_of nodes.old.paths.items) at thread →
         AreDistinct (paths_of nodes.new.paths.items) at (thread + 1)) }
     ensures cut { IfOk result (λ found. IfNone found (ground.now.limit ≤ length nodes.new.paths.items)) }
+    ensures few { OnOk result (length nodes.old.paths.items ≤ ground.now.limit →
+        length nodes.new.paths.items ≤ ground.now.limit) }
     ensures seen { nodes.new.seen.items ≡ nodes.old.seen.items }
     ensures walker_code { walker.new.code ≡ walker.old.code }
     ensures walker_cells { walker.new.cells.limit ≡ walker.old.cells.limit }
@@ -228,6 +232,8 @@ fn expand(
     requires distinct { AreDistinct (paths_of nodes.old.paths.items) at 0 }
     ensures distinct { OnOk result (AreDistinct (paths_of nodes.new.paths.items) (at + 1) 0) }
     ensures cut { IfOk result (λ found. found ≡ false → ground.now.limit ≤ length nodes.new.paths.items) }
+    ensures few { OnOk result (length nodes.old.paths.items ≤ ground.now.limit →
+        length nodes.new.paths.items ≤ ground.now.limit) }
     ensures saves { OnOk result
         (AreSaved ground.now.most (root_of walker.old ground.now.setup.now) (paths_of nodes.new.paths.items)
         nodes.new.saved.items) }
@@ -288,6 +294,8 @@ fn close<W: Watch>(
     ensures watched { GoesOn W.Since watch.old watch.new }
     ensures once { OnOk result (StandOnce (paths_of nodes.new.paths.items)) }
     ensures cut { IfOk result (λ found. found ≡ false → ground.now.limit ≤ length nodes.new.paths.items) }
+    ensures few { OnOk result (length nodes.old.paths.items ≤ ground.now.limit →
+        length nodes.new.paths.items ≤ ground.now.limit) }
     ensures saves { OnOk result
         (AreSaved ground.now.most (root_of walker.old ground.now.setup.now) (paths_of nodes.new.paths.items)
         nodes.new.saved.items) }
@@ -339,6 +347,7 @@ pub(crate) fn search<W: Watch>(
     ensures watched { GoesOn W.Since watch.old watch.new }
     ensures once { IfOk result (λ found. StandOnce (paths_of found.paths.items)) }
     ensures cut { IfOk result (λ found. found.complete ≡ false → ground.now.limit ≤ length found.paths.items) }
+    ensures few { IfOk result (λ found. 1 ≤ ground.now.limit → length found.paths.items ≤ ground.now.limit) }
     ensures saves { IfOk result
         (λ found. AreSaved ground.now.most (root_of walker.old ground.now.setup.now) (paths_of found.paths.items)
         found.saved.items) }

@@ -1,189 +1,109 @@
 // The rows of all paths.
 
-ghost use Rattle.std.specs.Prelude.{◌≡◌, ◌<◌, ℕ, List, [], Some, Decides, IfOk, IsSorted, OnOk, IsTrue, false};
-ghost use Rattle.std.specs.Prelude.{length, slice_get};
-ghost use Rattle.std.specs.List.{All};
-ghost use Rattle.ls_code.specs.Machine.{Machine as MachineValue};
-ghost use Rattle.ls_explore.specs.Rows.{AllEnd, AreApart, HasRow, HaveBegun, HaveEnds, IsEnd, IsTold, IsToldBy};
-ghost use Rattle.ls_explore.specs.Rows.{Keeps, row_of, row_order};
+ghost use Rattle.std.specs.Prelude.{◌≡◌, ◌<◌, ◌≤◌, ◌++◌, ◌∷◌, [], ℕ, Contains, IfNone, IfOk, IfSome, IsSorted, List};
+ghost use Rattle.std.specs.Prelude.{OnOk, Some, length, not, slice_get};
+ghost use Rattle.ls_explore.specs.Listed.{IsRowOf, TellListed};
+ghost use Rattle.ls_explore.specs.Rows.{AreApart, Told, row_order};
 ghost use Rattle.ls_explore.specs.declared.searching.Seen.{Seen as SeenValue};
-ghost use Rattle.ls_explore.specs.Searches.{AreSaved, IsSound, paths_of};
+ghost use Rattle.ls_explore.specs.Searches.{AreSaved, paths_of};
 ghost use Rattle.ls_explore.specs.Walks.{root_of, walked};
+ghost use Rattle.ls_history_numbers.specs.Choices.{IsChosen};
+ghost use Rattle.ls_history_numbers.specs.Numbers.{AreNumbered, IsOf, Keeps};
 
 use crate::links::Path;
-use crate::rows::{Ending, Row, ending_of, in_order, is_end};
+use crate::rows::{Row, ending_of, in_order};
 use crate::searching::{Searched, Seen};
 use crate::walking::{Ground, Place, stand};
-use ls_events::event::{Event, Happening};
-use ls_events::kind::Kind;
-use ls_events::value::Value;
+use ls_history_numbers::{Known, choose, none, number_of};
 use ls_machine::Machine;
-use ls_machine_moves::stirring::stir;
 use std::alloc::{AllocError, Global};
-use std::collections::HashMap;
 
-/// The rows so far. For a number that is made of a history, a place where its row may be, and a place of a row that
-/// may begin so. Nothing depends on these places.
-#[derive(Drop)]
-pub(crate) struct Table {
-    pub(crate) rows: Vec<Row>,
-    whole: HashMap<u64, usize>,
-    begun: HashMap<u64, usize>,
-}
-
-/// A number for each kind of exception.
-fn number_of_kind(kind: Kind) -> u64 {
-    match kind {
-        Kind::Arithmetic => 1,
-        Kind::NullPointer => 2,
-        Kind::ArrayIndexOutOfBounds => 3,
-        Kind::NegativeArraySize => 4,
-        Kind::IllegalMonitorState => 5,
-        Kind::StackOverflow => 6,
-        Kind::Error => 7,
-    }
-}
-
-/// A number made of another and of what happened to a call.
-fn stir_happening(seed: u64, happening: Happening) -> u64 {
-    match happening {
-        Happening::Called => stir(seed, 1),
-        Happening::Returned(None) => stir(seed, 2),
-        Happening::Returned(Some(Value::Int(n))) => {
-            stir(
-                stir(seed, if n < 0 { 9 } else { 3 }),
-                n.unsigned_abs() as u64,
-            )
-        }
-        Happening::Returned(Some(Value::Boolean(b))) => stir(seed, if b { 4 } else { 5 }),
-        Happening::Returned(Some(Value::Reference(r))) => stir(stir(seed, 6), r),
-        Happening::Returned(Some(Value::Pair { reference, mark: _ })) => stir(
-            stir(seed, 7),
-            reference,
-        ),
-        Happening::Trapped(kind) => stir(stir(seed, 8), number_of_kind(kind)),
-    }
-}
-
-/// A number made of another and of an event.
-fn stir_event(seed: u64, event: &Event) -> u64 {
-    let mixed = stir(stir(seed, event.thread as u64), event.call as u64);
-    stir_happening(mixed, event.happening)
-}
-
-/// A number made of a history.
-pub(crate) fn number_of(history: &[Event]) -> u64 {
-    let mut mixed = 0;
-    for event in history {
-        mixed = stir_event(mixed, event);
-    }
-    mixed
-}
-
-/// Whether one of the rows has a history.
-fn has_row(rows: &[Row], history: &[Event]) -> bool
-    ensures { Decides result (HasRow rows.now history.now) }
+/// Goes to where the path at a place leads.
+fn stand_at(walker: &mut Machine, ground: &Ground<'_>, found: &Searched, at: usize)
+    requires at { at < length found.now.paths.items }
+    requires saves { AreSaved ground.now.most (root_of walker.old ground.now.setup.now) (paths_of found.now.paths.items)
+        found.now.saved.items }
+    ensures at { (path : List ℕ) → slice_get (paths_of found.now.paths.items) at ≡ Some path →
+        walker.new ≡ walked ground.now.most (root_of walker.old ground.now.setup.now) path }
+    ensures code { walker.new.code ≡ walker.old.code }
+    ensures cells { walker.new.cells.limit ≡ walker.old.cells.limit }
 {
-    for i in 0..rows.len() {
-        if rows[i].is_of(history) {
-            return true;
-        }
-    }
-    false
+    let place = Place {
+        path: Path::new(found.paths.as_slice(), at),
+        saved: &found.saved[at],
+    };
+    stand(walker, ground, &place);
 }
 
-/// Whether the row at a place has a history. True only where it does.
-fn is_at(rows: &[Row], place: usize, history: &[Event]) -> bool
-    ensures { IsTrue result → HasRow rows.now history.now }
+/// The number of the history to which the path at a place leads.
+fn number_at(
+    walker: &mut Machine,
+    ground: &Ground<'_>,
+    found: &Searched,
+    at: usize,
+    all: &mut Vec<Known>,
+) -> Result<usize, AllocError>
+    requires at { at < length found.now.paths.items }
+    requires saves { AreSaved ground.now.most (root_of walker.old ground.now.setup.now) (paths_of found.now.paths.items)
+        found.now.saved.items }
+    requires numbered { AreNumbered all.old.items }
+    ensures is { IfOk result (λ n. (path : List ℕ) → slice_get (paths_of found.now.paths.items) at ≡ Some path →
+        IsOf all.new.items n (walked ground.now.most (root_of walker.old ground.now.setup.now) path).history) }
+    ensures numbered { OnOk result (AreNumbered all.new.items) }
+    ensures keeps { OnOk result (Keeps all.old.items all.new.items) }
+    ensures code { walker.new.code ≡ walker.old.code }
+    ensures cells { walker.new.cells.limit ≡ walker.old.cells.limit }
 {
-    place < rows.len() && rows[place].is_of(history)
+    stand_at(walker, ground, found, at);
+    let number = number_of(ground.alloc, all, walker.history())?;
+    Ok(number)
 }
 
-/// Whether the history of the row at a place begins so. True only where it does.
-fn begins_at(rows: &[Row], place: usize, history: &[Event]) -> bool
-    ensures { IsTrue result → IsToldBy rows.now history.now }
+/// The number of the history to which each path leads.
+fn number_paths(
+    walker: &mut Machine,
+    ground: &Ground<'_>,
+    found: &Searched,
+    all: &mut Vec<Known>,
+) -> Result<Vec<usize>, AllocError>
+    requires saves { AreSaved ground.now.most (root_of walker.old ground.now.setup.now) (paths_of found.now.paths.items)
+        found.now.saved.items }
+    requires numbered { AreNumbered all.old.items }
+    ensures many { IfOk result (λ v. length v.items ≡ length found.now.paths.items) }
+    ensures each { IfOk result (λ v. (at n : ℕ) (path : List ℕ) → slice_get v.items at ≡ Some n →
+        slice_get (paths_of found.now.paths.items) at ≡ Some path →
+        IsOf all.new.items n (walked ground.now.most (root_of walker.old ground.now.setup.now) path).history) }
+    ensures numbered { OnOk result (AreNumbered all.new.items) }
+    ensures code { walker.new.code ≡ walker.old.code }
+    ensures cells { walker.new.cells.limit ≡ walker.old.cells.limit }
 {
-    place < rows.len() && rows[place].begins(history)
+    let mut numbers = Vec::with_capacity(ground.alloc, found.paths.len())?;
+    for at in 0..found.paths.len() {
+        let number = number_at(walker, ground, found, at, all)?;
+        numbers.push(number)?;
+    }
+    Ok(numbers)
 }
 
-/// Notes the place of a history's row, for its number and for those of its beginnings.
-fn note(
-    whole: &mut HashMap<u64, usize>,
-    begun: &mut HashMap<u64, usize>,
-    history: &[Event],
-    place: usize,
-) -> Result<(), AllocError> {
-    let mut mixed = 0;
-    begun.insert(mixed, place)?;
-    for event in history {
-        mixed = stir_event(mixed, event);
-        begun.insert(mixed, place)?;
-    }
-    whole.insert(mixed, place)?;
-    Ok(())
+/// Whether no thread acts after the path at a place.
+fn ends_at(seen: &[Seen], at: usize) -> bool
+    requires { at < length seen.now }
+    ensures { (s : SeenValue) → slice_get seen.now at ≡ Some s → result ≡ not s.acts }
+{
+    !seen[at].acts
 }
 
-impl Table {
-    /// No rows.
-    fn new(alloc: Global) -> Table
-        ensures { result.rows.items ≡ [] }
-    {
-        Table {
-            rows: Vec::new(alloc),
-            whole: HashMap::new(alloc),
-            begun: HashMap::new(alloc),
-        }
+/// Whether no thread acts, for each of the first paths.
+fn ends_of(alloc: Global, seen: &[Seen]) -> Result<Vec<bool>, AllocError>
+    ensures many { IfOk result (λ v. length v.items ≡ length seen.now) }
+    ensures each { IfOk result (λ v. (at : ℕ) (s : SeenValue) → slice_get seen.now at ≡ Some s →
+        slice_get v.items at ≡ Some (not s.acts)) }
+{
+    let mut ends = Vec::with_capacity(alloc, seen.len())?;
+    for at in 0..seen.len() {
+        ends.push(ends_at(seen, at))?;
     }
-
-    /// Whether one of the rows has a history of this number.
-    fn has(&self, history: &[Event], number: u64) -> bool
-        ensures { Decides result (HasRow self.now.rows.items history.now) }
-    {
-        match self.whole.get(&number).copied() {
-            None => has_row(self.rows.as_slice(), history),
-            Some(place) => {
-                is_at(self.rows.as_slice(), place, history)
-                    || has_row(self.rows.as_slice(), history)
-            }
-        }
-    }
-
-    /// Whether the history of one of the rows begins so. True only where it does.
-    fn begins(&self, history: &[Event]) -> bool
-        ensures { IsTrue result → IsToldBy self.now.rows.items history.now }
-    {
-        match self.begun.get(&number_of(history)).copied() {
-            None => false,
-            Some(place) => begins_at(self.rows.as_slice(), place, history),
-        }
-    }
-
-    /// Adds a row, where none of the rows has its history.
-    fn add(
-        &mut self,
-        alloc: Global,
-        path: &[u8],
-        history: &[Event],
-        ending: Ending,
-    ) -> Result<(), AllocError>
-        ensures keeps { OnOk result (Keeps self.old.rows.items self.new.rows.items) }
-        ensures has { OnOk result (HasRow self.new.rows.items history.now) }
-        ensures told { OnOk result ((n threads : ℕ) (root : MachineValue) →
-            All (IsTold n threads root) self.old.rows.items →
-            IsTold n threads root (row_of path.now history.now ending) →
-            All (IsTold n threads root) self.new.rows.items) }
-        ensures ends { OnOk result (AllEnd self.old.rows.items → IsEnd ending → AllEnd self.new.rows.items) }
-        ensures apart { OnOk result (AreApart self.old.rows.items → AreApart self.new.rows.items) }
-    {
-        if self.has(history, number_of(history)) {
-            return Ok(());
-        }
-        let row = Row::new(alloc, path, history, ending)?;
-        let place = self.rows.len();
-        note(&mut self.whole, &mut self.begun, history, place)?;
-        self.rows.push(row)?;
-        Ok(())
-    }
+    Ok(ends)
 }
 
 /// What is seen after the path at a place, where that was looked at.
@@ -193,142 +113,120 @@ fn seen_at(found: &Searched, at: usize) -> Option<Seen>
     found.seen.get(at).copied()
 }
 
-/// Adds a row for the path at a place, where it ends and none of the rows has its history.
-fn tell_end(
+/// The row of the path at a place.
+fn row_at(
     walker: &mut Machine,
     ground: &Ground<'_>,
     found: &Searched,
     at: usize,
-    table: &mut Table,
-) -> Result<(), AllocError>
+) -> Result<Row, AllocError>
     requires at { at < length found.now.paths.items }
     requires saves { AreSaved ground.now.most (root_of walker.old ground.now.setup.now) (paths_of found.now.paths.items)
         found.now.saved.items }
-    requires sound { IsSound ground.now.most ground.now.threads (root_of walker.old ground.now.setup.now)
-        (paths_of found.now.paths.items) found.now.seen.items }
-    ensures told { OnOk result
-        (All (IsTold ground.now.most ground.now.threads (root_of walker.old ground.now.setup.now)) table.old.rows.items
-        → All (IsTold ground.now.most ground.now.threads (root_of walker.old ground.now.setup.now))
-        table.new.rows.items) }
-    ensures keeps { OnOk result (Keeps table.old.rows.items table.new.rows.items) }
-    ensures ends { OnOk result (AllEnd table.old.rows.items → AllEnd table.new.rows.items) }
-    ensures apart { OnOk result (AreApart table.old.rows.items → AreApart table.new.rows.items) }
-    ensures has { OnOk result ((path : List ℕ) (s : SeenValue) → slice_get (paths_of found.now.paths.items) at ≡
-        Some path → slice_get found.now.seen.items at ≡ Some s → s.acts ≡ false →
-        HasRow table.new.rows.items (walked ground.now.most (root_of walker.old ground.now.setup.now) path).history) }
+    ensures row { IfOk result (IsRowOf ground.now.most (root_of walker.old ground.now.setup.now)
+        (paths_of found.now.paths.items) found.now.seen.items at) }
     ensures code { walker.new.code ≡ walker.old.code }
     ensures cells { walker.new.cells.limit ≡ walker.old.cells.limit }
 {
+    stand_at(walker, ground, found, at);
     let ending = ending_of(seen_at(found, at));
-    if !is_end(ending) {
-        return Ok(());
-    }
-    let place = Place {
-        path: Path::new(found.paths.as_slice(), at),
-        saved: &found.saved[at],
-    };
-    stand(walker, ground, &place);
-    let path = place.path.to_vec(ground.alloc)?;
-    table.add(ground.alloc, path.as_slice(), walker.history(), ending)?;
-    Ok(())
+    let path = Path::new(found.paths.as_slice(), at).to_vec(ground.alloc)?;
+    let row = Row::new(ground.alloc, path.as_slice(), walker.history(), ending)?;
+    Ok(row)
 }
 
-/// The rows of the paths that end: one for each of their histories, in the order of the first path of each.
-fn tell_ends(
+/// Adds the row of a place, if there is one.
+fn add_row(
     walker: &mut Machine,
     ground: &Ground<'_>,
     found: &Searched,
-) -> Result<Table, AllocError>
+    rows: &mut Vec<Row>,
+    choice: Option<usize>,
+) -> Result<(), AllocError>
+    requires at { IfSome choice (λ at. at < length found.now.paths.items) }
     requires saves { AreSaved ground.now.most (root_of walker.old ground.now.setup.now) (paths_of found.now.paths.items)
         found.now.saved.items }
-    requires sound { IsSound ground.now.most ground.now.threads (root_of walker.old ground.now.setup.now)
-        (paths_of found.now.paths.items) found.now.seen.items }
-    ensures told { IfOk result
-        (λ table. All (IsTold ground.now.most ground.now.threads (root_of walker.old ground.now.setup.now))
-        table.rows.items) }
-    ensures apart { IfOk result (λ table. AreApart table.rows.items) }
-    ensures ends { IfOk result
-        (λ table. HaveEnds ground.now.most (root_of walker.old ground.now.setup.now) (paths_of found.now.paths.items)
-        found.now.seen.items (length found.now.seen.items) table.rows.items) }
+    ensures none { OnOk result (IfNone choice (rows.new.items ≡ rows.old.items)) }
+    ensures some { OnOk result (IfSome choice (λ at. (r : Told)
+        × IsRowOf ground.now.most (root_of walker.old ground.now.setup.now) (paths_of found.now.paths.items)
+        found.now.seen.items at r × (rows.new.items ≡ rows.old.items ++ r ∷ []))) }
     ensures code { walker.new.code ≡ walker.old.code }
     ensures cells { walker.new.cells.limit ≡ walker.old.cells.limit }
 {
-    let mut table = Table::new(ground.alloc);
-    for at in 0..found.seen.len() {
-        tell_end(walker, ground, found, at, &mut table)?;
+    match choice {
+        None => Ok(()),
+        Some(at) => {
+            let row = row_at(walker, ground, found, at)?;
+            rows.push(row)?;
+            Ok(())
+        }
     }
-    Ok(table)
 }
 
-/// Adds a row for the path at a place, where its history isn't the beginning of a row's.
-fn tell_one(
+/// The place that was chosen for a number, if one was.
+fn choice_at(choices: &[Option<usize>], number: usize) -> Option<usize>
+    requires { number < length choices.now }
+    ensures { slice_get choices.now number ≡ Some result }
+{
+    choices[number]
+}
+
+/// The rows of these places.
+fn chosen_rows(
     walker: &mut Machine,
     ground: &Ground<'_>,
     found: &Searched,
-    at: usize,
-    table: &mut Table,
-) -> Result<(), AllocError>
-    requires at { at < length found.now.paths.items }
+    choices: &[Option<usize>],
+) -> Result<Vec<Row>, AllocError>
+    requires at { (n at : ℕ) → IsChosen choices.now n at → at < length found.now.paths.items }
     requires saves { AreSaved ground.now.most (root_of walker.old ground.now.setup.now) (paths_of found.now.paths.items)
         found.now.saved.items }
-    requires sound { IsSound ground.now.most ground.now.threads (root_of walker.old ground.now.setup.now)
-        (paths_of found.now.paths.items) found.now.seen.items }
-    ensures told { OnOk result
-        (All (IsTold ground.now.most ground.now.threads (root_of walker.old ground.now.setup.now)) table.old.rows.items
-        → All (IsTold ground.now.most ground.now.threads (root_of walker.old ground.now.setup.now))
-        table.new.rows.items) }
-    ensures keeps { OnOk result (Keeps table.old.rows.items table.new.rows.items) }
-    ensures apart { OnOk result (AreApart table.old.rows.items → AreApart table.new.rows.items) }
-    ensures begun { OnOk result ((path : List ℕ) → slice_get (paths_of found.now.paths.items) at ≡ Some path →
-        IsToldBy table.new.rows.items (walked ground.now.most (root_of walker.old ground.now.setup.now) path).history) }
-    ensures code { walker.new.code ≡ walker.old.code }
-    ensures cells { walker.new.cells.limit ≡ walker.old.cells.limit }
+    requires apart { (n at m other : ℕ) (r s : Told) → IsChosen choices.now n at → IsChosen choices.now m other →
+        IsRowOf ground.now.most (root_of walker.old ground.now.setup.now) (paths_of found.now.paths.items)
+        found.now.seen.items at r →
+        IsRowOf ground.now.most (root_of walker.old ground.now.setup.now) (paths_of found.now.paths.items)
+        found.now.seen.items other s → r.history ≡ s.history → n ≡ m }
+    ensures own { IfOk result (λ rows. (r : Told) → Contains rows.items r → (n : ℕ) × (at : ℕ)
+        × IsChosen choices.now n at × IsRowOf ground.now.most (root_of walker.old ground.now.setup.now)
+        (paths_of found.now.paths.items) found.now.seen.items at r) }
+    ensures made { IfOk result (λ rows. (n at : ℕ) → IsChosen choices.now n at → (r : Told) × Contains rows.items r
+        × IsRowOf ground.now.most (root_of walker.old ground.now.setup.now) (paths_of found.now.paths.items)
+        found.now.seen.items at r) }
+    ensures apart { IfOk result (λ rows. AreApart rows.items) }
 {
-    let place = Place {
-        path: Path::new(found.paths.as_slice(), at),
-        saved: &found.saved[at],
-    };
-    stand(walker, ground, &place);
-    if table.begins(walker.history()) {
-        return Ok(());
+    let mut rows = Vec::new(ground.alloc);
+    for number in 0..choices.len() {
+        add_row(walker, ground, found, &mut rows, choice_at(choices, number))?;
     }
-    let ending = ending_of(seen_at(found, at));
-    let path = place.path.to_vec(ground.alloc)?;
-    table.add(ground.alloc, path.as_slice(), walker.history(), ending)?;
-    Ok(())
+    Ok(rows)
 }
 
-/// Adds rows for all paths, the last path first: one for each history that isn't the beginning of a row's.
-fn tell_rest(
+/// The rows of all paths: one for each history that ends, with the first path of it, and one for each other that begins
+/// that of no path, with the last.
+fn rows_of(
     walker: &mut Machine,
     ground: &Ground<'_>,
     found: &Searched,
-    table: &mut Table,
-) -> Result<(), AllocError>
+) -> Result<Vec<Row>, AllocError>
     requires saves { AreSaved ground.now.most (root_of walker.old ground.now.setup.now) (paths_of found.now.paths.items)
         found.now.saved.items }
-    requires sound { IsSound ground.now.most ground.now.threads (root_of walker.old ground.now.setup.now)
-        (paths_of found.now.paths.items) found.now.seen.items }
-    requires told { All (IsTold ground.now.most ground.now.threads (root_of walker.old ground.now.setup.now))
-        table.old.rows.items }
-    ensures told { OnOk result
-        (All (IsTold ground.now.most ground.now.threads (root_of walker.old ground.now.setup.now))
-        table.new.rows.items) }
-    ensures keeps { OnOk result (Keeps table.old.rows.items table.new.rows.items) }
-    ensures apart { OnOk result (AreApart table.old.rows.items → AreApart table.new.rows.items) }
-    ensures begun { OnOk result
-        (HaveBegun ground.now.most (root_of walker.old ground.now.setup.now) (paths_of found.now.paths.items)
-        (length found.now.paths.items) table.new.rows.items) }
+    requires few { length found.now.seen.items ≤ length found.now.paths.items }
+    ensures { IfOk result (λ rows. TellListed ground.now.most (root_of walker.old ground.now.setup.now)
+        (paths_of found.now.paths.items) found.now.seen.items rows.items) }
 {
-    let count = found.paths.len();
-    for back in 0..count {
-        tell_one(walker, ground, found, count - 1 - back, table)?;
-    }
-    Ok(())
+    let mut all = none(ground.alloc)?;
+    let numbers = number_paths(walker, ground, found, &mut all)?;
+    let ends = ends_of(ground.alloc, found.seen.as_slice())?;
+    let choices = choose(
+        ground.alloc,
+        all.as_slice(),
+        numbers.as_slice(),
+        ends.as_slice(),
+    )?;
+    chosen_rows(walker, ground, found, choices.as_slice())
 }
 
-/// The rows of all paths, in order. Each history that ends has one row, with the first path of it. Each other history
-/// that isn't the beginning of a row's has one row, with the last path.
+/// The rows of all paths, in order.
 pub(crate) fn tell(
     walker: &mut Machine,
     ground: &Ground<'_>,
@@ -336,25 +234,11 @@ pub(crate) fn tell(
 ) -> Result<Vec<Row>, AllocError>
     requires saves { AreSaved ground.now.most (root_of walker.old ground.now.setup.now) (paths_of found.now.paths.items)
         found.now.saved.items }
-    requires sound { IsSound ground.now.most ground.now.threads (root_of walker.old ground.now.setup.now)
-        (paths_of found.now.paths.items) found.now.seen.items }
-    ensures told { IfOk result
-        (λ rows. All (IsTold ground.now.most ground.now.threads (root_of walker.old ground.now.setup.now)) rows.items) }
-    ensures ends { IfOk result
-        (λ rows. HaveEnds ground.now.most (root_of walker.old ground.now.setup.now) (paths_of found.now.paths.items)
-        found.now.seen.items (length found.now.seen.items) rows.items) }
-    ensures apart { IfOk result (λ rows. AreApart rows.items) }
+    requires few { length found.now.seen.items ≤ length found.now.paths.items }
+    ensures told { IfOk result (λ rows. TellListed ground.now.most (root_of walker.old ground.now.setup.now)
+        (paths_of found.now.paths.items) found.now.seen.items rows.items) }
     ensures order { IfOk result (λ rows. IsSorted row_order rows.items) }
-    ensures begun { IfOk result
-        (λ rows. HaveBegun ground.now.most (root_of walker.old ground.now.setup.now) (paths_of found.now.paths.items)
-        (length found.now.paths.items) rows.items) }
 {
-    let mut table = tell_ends(walker, ground, found)?;
-    tell_rest(walker, ground, found, &mut table)?;
-    let Table {
-        rows,
-        whole: _,
-        begun: _,
-    } = table;
+    let rows = rows_of(walker, ground, found)?;
     Ok(in_order(rows))
 }

@@ -5,4 +5,4 @@ mod choosing;
 mod numbering;
 
 pub use choosing::choose;
-pub use numbering::{Known, none, number_all};
+pub use numbering::{Known, none, number_all, number_of};

@@ -16,7 +16,8 @@ loop-at-init g c = (
       (paths_of c.args.nodes.now.paths.items),
   c.requires.saves,
   c.requires.distinct,
-  λ then h. h,
+  (λ then h. h),
+  λ few. few,
 )
 
 pub expand-requires-clause-sound : goal.expand-requires-clause-sound
@@ -52,7 +53,8 @@ loop-at-preserved g c =
       subst (λ r. AreSaved c.args.ground.now.most r (paths_of c.expand.new.nodes.paths.items)
           c.expand.new.nodes.saved.items) same c.in_ok-expand.ensures.saves,
       c.in_ok-expand.ensures.distinct,
-      λ then h. c.tell_progress.ensures then (c.loop-at.invariant.6 then h),
+      (λ then h. c.tell_progress.ensures then (c.loop-at.invariant.6 then h)),
+      λ few. c.in_ok-expand.ensures.few (c.loop-at.invariant.7 few),
     )
 
 pub returns-then-not-branch-clause-sound : goal.returns-then-not-branch-clause-sound

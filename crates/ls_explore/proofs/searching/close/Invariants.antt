@@ -1,4 +1,4 @@
-use Rattle.std.proofs.Common.{◌≡◌, length}
+use Rattle.std.proofs.Common.{◌≡◌, ◌≤◌, length}
 use Rattle.ls_explore.specs.Searches.{AreDistinct, AreSaved, IsClosedTo, IsSound, paths_of}
 use Rattle.ls_explore.specs.Walks.{root_of}
 use Rattle.ls_explore.specs.Watching.{GoesOn}
@@ -16,3 +16,4 @@ invariant-loop-at g l =
     × AreSaved l.ground.most (root_of l.fn.walker l.ground.setup.now) (paths_of l.nodes.paths.items) l.nodes.saved.items
     × AreDistinct (paths_of l.nodes.paths.items) l.at 0
     × GoesOn g.W.Watch.Since l.fn.watch l.watch
+    × (length l.fn.nodes.paths.items ≤ l.ground.limit → length l.nodes.paths.items ≤ l.ground.limit)

@@ -24,6 +24,7 @@ loop-thread-init c = (
   },
   c.requires.saves,
   c.requires.distinct,
+  λ few. few,
 )
 
 pub loop-thread-preserved : goal.loop-thread-preserved
@@ -47,6 +48,7 @@ loop-thread-preserved c =
           c.look.new.nodes.saved.items) (root_same c.args.walker.now c.loop-thread.walker setup kept.walker_code
           kept.walker_cells) c.in_ok-did.ensures.saves,
       c.in_ok-did.ensures.distinct c.loop-thread.invariant.4,
+      λ few. c.in_ok-did.ensures.few (c.loop-thread.invariant.5 few),
     )
 
 pub returns-in_default-clause-sound : goal.returns-in_default-clause-sound

@@ -1,4 +1,4 @@
-use Rattle.std.proofs.Common.{◌≡◌}
+use Rattle.std.proofs.Common.{◌≡◌, ◌≤◌, length}
 use Rattle.ls_explore.specs.Searches.{AreDistinct, AreSaved, paths_of}
 use Rattle.ls_explore.specs.Walks.{root_of}
 use Rattle.ls_explore.proofs.Loops.{AreKept, IsOn}
@@ -12,3 +12,4 @@ invariant-loop-thread l =
     l.nodes.seen.items l.at l.thread l.seen
     × AreSaved l.ground.most (root_of l.fn.walker l.ground.setup.now) (paths_of l.nodes.paths.items) l.nodes.saved.items
     × AreDistinct (paths_of l.nodes.paths.items) l.at l.thread
+    × (length l.fn.nodes.paths.items ≤ l.ground.limit → length l.nodes.paths.items ≤ l.ground.limit)

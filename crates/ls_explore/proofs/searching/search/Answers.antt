@@ -1,10 +1,11 @@
-use Rattle.std.proofs.Common.{ℕ, List, [], ◌∷◌, map, sym, ap, ◌∙◌}
+use Rattle.std.proofs.Common.{ℕ, List, [], ◌∷◌, arith, length, map, sym, ap, ◌∙◌}
 use Rattle.ls_code.specs.Machine.{Machine}
 use Rattle.ls_machine.specs.Saved.{standing}
 use Rattle.ls_explore.specs.Searches.{paths_of}
 use Rattle.ls_explore.specs.Walks.{root_of, walked}
 use Rattle.ls_explore.proofs.Distinct.{distinct_first}
 use Rattle.ls_explore.proofs.Loops.{root_same, sound_first}
+use Rattle.ls_explore.proofs.Paths.{length-paths}
 use Rattle.ls_explore.proofs.Walks.{walked_none}
 use Rattle.ls_explore.proofs.searching.search.Goals as goal
 
@@ -28,3 +29,12 @@ close-requires-clause-saves g c =
 pub close-requires-clause-distinct : goal.close-requires-clause-distinct
 close-requires-clause-distinct g c =
     distinct_first (paths_of c.in_ok-nodes.nodes.paths.items) c.in_ok-nodes.ensures.paths
+
+pub returns-clause-few : goal.returns-clause-few
+returns-clause-few g c = λ some.
+    c.in_ok-complete.ensures.few (omega (
+      arith,
+      some,
+      length-paths c.in_ok-nodes.nodes.paths.items,
+      ap length c.in_ok-nodes.ensures.paths,
+    ))
