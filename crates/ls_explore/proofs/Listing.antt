@@ -1,6 +1,6 @@
 -- The rows of chosen paths: one for each history that ends, and one for each from which none goes on.
-use Rattle.std.proofs.Common.{◌≡◌, ◌⊎◌, inl, inr, [], ◌∷◌, ◌++◌, ℕ, ◌≤◌, Bool, true, false, not, List, length, Option, Some}
-use Rattle.std.proofs.Common.{IsPermutation, refl, sym, ap, ◌∙◌, subst, arith}
+use Rattle.std.proofs.Common.{◌≡◌, ◌⊎◌, inl, inr, [], ◌∷◌, ◌++◌, ℕ, ◌≤◌, Bool, true, false, not, List, length, Option}
+use Rattle.std.proofs.Common.{Some, IsPermutation, refl, sym, ap, ◌∙◌, subst, arith}
 use Rattle.std.specs.Prelude.{Contains, slice_get}
 use Rattle.std.proofs.lemmas.List.Sorted.{Contains-permutation, IsPermutation-sym}
 use Rattle.ls_events.specs.Beginnings.{IsBeginning}

@@ -12,8 +12,8 @@ module _ (n : ℕ) (root : Machine) (paths : List (List ℕ)) (seen : List Seen)
     pub history : r.history ≡ (walked n root r.path).history
     pub ending : r.ending ≡ ending_of (slice_get seen at)
 
-  -- Each row is of a path. The history of each path begins that of a row, and is that of one that ends if it was seen to
-  -- end. The history of a row that doesn't end begins that of no other.
+  -- Each row is of a path. The history of each path begins that of a row, and is that of one that ends if the path was
+  -- seen to end. The history of a row that doesn't end begins that of no other.
   pub record TellListed (rows : List Told) : Type 0 where
     pub own : (r : Told) → Contains rows r → (at : ℕ) × IsRowOf at r
     pub ended : (at : ℕ) (path : List ℕ) (s : Seen) → slice_get paths at ≡ Some path → slice_get seen at ≡ Some s →

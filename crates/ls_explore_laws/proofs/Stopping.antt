@@ -330,8 +330,9 @@ module _ (file : File) (program : Program) (code : Code) (asks : Asks file progr
       Lacks s t
   stops_after zero s m h goes t stopped = absurd (silent_not did.Silent refl stopped)
   stops_after (suc n) s m h goes t stopped =
-      by_first (machine_step m t).did refl (λ e. stops_after n s (machine_step m t).machine (still_follows s m h goes t e)
-      (still_goes s m h goes t e) t) stopped
+      by_first (machine_step m t).did refl
+      (λ e. stops_after n s (machine_step m t).machine (still_follows s m h goes t e) (still_goes s m h goes t e) t)
+      stopped
     where
       by_first : (f : Did) →
           (machine_step m t).did ≡ f →

@@ -8,8 +8,8 @@ use Rattle.ls_explore.specs.Walks.{led_to, root_of}
 use Rattle.ls_explore.proofs.Closing.{first_there}
 use Rattle.ls_explore.proofs.Loops.{root_same}
 use Rattle.ls_explore.proofs.Paths.{length-paths}
-use Rattle.ls_explore.proofs.Telling.{tells_acts, tells_all, tells_ends, tells_fits, tells_full, tells_narrow, tells_over}
-use Rattle.ls_explore.proofs.Telling.{tells_seen, tells_states, tells_truth, tells_whole}
+use Rattle.ls_explore.proofs.Telling.{tells_acts, tells_all, tells_ends, tells_fits, tells_full, tells_narrow}
+use Rattle.ls_explore.proofs.Telling.{tells_over, tells_seen, tells_states, tells_truth, tells_whole}
 use Rattle.ls_explore.proofs.Walks.{walked_none}
 use Rattle.ls_explore.proofs.exploring.explore.Goals as goal
 
@@ -50,8 +50,9 @@ returns-clause-told g c =
     ap (λ (m : Machine). root_of m setup) c.in_ok-walker.ensures.loaded in
     let sound = sound_there c.in_ok-walker.walker c.search.new.walker setup c.search.ensures.code c.search.ensures.cells
     n threads paths seen c.in_ok-found.ensures.sound in
-    tells_truth c.args.code.now c.args.cells setup threads n root c.most_steps.ensures er paths seen sound c.in_ok-rows.rows.items
-    c.in_ok-rows.ensures.told
+    tells_truth c.args.code.now c.args.cells setup threads n root
+    c.most_steps.ensures er paths seen sound
+    c.in_ok-rows.rows.items c.in_ok-rows.ensures.told
 
 pub returns-clause-acts : goal.returns-clause-acts
 returns-clause-acts g c =
@@ -65,8 +66,9 @@ returns-clause-acts g c =
     ap (λ (m : Machine). root_of m setup) c.in_ok-walker.ensures.loaded in
     let sound = sound_there c.in_ok-walker.walker c.search.new.walker setup c.search.ensures.code c.search.ensures.cells
     n threads paths seen c.in_ok-found.ensures.sound in
-    tells_acts c.args.code.now c.args.cells setup threads n root c.most_steps.ensures er paths seen sound c.in_ok-rows.rows.items
-    c.in_ok-rows.ensures.told
+    tells_acts c.args.code.now c.args.cells setup threads n root
+    c.most_steps.ensures er paths seen sound
+    c.in_ok-rows.rows.items c.in_ok-rows.ensures.told
 
 pub returns-clause-over : goal.returns-clause-over
 returns-clause-over g c =
@@ -80,8 +82,9 @@ returns-clause-over g c =
     ap (λ (m : Machine). root_of m setup) c.in_ok-walker.ensures.loaded in
     let sound = sound_there c.in_ok-walker.walker c.search.new.walker setup c.search.ensures.code c.search.ensures.cells
     n threads paths seen c.in_ok-found.ensures.sound in
-    tells_over c.args.code.now c.args.cells setup threads n root c.most_steps.ensures er paths seen sound c.in_ok-rows.rows.items
-    c.in_ok-rows.ensures.told
+    tells_over c.args.code.now c.args.cells setup threads n root
+    c.most_steps.ensures er paths seen sound
+    c.in_ok-rows.rows.items c.in_ok-rows.ensures.told
 
 pub returns-clause-fits : goal.returns-clause-fits
 returns-clause-fits g c =
@@ -95,8 +98,9 @@ returns-clause-fits g c =
     ap (λ (m : Machine). root_of m setup) c.in_ok-walker.ensures.loaded in
     let sound = sound_there c.in_ok-walker.walker c.search.new.walker setup c.search.ensures.code c.search.ensures.cells
     n threads paths seen c.in_ok-found.ensures.sound in
-    tells_fits c.args.code.now c.args.cells setup threads n root c.most_steps.ensures er paths seen sound c.in_ok-rows.rows.items
-    c.in_ok-rows.ensures.told
+    tells_fits c.args.code.now c.args.cells setup threads n root
+    c.most_steps.ensures er paths seen sound
+    c.in_ok-rows.rows.items c.in_ok-rows.ensures.told
 
 pub returns-clause-full : goal.returns-clause-full
 returns-clause-full g c =
@@ -110,8 +114,9 @@ returns-clause-full g c =
     ap (λ (m : Machine). root_of m setup) c.in_ok-walker.ensures.loaded in
     let sound = sound_there c.in_ok-walker.walker c.search.new.walker setup c.search.ensures.code c.search.ensures.cells
     n threads paths seen c.in_ok-found.ensures.sound in
-    tells_full c.args.code.now c.args.cells setup threads n root c.most_steps.ensures er paths seen sound c.in_ok-rows.rows.items
-    c.in_ok-rows.ensures.told
+    tells_full c.args.code.now c.args.cells setup threads n root
+    c.most_steps.ensures er paths seen sound
+    c.in_ok-rows.rows.items c.in_ok-rows.ensures.told
 
 pub returns-clause-narrow : goal.returns-clause-narrow
 returns-clause-narrow g c = λ no.
@@ -126,7 +131,8 @@ returns-clause-narrow g c = λ no.
     let sound = sound_there c.in_ok-walker.walker c.search.new.walker setup c.search.ensures.code c.search.ensures.cells
     n threads paths seen c.in_ok-found.ensures.sound in
     let some = c.are_roomy.ensures.some no in
-    tells_narrow c.args.code.now c.args.cells setup threads n root c.most_steps.ensures er paths seen sound some.0
+    tells_narrow c.args.code.now c.args.cells setup threads n root
+    c.most_steps.ensures er paths seen sound some.0
     (subst (λ (l : List Seen). Contains l some.0) c.as_slice.ensures.value some.1) some.2
 
 pub returns-clause-seen : goal.returns-clause-seen
@@ -141,8 +147,9 @@ returns-clause-seen g c = λ yes.
     ap (λ (m : Machine). root_of m setup) c.in_ok-walker.ensures.loaded in
     let sound = sound_there c.in_ok-walker.walker c.search.new.walker setup c.search.ensures.code c.search.ensures.cells
     n threads paths seen c.in_ok-found.ensures.sound in
-    tells_seen c.args.code.now c.args.cells setup threads n root c.most_steps.ensures er paths seen sound c.in_ok-rows.rows.items
-    c.in_ok-rows.ensures.told
+    tells_seen c.args.code.now c.args.cells setup threads n root
+    c.most_steps.ensures er paths seen sound
+    c.in_ok-rows.rows.items c.in_ok-rows.ensures.told
     (c.in_ok-found.ensures.count yes)
 
 pub returns-clause-tells : goal.returns-clause-tells
@@ -161,8 +168,9 @@ returns-clause-tells g c = λ yes.
     c.search.ensures.cells n threads paths (c.in_ok-found.ensures.closed yes) in
     let first : Contains (led_to n root paths) root = first_there n threads root paths sound.first
     (walked_none n root) in
-    tells_all c.args.code.now c.args.cells setup threads n root c.most_steps.ensures er paths seen sound c.in_ok-rows.rows.items
-    c.in_ok-rows.ensures.told
+    tells_all c.args.code.now c.args.cells setup threads n root
+    c.most_steps.ensures er paths seen sound
+    c.in_ok-rows.rows.items c.in_ok-rows.ensures.told
     (c.in_ok-found.ensures.count yes) first closed
 
 pub returns-clause-ends : goal.returns-clause-ends
@@ -181,8 +189,9 @@ returns-clause-ends g c = λ yes.
     c.search.ensures.cells n threads paths (c.in_ok-found.ensures.closed yes) in
     let first : Contains (led_to n root paths) root = first_there n threads root paths sound.first
     (walked_none n root) in
-    tells_ends c.args.code.now c.args.cells setup threads n root c.most_steps.ensures er paths seen sound c.in_ok-rows.rows.items
-    c.in_ok-rows.ensures.told
+    tells_ends c.args.code.now c.args.cells setup threads n root
+    c.most_steps.ensures er paths seen sound
+    c.in_ok-rows.rows.items c.in_ok-rows.ensures.told
     (c.in_ok-found.ensures.count yes) first closed
 
 pub returns-clause-whole : goal.returns-clause-whole
@@ -201,8 +210,9 @@ returns-clause-whole g c = λ yes room.
     c.search.ensures.cells n threads paths (c.in_ok-found.ensures.closed yes) in
     let first : Contains (led_to n root paths) root = first_there n threads root paths sound.first
     (walked_none n root) in
-    tells_whole c.args.code.now c.args.cells setup threads n root c.most_steps.ensures er paths seen sound c.in_ok-rows.rows.items
-    c.in_ok-rows.ensures.told
+    tells_whole c.args.code.now c.args.cells setup threads n root
+    c.most_steps.ensures er paths seen sound
+    c.in_ok-rows.rows.items c.in_ok-rows.ensures.told
     (c.in_ok-found.ensures.count yes) first closed
     (subst (λ s. All (λ (x : Seen). x.stops ≡ false) s) c.as_slice.ensures.value (c.are_roomy.ensures.all room))
 
@@ -220,8 +230,9 @@ returns-clause-found g c =
     n threads paths seen c.in_ok-found.ensures.sound in
     let count : length paths ≡ length c.in_ok-found.found.paths.items = length-paths c.in_ok-found.found.paths.items in
     let many : length paths ≡ c.len.result = omega (arith, count) in
-    tells_states c.args.code.now c.args.cells setup threads n root c.most_steps.ensures er paths seen sound c.in_ok-rows.rows.items
-    c.in_ok-rows.ensures.told c.len.result many
+    tells_states c.args.code.now c.args.cells setup threads n root
+    c.most_steps.ensures er paths seen sound
+    c.in_ok-rows.rows.items c.in_ok-rows.ensures.told c.len.result many
     c.in_ok-found.ensures.once
 
 pub returns-clause-alone : goal.returns-clause-alone
