@@ -39,15 +39,16 @@ pub judged_so : LinearityIsMeant → NoneIllegal → NoneIsNotLinearizable →
     rows_of judged ≡ rows →
     TellTruth (file_of i) (program_of i) k rows →
     TellStates (file_of i) (program_of i) k rows kept →
-    (complete ≡ false → limit ≤ kept) →
+    kept ≤ limit →
+    (complete ≡ false → kept ≡ limit) →
     TellBy count (file_of i) (program_of i) limit k rows kept complete roomy →
     (complete ≡ true → roomy ≡ true → TellWhole (file_of i) (program_of i) rows) → AreApart rows →
     IsSorted row_order rows → All (IsJudged (program_of i)) judged →
     All (IsToldLinear (file_of i) (program_of i) (complete && roomy) rows) judged →
     All (IsToldBelow orders (file_of i) (program_of i)) judged →
     IsExploration i count limit orders k judged kept complete roomy
-judged_so meant legal linearizable i count limit orders k rows judged kept complete roomy e truth states cut by whole
-    apart order verdicts linear below =
+judged_so meant legal linearizable i count limit orders k rows judged kept complete roomy e truth states few cut by
+    whole apart order verdicts linear below =
     let so : TellTruth (file_of i) (program_of i) k (rows_of judged) =
     subst (TellTruth (file_of i) (program_of i) k) (sym e) truth in
     let each : complete ≡ true → roomy ≡ true → TellWhole (file_of i) (program_of i) (rows_of judged) =
@@ -57,6 +58,7 @@ judged_so meant legal linearizable i count limit orders k rows judged kept compl
     record {
       truth = so;
       states = subst (λ rs. TellStates (file_of i) (program_of i) k rs kept) (sym e) states;
+      few = few;
       cut = cut;
       by = subst (λ rs. TellBy count (file_of i) (program_of i) limit k rs kept complete roomy) (sym e) by;
       whole = each;

@@ -5,10 +5,11 @@ use Rattle.ls_machine.specs.Room.{AreBadCells}
 use Rattle.ls_image.specs.Images.{code_of_image}
 use Rattle.ls_image.specs.declared.image.Image.{Image}
 use Rattle.ls_translation.specs.Texts.{file_of, program_of}
-use Rattle.ls_explore.specs.Rows.{AreApart, TellStates, row_order}
+use Rattle.ls_explore.specs.declared.rows.Ending.TheVariants.{NotSeen}
+use Rattle.ls_explore.specs.Rows.{AreApart, NoneEnds, StandAlone, TellStates, row_order}
 use Rattle.ls_explore_images.specs.Faults.{AreBadStates, AreGood, IsEndless, IsOfSetup}
 use Rattle.ls_explore_images.specs.Sources.{IsOfSource, IsSourceEndless, TellSource}
-use Rattle.ls_explore_images.specs.Tellings.{TellAll, TellTruth, TellWhole}
+use Rattle.ls_explore_images.specs.Tellings.{AllFit, AreFull, IsNarrow, TellAll, TellTruth, TellWhole}
 use Rattle.ls_explore_images.specs.declared.exploring.ImageExploration.{ImageExploration}
 use Rattle.ls_explore_images.specs.declared.fault.ExploreFault.{ExploreFault}
 use Rattle.ls_explore_images.specs.declared.fault.ExploreFault.TheVariants as explore
@@ -25,23 +26,46 @@ module _ (i : Image) (limit : ℕ) where
         IfOk r (λ e. AreGood (code_of_image i) cells limit) →
         IfOk r (λ e. TellTruth (file_of i) (program_of i) e.setup e.rows.items) →
         IfOk r (λ e. TellStates (file_of i) (program_of i) e.setup e.rows.items e.states) →
+        IfOk r (λ e. e.states ≤ limit) →
         IfOk r (λ e. e.complete ≡ false → limit ≤ e.states) →
+        IfOk r (λ e. AllFit (file_of i) (program_of i) cells e.setup e.rows.items) →
+        IfOk r (λ e. AreFull (file_of i) (program_of i) cells e.setup e.rows.items) →
+        IfOk r (λ e. e.roomy ≡ false → IsNarrow (file_of i) (program_of i) cells) →
+        IfOk r (λ e. e.complete ≡ true → NoneEnds NotSeen e.rows.items) →
+        IfOk r (λ e. StandAlone e.rows.items) →
         IfOk r (λ e. e.complete ≡ true → TellAll (file_of i) (program_of i) cells e.rows.items) →
         IfOk r (λ e. e.complete ≡ true → e.roomy ≡ true → TellWhole (file_of i) (program_of i) e.rows.items) →
         IfOk r (λ e. AreApart e.rows.items) →
         IfOk r (λ e. IsSorted row_order e.rows.items) →
         IfOk r (IsFound i (Some cells) limit)
-    machine_found (Err f) good truth states cut all whole apart order = tt
-    machine_found (Ok e) good truth states cut all whole apart order = record {
-      good = for_machine good;
-      truth = truth;
-      states = states;
-      cut = cut;
-      by = all;
-      whole = whole;
-      apart = apart;
-      order = order;
-    }
+    machine_found (Err f) good truth states few cut fits full narrow seen alone all whole apart order = tt
+    machine_found (Ok e) good truth states few cut fits full narrow seen alone all whole apart order =
+        let exact : e.complete ≡ false → e.states ≡ limit = λ no. omega (arith, few, cut no) in
+        record {
+          good = for_machine good;
+          truth = truth;
+          states = states;
+          few = few;
+          cut = exact;
+          by = record {
+            truth = truth;
+            fits = fits;
+            full = full;
+            states = states;
+            few = few;
+            cut = exact;
+            all = all;
+            whole = whole;
+            narrow = narrow;
+            seen = seen;
+            alone = alone;
+            apart = apart;
+            order = order;
+          };
+          whole = whole;
+          apart = apart;
+          order = order;
+        }
 
     pub machine_refused : (r : Result ImageExploration ExploreFault) →
         (IsErrOf r explore.BadCells ↔ AreBadCells (code_of_image i).names cells) →
@@ -74,7 +98,8 @@ module _ (i : Image) (limit : ℕ) where
     good = for_source good;
     truth = tells.truth;
     states = tells.states;
-    cut = λ cut. let is = tells.cut cut in omega (arith, is);
+    few = tells.few;
+    cut = tells.cut;
     by = (tells, roomy);
     whole = λ done room. tells.whole done;
     apart = tells.apart;

@@ -13,7 +13,7 @@ use Rattle.ls_explore.specs.Rows.{AreApart, TellStates, row_order}
 use Rattle.ls_linearizable.specs.Linearizable.{IsLinearizable}
 use Rattle.ls_explore_verdicts.specs.Verdicts.{HasLegalOrder}
 use Rattle.ls_explore_images.specs.Faults.{AreBadStates, AreGood, StaysSource}
-use Rattle.ls_explore_images.specs.Settings.{EndsAt, GoesOnFor}
+use Rattle.ls_explore_images.specs.Settings.{GoesOnFor, StopsAt}
 use Rattle.ls_explore_images.specs.Tellings.{TellTruth, TellWhole}
 use Rattle.ls_explore_images.specs.declared.fault.ExploreFault.TheVariants as explore
 use Rattle.ls_report.specs.Events.{Text}
@@ -39,14 +39,15 @@ names_in i = record {
 
 -- Rows that tell the truth, the shortest schedule first, no two with one history, each with its verdict, and with what
 -- the rows and the serial runs say of its linearizability. Below each is what the command `order` tells of its history,
--- if orders are asked for. Each of so many states has a row. Where they are complete they tell of all schedules that fit
--- the cells, if a number of cells is asked for; and where no schedule runs out of cells, of all. Where they are cut, so
--- many states were kept as may be.
+-- if orders are asked for. Each of so many states has a row, and each row a state. If a number of cells is asked for,
+-- each row's schedule fits, and where they are complete they tell of all schedules that fit; where no schedule runs out
+-- of cells, of all. Where they are cut, as many states were kept as may be.
 pub record IsExploration (i : Image) (count : Option ℕ) (limit : ℕ) (orders : Bool) (k : ℕ) (judged : List Judged)
     (kept : ℕ) (complete roomy : Bool) : Type 0 where
   pub truth : TellTruth (file_of i) (program_of i) k (rows_of judged)
   pub states : TellStates (file_of i) (program_of i) k (rows_of judged) kept
-  pub cut : complete ≡ false → limit ≤ kept
+  pub few : kept ≤ limit
+  pub cut : complete ≡ false → kept ≡ limit
   pub by : TellBy count (file_of i) (program_of i) limit k (rows_of judged) kept complete roomy
   pub whole : complete ≡ true → roomy ≡ true → TellWhole (file_of i) (program_of i) (rows_of judged)
   pub apart : AreApart (rows_of judged)
@@ -80,7 +81,7 @@ pub data Explored (i : Image) (e : Exploring) : Result Text ToolFault → Type 0
   NotTranslated : (cells k : ℕ) (f : TranslationFault) →
       e.cells ≡ Some cells →
       AreGood (code_of_image i) cells e.states →
-      EndsAt (file_of i) (program_of i) k →
+      StopsAt (file_of i) (program_of i) k →
       StaysSource (file_of i) (program_of i) (code_of_image i) cells k f →
       Explored i e (Err (faults.Translation f))
   -- so are the steps of a row

@@ -9,9 +9,10 @@ use Rattle.ls_image.specs.declared.image.Image.{Image}
 use Rattle.ls_translation.specs.Texts.{file_of, program_of}
 use Rattle.ls_explore.specs.Rows.{AreApart, TellStates, Told, row_order}
 use Rattle.ls_explore_images.specs.Faults.{AreBadStates, AreGood, StaysSource}
-use Rattle.ls_explore_images.specs.Settings.{EndsAt, GoesOnFor}
+use Rattle.ls_explore_images.specs.Settings.{GoesOnFor, StopsAt}
+use Rattle.ls_explore_images.specs.Machines.{TellMachine}
 use Rattle.ls_explore_images.specs.Sources.{TellSource}
-use Rattle.ls_explore_images.specs.Tellings.{TellAll, TellTruth, TellWhole}
+use Rattle.ls_explore_images.specs.Tellings.{TellTruth, TellWhole}
 use Rattle.ls_explore_images.specs.declared.exploring.ImageExploration.{ImageExploration}
 use Rattle.ls_explore_images.specs.declared.fault.ExploreFault.{ExploreFault}
 use Rattle.ls_explore_images.specs.declared.fault.ExploreFault.TheVariants.{Memory, BadCells, BadStates, SetupEndless}
@@ -27,19 +28,20 @@ pub record AreGoodFor (code : Code) (count : Option ℕ) (limit : ℕ) : Type 0 
   pub cells : HasGoodCells code count
   pub states : ¬ AreBadStates limit
 
--- If rows of a machine are complete, they tell of all schedules that fit its cells. Rows of the source tell more, and
--- need no cells.
+-- Rows of a machine tell of the schedules that fit its cells, and rows of the source of all.
 abbrev pub TellBy : Option ℕ → File → Program → ℕ → ℕ → List Told → ℕ → Bool → Bool → Type 0
 TellBy None file program limit k rows kept complete roomy =
     TellSource file program limit k rows kept complete × (roomy ≡ true)
-TellBy (Some cells) file program limit k rows kept complete roomy = complete ≡ true → TellAll file program cells rows
+TellBy (Some cells) file program limit k rows kept complete roomy =
+    TellMachine file program cells limit k rows kept complete roomy
 
 -- the rows that are found
 pub record IsFound (i : Image) (count : Option ℕ) (limit : ℕ) (e : ImageExploration) : Type 0 where
   pub good : AreGoodFor (code_of_image i) count limit
   pub truth : TellTruth (file_of i) (program_of i) e.setup e.rows.items
   pub states : TellStates (file_of i) (program_of i) e.setup e.rows.items e.states
-  pub cut : e.complete ≡ false → limit ≤ e.states
+  pub few : e.states ≤ limit
+  pub cut : e.complete ≡ false → e.states ≡ limit
   pub by : TellBy count (file_of i) (program_of i) limit e.setup e.rows.items e.states e.complete e.roomy
   pub whole : e.complete ≡ true → e.roomy ≡ true → TellWhole (file_of i) (program_of i) e.rows.items
   pub apart : AreApart e.rows.items
@@ -56,5 +58,5 @@ IsRefused i count limit SetupEndless =
     AreGoodFor (code_of_image i) count limit × GoesOnFor (file_of i) (program_of i) 100001
 IsRefused i count limit (Setup f) =
     (cells : ℕ) × (count ≡ Some cells) × AreGood (code_of_image i) cells limit
-    × (k : ℕ) × EndsAt (file_of i) (program_of i) k
+    × (k : ℕ) × StopsAt (file_of i) (program_of i) k
     × StaysSource (file_of i) (program_of i) (code_of_image i) cells k f

@@ -4,3 +4,4 @@ pub mod Refusals
 pub mod Mapped
 pub mod Sources
 pub mod SourceRefusals
+pub mod Rooms

@@ -1,7 +1,7 @@
 -- Refusals that come late.
 use Rattle.ls_events.specs.Limits.{most_steps}
-use Rattle.std.proofs.Common.{◌≡◌, ◌↔◌, ◌<◌, ◌⊎◌, ◌∙◌, inl, inr, ℕ, Bool, true, false, List, Result, Ok, Err}
-use Rattle.std.proofs.Common.{refl, sym, subst}
+use Rattle.std.proofs.Common.{◌≡◌, ◌↔◌, ◌<◌, ◌≤◌, ◌⊎◌, inl, inr, ℕ, zero, suc, Bool, true, false, List, Result, Ok, Err}
+use Rattle.std.proofs.Common.{arith, refl, subst}
 use Rattle.std.proofs.Common.{length}
 use Rattle.std.proofs.Common.{replicate}
 use Rattle.std.specs.Prelude.{IfErr, IsErrOf}
@@ -15,7 +15,7 @@ use Rattle.ls_translation.specs.declared.fault.TranslationFault.{TranslationFaul
 use Rattle.ls_translation.specs.declared.fault.TranslationFault.TheVariants as translation
 use Rattle.ls_explore_images.specs.Faults.{AreBadStates, AreGood, IsEndless, IsLate, IsOfSetup}
 use Rattle.ls_explore_images.specs.Faults.{fault_of_translation}
-use Rattle.ls_explore_images.specs.Settings.{EndsAt, GoesOnFor}
+use Rattle.ls_explore_images.specs.Settings.{GoesOnFor, StopsAt}
 use Rattle.ls_explore_images.specs.declared.fault.ExploreFault.{ExploreFault}
 use Rattle.ls_explore_images.specs.declared.fault.ExploreFault.TheVariants as explore
 
@@ -58,7 +58,7 @@ module _ (file : File) (program : Program) (code : Code) (cells k : ℕ) where
     late_cells (Err (explore.Setup f)) late = (λ e. absurd cc, λ bad. absurd (good.cells bad))
 
     pub late_setup : (r : Result T ExploreFault) →
-        EndsAt file program k →
+        StopsAt file program k →
         IfErr r (IsLate file program code cells k) →
         IfErr r (IsOfSetup file program code cells states)
     late_setup (Ok x) ends late = tt
@@ -70,16 +70,21 @@ module _ (file : File) (program : Program) (code : Code) (cells k : ℕ) where
 
 -- ---- the fault of a setup that goes on
 
+pub not_both : (b : Bool) → b ≡ true → b ≡ false → ⊥
+not_both b yes no = cc
+
+-- some states may be kept
+pub some_states : (states : ℕ) → ¬ AreBadStates states → 1 ≤ states
+some_states zero good = absurd (good (inl refl))
+some_states (suc n) good = omega arith
+
 -- numbers that are not refused
 pub good_numbers : (code : Code) (cells states : ℕ) (bad many : Bool) → (bad ≡ true ↔ AreBadCells code.names cells) →
     bad ≡ false → (many ≡ true ↔ AreBadStates states) → many ≡ false → AreGood code cells states
 good_numbers code cells states bad many is_bad no_bad is_many no_many = record {
-  cells = λ h. not_both (sym (is_bad.1 h) ∙ no_bad);
-  states = λ h. not_both (sym (is_many.1 h) ∙ no_many);
+  cells = λ h. not_both bad (is_bad.1 h) no_bad;
+  states = λ h. not_both many (is_many.1 h) no_many;
 }
-  where
-    not_both : true ≡ false → ⊥
-    not_both e = cc
 
 -- exactly where it goes on, but where memory runs out
 abbrev pub EndlessOnly : {T : Type 0} → File → Program → Code → ℕ → ℕ → Result T ExploreFault → Type 0

@@ -18,8 +18,9 @@ use Rattle.ls_source_rows.specs.declared.rows.Row.{Row as SourceRow}
 use Rattle.ls_source_rows.proofs.Reached.{acts_more}
 use Rattle.ls_explore.specs.declared.rows.Ending.{Ending}
 use Rattle.ls_explore.specs.declared.rows.Ending.TheVariants as ending
-use Rattle.ls_explore.specs.Rows.{ActAll, AreApart, HasEnd, IsEnd, IsToldBy, TellStates, Told, row_order}
-use Rattle.ls_explore_images.specs.Sources.{NoneEnds, StandAlone, TellSource, ending_of, told_of}
+use Rattle.ls_explore.specs.Rows.{ActAll, AreApart, HasEnd, IsEnd, IsToldBy, NoneEnds, StandAlone, TellStates, Told}
+use Rattle.ls_explore.specs.Rows.{row_order}
+use Rattle.ls_explore_images.specs.Sources.{TellSource, ending_of, told_of}
 use Rattle.ls_explore_images.specs.Tellings.{TellTruth, TellWhole, schedule_of}
 use Rattle.ls_explore_images.proofs.Mapped.{image_there, index_image, item, mapped}
 
@@ -141,6 +142,7 @@ module _ (all : List SourceRow) where
       apart = h.apart;
       acts = h.acts;
       told = λ path there. begun_so (source_history file program (replicate k 0 ++ path)) (h.told path there);
+      own = λ r there. let s = of_row r there in subst (λ (x : Told). Contains h.paths x.path) s.2 (h.own s.0 s.1);
     }
 
     whole : rows.TellAll file program all → TellWhole file program told

@@ -1,7 +1,7 @@
 -- What the rows tell of the file and the program of an image.
 use Rattle.std.proofs.Common.{◌≡◌, ℕ, List, [], ◌∷◌, ◌++◌, length, map, replicate, refl, sym, ap, ◌∙◌, subst, arith}
 use Rattle.std.proofs.Common.{append-nil, slice_get, zero, suc, true, false}
-use Rattle.std.specs.Prelude.{Contains, IsSorted}
+use Rattle.std.specs.Prelude.{Contains, Err, IfOk, IsSorted, Ok, Result}
 use Rattle.std.proofs.Math.Logic.{∥∥₁_elim}
 use Rattle.std.proofs.Props.{props}
 use Rattle.ls_events.specs.declared.value.Value.{Value}
@@ -11,7 +11,7 @@ use Rattle.ls_meaning.specs.Steps.{Entry}
 use Rattle.ls_meaning.specs.Runs.{source_run, source_history, source_trace}
 use Rattle.ls_code.specs.Code.{Code}
 use Rattle.ls_code.specs.Machine.{Entry as MachineEntry, loaded, machine_run, machine_trace, setup_ended}
-use Rattle.ls_headline.specs.Same.{IsCells}
+use Rattle.ls_headline.specs.Same.{Fits, IsCells}
 use Rattle.ls_headline.specs.Translations.{to_source}
 use Rattle.ls_headline.specs.Acting.{ActsInTime}
 use Rattle.ls_linker_laws.specs.Runs.{Runs}
@@ -21,13 +21,14 @@ use Rattle.ls_headline.specs.InWords.{births, in_words, numbered}
 use Rattle.ls_explore_laws.specs.Ends.{HasSteps}
 use Rattle.ls_meaning.specs.Still.{IsOver}
 use Rattle.ls_explore_laws.specs.Explored.{HasHistories, IsSetUp}
+use Rattle.ls_explore_laws.specs.Room.{StaysWithin, StopsForRoom}
 use Rattle.ls_explore_laws.specs.Stuck.{IsAllOf}
 use Rattle.ls_explore.specs.declared.rows.Ending.TheVariants as ending
-use Rattle.ls_explore.specs.Rows.{TellsActs}
-use Rattle.ls_explore.specs.Rows.{AreApart, IsEnd, IsToldBy, TellStates, TellsAll, TellsEnds, TellsOver, TellsStates}
-use Rattle.ls_explore.specs.Rows.{TellsTruth, TellsWhole, Told, row_order}
+use Rattle.ls_explore.specs.Rows.{AreApart, IsEnd, IsToldBy, NoneEnds, StandAlone, TellStates, TellsActs, TellsAll}
+use Rattle.ls_explore.specs.Rows.{TellsEnds, TellsFits, TellsFull, TellsNarrow, TellsOver, TellsStates, TellsTruth}
+use Rattle.ls_explore.specs.Rows.{TellsWhole, Told, row_order}
 use Rattle.ls_explore_images.specs.Settings.{EndsAt}
-use Rattle.ls_explore_images.specs.Tellings.{TellAll, TellTruth, TellWhole}
+use Rattle.ls_explore_images.specs.Tellings.{AllFit, AreFull, IsNarrow, TellAll, TellTruth, TellWhole}
 
 pub same_threads : (file : File) (program : Program) (code : Code) →
     ∥ Runs file program code ∥₁ →
@@ -89,6 +90,19 @@ module _ (file : File) (program : Program) (code : Code) (cells : ℕ) (runs : �
       over = λ r there is. over file program k good acts up count r there is;
     }
 
+    pub tell_fits : TellsFits code cells setup rows →
+        StaysWithin file program code →
+        AllFit file program cells k rows
+    tell_fits fits stays = λ r there. fits file program k good stays up r there
+
+    pub tell_full : TellsFull code cells setup threads rows →
+        StopsForRoom file program code →
+        AreFull file program cells k rows
+    tell_full full stops = λ r there out. full file program k good acts stops up count r there out
+
+    pub tell_narrow : TellsNarrow code cells setup → StopsForRoom file program code → IsNarrow file program cells
+    tell_narrow narrow stops = narrow file program k good stops up
+
     pub tell_states : (states : ℕ) → TellsStates code cells setup rows states → TellStates file program k rows states
     tell_states states tells = tells file program k has_histories (has_steps file program code cells runs good) up
 
@@ -128,7 +142,8 @@ module _ (file : File) (program : Program) (k : ℕ) (all : IsAllOf file program
       TellTruth file program k (row ∷ [])
   stuck_truth does = record {
     acts = λ r there.
-        subst (λ ts. map (λ (e : Entry Value). e.thread) (source_trace file program ts) ≡ ts) (sym (of_row r there)) does;
+        subst (λ ts. map (λ (e : Entry Value). e.thread) (source_trace file program ts) ≡ ts) (sym (of_row r there))
+        does;
     goes = λ r there is.
         let wrong : ending.Over ≡ ending.GoesOn = sym over ∙ ap (λ (z : Told). z.ending) (one_there row r there) ∙ is in
         absurd cc;
@@ -160,7 +175,26 @@ module _ (file : File) (program : Program) (k : ℕ) (all : IsAllOf file program
                 ap (source_history file program) (append-nil (replicate k 0)) ∙ sym has,
           );
         });
+    own = λ r there.
+        subst (Contains ([] ∷ [])) (sym no_path ∙ ap (λ (z : Told). z.path) (one_there row r there)) (is_there []);
   }
+
+  pub stuck_fits : (cells : ℕ) → Fits file program cells (replicate k 0) → AllFit file program cells k (row ∷ [])
+  stuck_fits cells fits r there = subst (Fits file program cells) (sym (of_row r there)) fits
+
+  ending_is : (r : Told) → Contains (row ∷ []) r → r.ending ≡ ending.Over
+  ending_is r there = ap (λ (z : Told). z.ending) (sym (one_there row r there)) ∙ over
+
+  pub stuck_full : (cells : ℕ) → AreFull file program cells k (row ∷ [])
+  stuck_full cells r there out =
+      let wrong : ending.Over ≡ ending.OutOfCells = sym (ending_is r there) ∙ out in absurd cc
+
+  pub stuck_seen : NoneEnds ending.NotSeen (row ∷ [])
+  stuck_seen r there is = let wrong : ending.Over ≡ ending.NotSeen = sym (ending_is r there) ∙ is in cc
+
+  pub stuck_alone : StandAlone (row ∷ [])
+  stuck_alone r s r_there s_there unended begins =
+      ap (λ (z : Told). z.history) (sym (one_there row r r_there) ∙ one_there row s s_there)
 
   pub stuck_whole : TellWhole file program (row ∷ [])
   stuck_whole = record {
@@ -174,11 +208,19 @@ module _ (file : File) (program : Program) (k : ℕ) (all : IsAllOf file program
     };
   }
 
-  pub stuck_all : (cells : ℕ) → TellAll file program cells (row ∷ [])
-  stuck_all cells = record {
-    begun = λ schedule fits. stuck_whole.begun schedule;
-    ended = λ schedule fits ends. stuck_whole.ended schedule ends;
-  }
+-- what is told of all schedules is told of those that fit
+pub all_of_whole : (file : File) (program : Program) (cells : ℕ) (rows : List Told) →
+    TellWhole file program rows →
+    TellAll file program cells rows
+all_of_whole file program cells rows h = record {
+  begun = λ schedule fits. h.begun schedule;
+  ended = λ schedule fits over. h.ended schedule over;
+}
+
+-- what holds of what came out well
+pub ok_so : {A E : Type 0} {P Q : A → Type 0} (r : Result A E) → IfOk r P → ((x : A) → P x → Q x) → IfOk r Q
+ok_so (Ok x) p so = so x p
+ok_so (Err e) p so = tt
 
 -- one row alone is apart from the others, and in order
 pub one_apart : (rows : List Told) (row : Told) → rows ≡ row ∷ [] → AreApart rows

@@ -11,7 +11,7 @@ use Rattle.ls_machine.specs.declared.fault.LoadFault.TheVariants as load
 use Rattle.ls_translation.specs.Room.{IsFirstUnfit}
 use Rattle.ls_translation.specs.declared.fault.TranslationFault.{TranslationFault}
 use Rattle.ls_translation.specs.declared.fault.TranslationFault.TheVariants as translation
-use Rattle.ls_explore_images.specs.Settings.{EndsAt, GoesOnFor}
+use Rattle.ls_explore_images.specs.Settings.{GoesOnFor, StopsAt}
 use Rattle.ls_explore_images.specs.declared.fault.ExploreFault.{ExploreFault}
 use Rattle.ls_explore_images.specs.declared.fault.ExploreFault.TheVariants.{Memory, BadCells, BadStates, SetupEndless}
 use Rattle.ls_explore_images.specs.declared.fault.ExploreFault.TheVariants.{Setup}
@@ -38,7 +38,7 @@ StaysSource file program code cells k (translation.DoesNotFit step) = IsFirstUnf
 StaysSource file program code cells k translation.ResultTooLong = most_steps < length
     (to_machine file program code cells (replicate k 0))
 
--- a refusal that comes after the numbers have been looked at, and the setup's source, which ends with so many steps
+-- a refusal that comes after the numbers have been looked at, and the setup's source, which stops at so many steps
 abbrev pub IsLate : File → Program → Code → ℕ → ℕ → ExploreFault → Type 0
 IsLate file program code cells k Memory = Unit {0}
 IsLate file program code cells k (Setup f) = StaysSource file program code cells k f
@@ -55,10 +55,10 @@ pub record AreGood (code : Code) (count limit : ℕ) : Type 0 where
   pub states : ¬ AreBadStates limit
 
 -- Bad cells are named first, then a bad number of states. A fault of the setup's run on the machine comes only where
--- the setup's source ends and its run goes so; of other faults more is said elsewhere.
+-- the setup's source stops and its run goes so; of other faults more is said elsewhere.
 abbrev pub IsOfSetup : File → Program → Code → ℕ → ℕ → ExploreFault → Type 0
 IsOfSetup file program code cells limit Memory = Unit {0}
-IsOfSetup file program code cells limit (Setup f) = AreGood code cells limit × (k : ℕ) × EndsAt file program k
+IsOfSetup file program code cells limit (Setup f) = AreGood code cells limit × (k : ℕ) × StopsAt file program k
     × StaysSource file program code cells k f
 IsOfSetup file program code cells limit BadCells = Unit {0}
 IsOfSetup file program code cells limit BadStates = Unit {0}

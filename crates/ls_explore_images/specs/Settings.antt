@@ -1,5 +1,5 @@
 -- How a setup goes.
-use Rattle.std.specs.Prelude.{◌≡◌, ℕ, ◌<◌, ◌≤◌, map, replicate, true, false}
+use Rattle.std.specs.Prelude.{◌≡◌, ◌⊎◌, ℕ, ◌<◌, ◌≤◌, map, replicate, true, false}
 use Rattle.ls_checked.specs.CheckedTree.{File}
 use Rattle.ls_checked.specs.CheckedProgram.{Program}
 use Rattle.ls_meaning.specs.Runs.{source_run, source_trace}
@@ -28,6 +28,10 @@ pub record GoesOnFor (file : File) (program : Program) (k : ℕ) : Type 0 where
 pub record SticksAt (file : File) (program : Program) (k : ℕ) : Type 0 where
   pub stuck : IsStuck file program k
   pub acts : map (λ e. e.thread) (source_trace file program (replicate k 0)) ≡ replicate k 0
+
+-- it ends, or stands still, after so many steps
+abbrev pub StopsAt : File → Program → ℕ → Type 0
+StopsAt file program k = EndsAt file program k ⊎ SticksAt file program k
 
 abbrev pub IsSetting : File → Program → Setting → Type 0
 IsSetting file program (Ends k) = EndsAt file program k

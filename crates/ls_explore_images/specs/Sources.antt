@@ -1,14 +1,13 @@
 -- What the rows of an exploration of the source tell, and why there are none.
-use Rattle.std.specs.Prelude.{◌≡◌, ◌≢◌, ◌≤◌, ℕ, Bool, true, false, List, IsSorted, Contains}
+use Rattle.std.specs.Prelude.{◌≡◌, ◌≤◌, ℕ, Bool, true, false, List, IsSorted}
 use Rattle.ls_checked.specs.CheckedTree.{File}
 use Rattle.ls_checked.specs.CheckedProgram.{Program}
-use Rattle.ls_events.specs.Beginnings.{IsBeginning}
 use Rattle.ls_source_rows.specs.declared.rows.Ending.{Ending as SourceEnding}
 use Rattle.ls_source_rows.specs.declared.rows.Ending.TheVariants as source
 use Rattle.ls_source_rows.specs.declared.rows.Row.{Row as SourceRow}
 use Rattle.ls_explore.specs.declared.rows.Ending.{Ending}
 use Rattle.ls_explore.specs.declared.rows.Ending.TheVariants as ending
-use Rattle.ls_explore.specs.Rows.{AreApart, IsEnd, TellStates, Told, row_order}
+use Rattle.ls_explore.specs.Rows.{AreApart, NoneEnds, StandAlone, TellStates, Told, row_order}
 use Rattle.ls_explore_images.specs.Faults.{AreBadStates}
 use Rattle.ls_explore_images.specs.Settings.{GoesOnFor}
 use Rattle.ls_explore_images.specs.Tellings.{TellTruth, TellWhole}
@@ -27,15 +26,6 @@ ending_of source.NotSeen = ending.NotSeen
 
 abbrev pub told_of : SourceRow → Told
 told_of r = record { path = r.path.items; history = r.history.items; ending = ending_of r.ending }
-
--- the history of a row that doesn't end begins that of no other
-abbrev pub StandAlone : List Told → Type 0
-StandAlone rows = (r s : Told) → Contains rows r → Contains rows s → (IsEnd r.ending → ⊥) →
-    IsBeginning r.history s.history → r.history ≡ s.history
-
--- no row ends so
-abbrev pub NoneEnds : Ending → List Told → Type 0
-NoneEnds e rows = (r : Told) → Contains rows r → r.ending ≢ e
 
 -- Rows that tell the truth, the shortest schedule first, no two with one history. So many states were kept, at most
 -- the limit. If the rows are complete, they tell of all schedules, and it was seen how each row ends. If they are cut,

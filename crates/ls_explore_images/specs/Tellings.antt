@@ -5,7 +5,8 @@ use Rattle.ls_checked.specs.CheckedProgram.{Program}
 use Rattle.ls_meaning.specs.Runs.{source_run, source_history}
 use Rattle.ls_headline.specs.Same.{Fits}
 use Rattle.ls_meaning.specs.Still.{IsOver}
-use Rattle.ls_explore.specs.declared.rows.Ending.TheVariants.{GoesOn, Over}
+use Rattle.ls_explore_laws.specs.Room.{IsFull}
+use Rattle.ls_explore.specs.declared.rows.Ending.TheVariants.{GoesOn, OutOfCells, Over}
 use Rattle.ls_explore.specs.Rows.{ActAll, HasEnd, IsToldBy, Told}
 
 -- the schedule of a row: so many steps of the setup, and then one of each thread of its path
@@ -25,6 +26,19 @@ pub record TellTruth (file : File) (program : Program) (k : ℕ) (rows : List To
       Contains rows r →
       r.ending ≡ Over →
       IsOver file program (source_run file program (schedule_of k r))
+
+-- the schedule of each row fits the cells
+abbrev pub AllFit : File → Program → ℕ → ℕ → List Told → Type 0
+AllFit file program cells k rows = (r : Told) → Contains rows r → Fits file program cells (schedule_of k r)
+
+-- after the schedule of a row that is out of cells a thread's next step acts, and none acts for which there is room
+abbrev pub AreFull : File → Program → ℕ → ℕ → List Told → Type 0
+AreFull file program cells k rows =
+    (r : Told) → Contains rows r → r.ending ≡ OutOfCells → IsFull file program cells (schedule_of k r)
+
+-- some schedule doesn't fit the cells
+abbrev pub IsNarrow : File → Program → ℕ → Type 0
+IsNarrow file program cells = (schedule : List ℕ) × ¬ Fits file program cells schedule
 
 -- The history of each schedule of source steps that fits the cells, of any length, is the beginning of a row's; and
 -- that of one after which no thread acts is that of a row that ends.

@@ -1,20 +1,22 @@
 // All schedules of the program of an image.
 
 ghost use Rattle.ls_code.specs.Limits.{most_instructions};
-ghost use Rattle.std.specs.Prelude.{◌≡◌, ◌<◌, ◌≤◌, ◌⊎◌, ◌↔◌, ℕ, IfErr, IfOk, IsErrOf, IsSorted, IsTrue, false};
+ghost use Rattle.std.specs.Prelude.{◌≡◌, ◌<◌, ◌≤◌, ◌⊎◌, ◌↔◌, ◌∷◌, [], IfErr, IfOk, IsErrOf, IsSorted, IsTrue, false};
 ghost use Rattle.std.specs.Prelude.{length, true};
 ghost use Rattle.ls_headline.specs.Same.{IsCells};
 ghost use Rattle.ls_image.specs.Images.{code_of_image};
 ghost use Rattle.ls_machine.specs.Room.{AreBadCells};
 ghost use Rattle.ls_translation.specs.Texts.{file_of, program_of};
-ghost use Rattle.ls_explore.specs.Rows.{AreApart, TellStates, row_order};
+ghost use Rattle.ls_explore.specs.declared.rows.Ending.TheVariants.{NotSeen};
+ghost use Rattle.ls_explore.specs.Rows.{AreApart, NoneEnds, StandAlone, TellStates, row_order};
 ghost use Rattle.ls_explore.specs.Watching.{GoesOn};
 ghost use Rattle.ls_explore_images.specs.Faults.{AreBadStates, AreGood, IsEndless, IsLate, IsOfSetup};
 ghost use Rattle.ls_explore_images.specs.Settings.{EndsAt, SticksAt};
-ghost use Rattle.ls_explore_images.specs.Tellings.{TellAll, TellTruth, TellWhole};
+ghost use Rattle.ls_explore_images.specs.Tellings.{AllFit, AreFull, IsNarrow, TellAll, TellTruth, TellWhole};
 
 use crate::fault::ExploreFault;
-use crate::setting::{Setting, set_up, setting_of, setup_steps};
+use crate::room::has_room;
+use crate::setting::{Setting, set_up, setting_of, setup_steps, translated};
 use ls_explore::{Ending, Exploration, Extent, Row, Watch, explore};
 use ls_explore_laws::laws::stuck_covers;
 use ls_image::image::Image;
@@ -63,28 +65,47 @@ pub(crate) fn are_bad_states(states: usize) -> bool
     states == 0 || states > MOST_STATES
 }
 
-/// What there is of a setup that stands still after so many steps: its history alone.
-fn explore_stuck(alloc: Global, image: &Image, count: usize) -> Result<ImageExploration, AllocError>
+/// A row alone.
+fn one_row(alloc: Global, row: Row) -> Result<Vec<Row>, AllocError>
+    ensures { IfOk result (λ rows. rows.items ≡ row ∷ []) }
+{
+    Ok(vec![in alloc; row]?)
+}
+
+/// What there is of a setup that stands still after so many steps, where these fit the cells: its history alone.
+fn explore_stuck(
+    alloc: Global,
+    image: &Image,
+    cells: usize,
+    count: usize,
+) -> Result<ImageExploration, ExploreFault>
     requires few { count ≤ 100000 }
     requires stuck { SticksAt (file_of image.now) (program_of image.now) count }
+    ensures late { IfErr result
+        (IsLate (file_of image.now) (program_of image.now) (code_of_image image.now) cells count) }
     ensures told { IfOk result (λ e. TellTruth (file_of image.now) (program_of image.now) e.setup e.rows.items) }
+    ensures fits { IfOk result (λ e. AllFit (file_of image.now) (program_of image.now) cells e.setup e.rows.items) }
+    ensures full { IfOk result (λ e. AreFull (file_of image.now) (program_of image.now) cells e.setup e.rows.items) }
     ensures found { IfOk result
         (λ e. TellStates (file_of image.now) (program_of image.now) e.setup e.rows.items e.states) }
+    ensures one { IfOk result (λ e. e.states ≡ 1) }
     ensures complete { IfOk result (λ e. e.complete ≡ true) }
-    ensures tells { (cells : ℕ) →
-        IfOk result (λ e. IsTrue e.complete → TellAll (file_of image.now) (program_of image.now) cells e.rows.items) }
-    ensures whole { IfOk result (λ e. IsTrue e.complete → IsTrue e.roomy →
-        TellWhole (file_of image.now) (program_of image.now) e.rows.items) }
+    ensures roomy { IfOk result (λ e. e.roomy ≡ true) }
+    ensures whole { IfOk result (λ e. TellWhole (file_of image.now) (program_of image.now) e.rows.items) }
+    ensures seen { IfOk result (λ e. NoneEnds NotSeen e.rows.items) }
+    ensures alone { IfOk result (λ e. StandAlone e.rows.items) }
     ensures apart { IfOk result (λ e. AreApart e.rows.items) }
     ensures order { IfOk result (λ e. IsSorted row_order e.rows.items) }
 {
     stuck_covers();
+    let fitting = translated(alloc, image, cells, count)?;
     let steps = setup_steps(alloc, count)?;
     let history = play_source(alloc, image, &steps)?;
     let row = Row::new(alloc, &[], history.as_slice(), Ending::Over)?;
+    let rows = one_row(alloc, row)?;
     Ok(ImageExploration {
         setup: count,
-        rows: vec![in alloc; row]?,
+        rows,
         complete: true,
         roomy: true,
         states: 1,
@@ -102,6 +123,7 @@ fn explore_rest<W: Watch>(
 ) -> Result<ImageExploration, ExploreFault>
     requires cells { IsCells (code_of_image image.now) cells }
     requires few { count ≤ 100000 }
+    requires some { 1 ≤ states }
     requires ends { EndsAt (file_of image.now) (program_of image.now) count }
     ensures watched { GoesOn W.Since watch.old watch.new }
     ensures late { IfErr result
@@ -109,7 +131,13 @@ fn explore_rest<W: Watch>(
     ensures told { IfOk result (λ e. TellTruth (file_of image.now) (program_of image.now) e.setup e.rows.items) }
     ensures found { IfOk result
         (λ e. TellStates (file_of image.now) (program_of image.now) e.setup e.rows.items e.states) }
+    ensures few { IfOk result (λ e. e.states ≤ states) }
     ensures cut { IfOk result (λ e. e.complete ≡ false → states ≤ e.states) }
+    ensures fits { IfOk result (λ e. AllFit (file_of image.now) (program_of image.now) cells e.setup e.rows.items) }
+    ensures full { IfOk result (λ e. AreFull (file_of image.now) (program_of image.now) cells e.setup e.rows.items) }
+    ensures narrow { IfOk result (λ e. e.roomy ≡ false → IsNarrow (file_of image.now) (program_of image.now) cells) }
+    ensures seen { IfOk result (λ e. IsTrue e.complete → NoneEnds NotSeen e.rows.items) }
+    ensures alone { IfOk result (λ e. StandAlone e.rows.items) }
     ensures tells { IfOk result (λ e. IsTrue e.complete →
         TellAll (file_of image.now) (program_of image.now) cells e.rows.items) }
     ensures whole { IfOk result (λ e. IsTrue e.complete → IsTrue e.roomy →
@@ -118,6 +146,7 @@ fn explore_rest<W: Watch>(
     ensures order { IfOk result (λ e. IsSorted row_order e.rows.items) }
 {
     acts_in_time(image);
+    has_room(image);
     is_short(image);
     let steps = set_up(alloc, image, cells, count)?;
     let threads = count_threads(image);
@@ -144,18 +173,20 @@ fn explore_rest<W: Watch>(
 /// on it tells how many there are.
 ///
 /// Each row's history is that of its schedule of source steps: the steps of the setup, and then one step of each
-/// thread of the row's path. After the schedule of a row that is over no thread acts: each has ended, is trapped, or
-/// waits for ever.
+/// thread of the row's path. The schedule fits the cells. After the schedule of a row that is over no thread acts: each
+/// has ended, is trapped, or waits for ever. After that of a row that is out of cells some thread acts, and no thread
+/// for whose next step there is room.
 ///
 /// If the rows are complete, take a schedule of source steps that fits the cells, of any length. Its history is the
 /// beginning of a row's. If no thread acts after the schedule, its history is that of a row that ends. If the rows
-/// are roomy too, this is so of each schedule, whether it fits or not. A setup that is trapped has its one history.
+/// are roomy too, this is so of each schedule, whether it fits or not. If they aren't roomy, some schedule doesn't fit.
+/// A setup that is trapped has its one history.
 ///
 /// If the rows are cut, as many states were kept as may be. Each state has a path of its own, whose steps act after the
 /// setup's, and its history is the beginning of a row's. So there is a row.
 ///
-/// No history stands twice. The row of the shortest schedule comes first, and of those of one length the row of the
-/// least.
+/// No history stands twice, and that of a row that doesn't end begins no other. The row of the shortest schedule comes
+/// first, and of those of one length the row of the least.
 ///
 /// Refused with 35 as `replay` is; else with 61 if no states may be kept, or more than 16,777,216. Else, where memory
 /// doesn't run out, refused with 62 exactly if the setup acts in each of 100,001 source steps, and has not ended in
@@ -179,7 +210,13 @@ pub fn explore_image<W: Watch>(
     ensures told { IfOk result (λ e. TellTruth (file_of image.now) (program_of image.now) e.setup e.rows.items) }
     ensures found { IfOk result
         (λ e. TellStates (file_of image.now) (program_of image.now) e.setup e.rows.items e.states) }
+    ensures few { IfOk result (λ e. e.states ≤ states) }
     ensures cut { IfOk result (λ e. e.complete ≡ false → states ≤ e.states) }
+    ensures fits { IfOk result (λ e. AllFit (file_of image.now) (program_of image.now) cells e.setup e.rows.items) }
+    ensures full { IfOk result (λ e. AreFull (file_of image.now) (program_of image.now) cells e.setup e.rows.items) }
+    ensures narrow { IfOk result (λ e. e.roomy ≡ false → IsNarrow (file_of image.now) (program_of image.now) cells) }
+    ensures seen { IfOk result (λ e. IsTrue e.complete → NoneEnds NotSeen e.rows.items) }
+    ensures alone { IfOk result (λ e. StandAlone e.rows.items) }
     ensures tells { IfOk result (λ e. IsTrue e.complete →
         TellAll (file_of image.now) (program_of image.now) cells e.rows.items) }
     ensures whole { IfOk result (λ e. IsTrue e.complete → IsTrue e.roomy →
@@ -199,7 +236,7 @@ pub fn explore_image<W: Watch>(
     let setting = setting_of(alloc, file, program)?;
     match setting {
         Setting::Ends(count) => explore_rest(alloc, image, cells, states, count, watch),
-        Setting::Sticks(count) => Ok(explore_stuck(alloc, image, count)?),
+        Setting::Sticks(count) => explore_stuck(alloc, image, cells, count),
         Setting::GoesOn => Err(ExploreFault::SetupEndless),
     }
 }

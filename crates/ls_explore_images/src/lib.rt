@@ -3,6 +3,7 @@
 
 mod exploring;
 mod fault;
+mod room;
 mod setting;
 mod source;
 

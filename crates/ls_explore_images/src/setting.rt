@@ -1,10 +1,11 @@
 // The setup of a program, from the source and on a machine.
 
-ghost use Rattle.std.specs.Prelude.{◌≡◌, ◌≤◌, IfErr, IfOk, replicate};
+ghost use Rattle.std.specs.Prelude.{◌≡◌, ◌≤◌, IfErr, IfOk, OnOk, replicate};
 ghost use Rattle.ls_code.specs.Machine.{loaded, machine_run};
 ghost use Rattle.ls_checked.specs.Plain.{plain_file};
 ghost use Rattle.ls_checked.specs.PlainProgram.{plain_program};
-ghost use Rattle.ls_headline.specs.Same.{IsCells};
+ghost use Rattle.ls_headline.specs.Same.{Fits, IsCells};
+ghost use Rattle.ls_headline.specs.Translations.{to_machine};
 ghost use Rattle.ls_image.specs.Images.{code_of_image};
 ghost use Rattle.ls_explore_laws.specs.Explored.{IsSetUp};
 ghost use Rattle.ls_explore_images.specs.Faults.{IsLate};
@@ -86,6 +87,25 @@ pub(crate) fn setup_steps(alloc: Global, count: usize) -> Result<Schedule, Alloc
     Ok(Schedule::of(steps))
 }
 
+/// The steps of a machine of an image, with so many cells, for so many source steps of the setup, which fit.
+pub(crate) fn translated(
+    alloc: Global,
+    image: &Image,
+    cells: usize,
+    count: usize,
+) -> Result<Schedule, ExploreFault>
+    requires few { count ≤ 100000 }
+    ensures late { IfErr result
+        (IsLate (file_of image.now) (program_of image.now) (code_of_image image.now) cells count) }
+    ensures fits { OnOk result (Fits (file_of image.now) (program_of image.now) cells (replicate count 0)) }
+    ensures steps { IfOk result (λ steps. steps ≡
+        to_machine (file_of image.now) (program_of image.now) (code_of_image image.now) cells (replicate count 0)) }
+{
+    let source = setup_steps(alloc, count)?;
+    let translation = to_machine(alloc, image, cells, &source)?;
+    Ok(translation)
+}
+
 /// The steps of a machine of an image, with so many cells, that set its program up, if its source does so with so
 /// many steps.
 pub(crate) fn set_up(
@@ -108,7 +128,6 @@ pub(crate) fn set_up(
     ends_in_time(image);
     has_setup(image);
     sets_up();
-    let source = setup_steps(alloc, count)?;
-    let steps = to_machine(alloc, image, cells, &source)?;
+    let steps = translated(alloc, image, cells, count)?;
     Ok(steps)
 }

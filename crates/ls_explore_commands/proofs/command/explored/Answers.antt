@@ -48,7 +48,8 @@ returns-in_err-text-clause-gives g c =
     judged_so c.linearity_is_meant.ensures c.none_is_illegal.ensures.whole c.none_is_not_linearizable.ensures.whole i
     c.args.exploring.cells c.args.exploring.states c.args.exploring.order found.setup found.rows.items judged
     found.states found.complete found.roomy of_rows c.in_ok-found.ensures.found.truth c.in_ok-found.ensures.found.states
-    c.in_ok-found.ensures.found.cut c.in_ok-found.ensures.found.by c.in_ok-found.ensures.found.whole
+    c.in_ok-found.ensures.found.few c.in_ok-found.ensures.found.cut c.in_ok-found.ensures.found.by
+    c.in_ok-found.ensures.found.whole
     c.in_ok-found.ensures.found.apart c.in_ok-found.ensures.found.order verdicts linear below
     in
     let p = err_from_is_err_and c.from_residual-in_err-text.result c.from_residual-in_err-text.ensures.1 in
@@ -84,7 +85,8 @@ returns-clause-gives g c =
     explore_tells i e found.setup judged found.states found.complete found.roomy t c.in_ok-found.ensures.found.good
     (judged_so c.linearity_is_meant.ensures c.none_is_illegal.ensures.whole c.none_is_not_linearizable.ensures.whole i
     e.cells e.states e.order found.setup found.rows.items judged found.states found.complete found.roomy of_rows
-    c.in_ok-found.ensures.found.truth c.in_ok-found.ensures.found.states c.in_ok-found.ensures.found.cut
+    c.in_ok-found.ensures.found.truth c.in_ok-found.ensures.found.states c.in_ok-found.ensures.found.few
+    c.in_ok-found.ensures.found.cut
     c.in_ok-found.ensures.found.by c.in_ok-found.ensures.found.whole c.in_ok-found.ensures.found.apart
     c.in_ok-found.ensures.found.order verdicts linear below)
     said

@@ -23,8 +23,10 @@ returns-in-Some-clause-found g c =
     subst (λ (o : Option ℕ). IfOk c.explore_image.result (IsFound c.args.image.now o c.args.exploring.states))
     (sym c.in-Some.is)
     (machine_found c.args.image.now c.args.exploring.states c.in-Some.cells c.explore_image.result
-    c.explore_image.ensures.good c.explore_image.ensures.told c.explore_image.ensures.found
-    c.explore_image.ensures.cut c.explore_image.ensures.tells c.explore_image.ensures.whole
+    c.explore_image.ensures.good c.explore_image.ensures.told c.explore_image.ensures.found c.explore_image.ensures.few
+    c.explore_image.ensures.cut c.explore_image.ensures.fits c.explore_image.ensures.full
+    c.explore_image.ensures.narrow c.explore_image.ensures.seen c.explore_image.ensures.alone
+    c.explore_image.ensures.tells c.explore_image.ensures.whole
     c.explore_image.ensures.apart c.explore_image.ensures.order)
 
 pub returns-in-Some-clause-refused : goal.returns-in-Some-clause-refused

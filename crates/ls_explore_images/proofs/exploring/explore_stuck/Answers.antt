@@ -3,41 +3,30 @@ use Rattle.ls_checked.specs.CheckedTree.{File}
 use Rattle.ls_checked.specs.CheckedProgram.{Program}
 use Rattle.ls_meaning.specs.Runs.{source_history}
 use Rattle.ls_translation.specs.Texts.{file_of, program_of}
-use Rattle.ls_explore.specs.Rows.{TellStates, Told}
-use Rattle.ls_explore_images.specs.Tellings.{TellAll, TellTruth, TellWhole}
-use Rattle.ls_explore_images.proofs.Tellings.{one_apart, one_in_order, stuck_all, stuck_states, stuck_truth}
-use Rattle.ls_explore_images.proofs.Tellings.{stuck_whole}
+use Rattle.ls_explore.specs.declared.rows.Ending.TheVariants.{NotSeen}
+use Rattle.ls_explore.specs.Rows.{NoneEnds, StandAlone, TellStates, Told}
+use Rattle.ls_explore_images.specs.Tellings.{AllFit, AreFull, TellTruth, TellWhole}
+use Rattle.ls_explore_images.proofs.Tellings.{one_apart, one_in_order, stuck_alone, stuck_fits, stuck_full, stuck_seen}
+use Rattle.ls_explore_images.proofs.Tellings.{stuck_states, stuck_truth, stuck_whole}
 use Rattle.ls_explore_images.proofs.exploring.explore_stuck.Goals as goal
 
-pub returns-clause-tells : goal.returns-clause-tells
-returns-clause-tells c = λ cells yes.
-    let file : File = file_of c.args.image.now in
-    let program : Program = program_of c.args.image.now in
-    let row : Told = c.in_ok-row.row in
-    let has : row.history ≡ source_history file program (replicate c.args.count 0) =
-    ap (λ (r : Told). r.history) c.in_ok-row.ensures ∙ c.as_slice.ensures.value ∙ c.in_ok-history.ensures ∙
-    ap (source_history file program) c.in_ok-steps.ensures in
-    subst (TellAll file program cells) (sym c.in_ok-vec.ensures.items)
-    (stuck_all file program c.args.count (c.stuck_covers.ensures file program c.args.count c.requires.stuck.stuck) row
-    (ap (λ (r : Told). r.path) c.in_ok-row.ensures) has (ap (λ (r : Told). r.ending) c.in_ok-row.ensures) cells)
-
 pub returns-clause-whole : goal.returns-clause-whole
-returns-clause-whole c = λ yes room.
+returns-clause-whole c =
     let file : File = file_of c.args.image.now in
     let program : Program = program_of c.args.image.now in
     let row : Told = c.in_ok-row.row in
     let has : row.history ≡ source_history file program (replicate c.args.count 0) =
     ap (λ (r : Told). r.history) c.in_ok-row.ensures ∙ c.as_slice.ensures.value ∙ c.in_ok-history.ensures ∙
     ap (source_history file program) c.in_ok-steps.ensures in
-    subst (TellWhole file program) (sym c.in_ok-vec.ensures.items)
+    subst (TellWhole file program) (sym c.in_ok-rows.ensures)
     (stuck_whole file program c.args.count (c.stuck_covers.ensures file program c.args.count c.requires.stuck.stuck) row
     (ap (λ (r : Told). r.path) c.in_ok-row.ensures) has (ap (λ (r : Told). r.ending) c.in_ok-row.ensures))
 
 pub returns-clause-apart : goal.returns-clause-apart
-returns-clause-apart c = one_apart _ c.in_ok-row.row c.in_ok-vec.ensures.items
+returns-clause-apart c = one_apart _ c.in_ok-row.row c.in_ok-rows.ensures
 
 pub returns-clause-order : goal.returns-clause-order
-returns-clause-order c = one_in_order _ c.in_ok-row.row c.in_ok-vec.ensures.items
+returns-clause-order c = one_in_order _ c.in_ok-row.row c.in_ok-rows.ensures
 
 pub returns-clause-told : goal.returns-clause-told
 returns-clause-told c =
@@ -47,7 +36,7 @@ returns-clause-told c =
     let has : row.history ≡ source_history file program (replicate c.args.count 0) =
     ap (λ (r : Told). r.history) c.in_ok-row.ensures ∙ c.as_slice.ensures.value ∙ c.in_ok-history.ensures ∙
     ap (source_history file program) c.in_ok-steps.ensures in
-    subst (TellTruth file program c.args.count) (sym c.in_ok-vec.ensures.items)
+    subst (TellTruth file program c.args.count) (sym c.in_ok-rows.ensures)
     (stuck_truth file program c.args.count (c.stuck_covers.ensures file program c.args.count c.requires.stuck.stuck) row
     (ap (λ (r : Told). r.path) c.in_ok-row.ensures) has (ap (λ (r : Told). r.ending) c.in_ok-row.ensures)
     c.requires.stuck.acts)
@@ -60,7 +49,56 @@ returns-clause-found c =
     let has : row.history ≡ source_history file program (replicate c.args.count 0) =
     ap (λ (r : Told). r.history) c.in_ok-row.ensures ∙ c.as_slice.ensures.value ∙ c.in_ok-history.ensures ∙
     ap (source_history file program) c.in_ok-steps.ensures in
-    subst (λ rows. TellStates file program c.args.count rows 1) (sym c.in_ok-vec.ensures.items)
+    subst (λ rows. TellStates file program c.args.count rows 1) (sym c.in_ok-rows.ensures)
     (stuck_states file program c.args.count (c.stuck_covers.ensures file program c.args.count c.requires.stuck.stuck)
     row (ap (λ (r : Told). r.path) c.in_ok-row.ensures) has (ap (λ (r : Told). r.ending) c.in_ok-row.ensures)
     c.requires.stuck.acts)
+
+pub returns-clause-fits : goal.returns-clause-fits
+returns-clause-fits c =
+    let file : File = file_of c.args.image.now in
+    let program : Program = program_of c.args.image.now in
+    let row : Told = c.in_ok-row.row in
+    let has : row.history ≡ source_history file program (replicate c.args.count 0) =
+    ap (λ (r : Told). r.history) c.in_ok-row.ensures ∙ c.as_slice.ensures.value ∙ c.in_ok-history.ensures ∙
+    ap (source_history file program) c.in_ok-steps.ensures in
+    subst (AllFit file program c.args.cells c.args.count) (sym c.in_ok-rows.ensures)
+    (stuck_fits file program c.args.count (c.stuck_covers.ensures file program c.args.count c.requires.stuck.stuck) row
+    (ap (λ (r : Told). r.path) c.in_ok-row.ensures) has (ap (λ (r : Told). r.ending) c.in_ok-row.ensures) c.args.cells
+    c.in_ok-fitting.ensures.fits)
+
+pub returns-clause-full : goal.returns-clause-full
+returns-clause-full c =
+    let file : File = file_of c.args.image.now in
+    let program : Program = program_of c.args.image.now in
+    let row : Told = c.in_ok-row.row in
+    let has : row.history ≡ source_history file program (replicate c.args.count 0) =
+    ap (λ (r : Told). r.history) c.in_ok-row.ensures ∙ c.as_slice.ensures.value ∙ c.in_ok-history.ensures ∙
+    ap (source_history file program) c.in_ok-steps.ensures in
+    subst (AreFull file program c.args.cells c.args.count) (sym c.in_ok-rows.ensures)
+    (stuck_full file program c.args.count (c.stuck_covers.ensures file program c.args.count c.requires.stuck.stuck) row
+    (ap (λ (r : Told). r.path) c.in_ok-row.ensures) has (ap (λ (r : Told). r.ending) c.in_ok-row.ensures) c.args.cells)
+
+pub returns-clause-seen : goal.returns-clause-seen
+returns-clause-seen c =
+    let file : File = file_of c.args.image.now in
+    let program : Program = program_of c.args.image.now in
+    let row : Told = c.in_ok-row.row in
+    let has : row.history ≡ source_history file program (replicate c.args.count 0) =
+    ap (λ (r : Told). r.history) c.in_ok-row.ensures ∙ c.as_slice.ensures.value ∙ c.in_ok-history.ensures ∙
+    ap (source_history file program) c.in_ok-steps.ensures in
+    subst (NoneEnds NotSeen) (sym c.in_ok-rows.ensures)
+    (stuck_seen file program c.args.count (c.stuck_covers.ensures file program c.args.count c.requires.stuck.stuck) row
+    (ap (λ (r : Told). r.path) c.in_ok-row.ensures) has (ap (λ (r : Told). r.ending) c.in_ok-row.ensures))
+
+pub returns-clause-alone : goal.returns-clause-alone
+returns-clause-alone c =
+    let file : File = file_of c.args.image.now in
+    let program : Program = program_of c.args.image.now in
+    let row : Told = c.in_ok-row.row in
+    let has : row.history ≡ source_history file program (replicate c.args.count 0) =
+    ap (λ (r : Told). r.history) c.in_ok-row.ensures ∙ c.as_slice.ensures.value ∙ c.in_ok-history.ensures ∙
+    ap (source_history file program) c.in_ok-steps.ensures in
+    subst (StandAlone) (sym c.in_ok-rows.ensures)
+    (stuck_alone file program c.args.count (c.stuck_covers.ensures file program c.args.count c.requires.stuck.stuck) row
+    (ap (λ (r : Told). r.path) c.in_ok-row.ensures) has (ap (λ (r : Told). r.ending) c.in_ok-row.ensures))
