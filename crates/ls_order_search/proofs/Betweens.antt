@@ -11,7 +11,7 @@ use Rattle.ls_order_search.specs.Plans.{Among, Distinct, IsPlan, has_end}
 use Rattle.ls_order_search.specs.Search.{HasPlan, CalledAfter, CalledFrom, Between, Calls, Closed, Due, Lasting}
 use Rattle.ls_order_search.specs.Search.{LastUntil, NoPlanOn, NotDue, Open, Passed, Rising, Stuck, Within, is_item}
 use Rattle.ls_order_search.specs.Search.{on_items}
-use Rattle.ls_order_search.proofs.Lists.{among_back, among_cases, among_front}
+use Rattle.ls_order_search.proofs.Lists.{among_back, among_cases, among_front, distinct_front}
 use Rattle.ls_order_search.proofs.Sets.{Same}
 use Rattle.ls_order_search.proofs.Steps.{plan_same, sooner}
 use Rattle.ls_order_search.proofs.Legality.{distinct_rising}
@@ -119,6 +119,15 @@ opened_to events calls at next s pool placed d more end to o due e from le own =
       within = omega arith;
       lasts = λ l. ends_more at end to pool more (get_or calls next d) e le own (b.lasts l) (o.lasts l);
     }
+
+-- the next call is none of the open calls
+pub one_more : (events : ℕ) (calls : Calls) (at next : ℕ) (s : Set) (pool placed : Calls) (d : SetCall) (end : ℕ) →
+    Open events calls at next s pool placed end →
+    Due at calls next →
+    Distinct (pool ++ get_or calls next d ∷ [])
+one_more events calls at next s pool placed d end o due = distinct_front (pool ++ get_or calls next d ∷ [])
+    (drop (next + 1) calls) (opened_at events calls at next s pool placed d (pool ++ get_or calls next d ∷ []) o.between
+    due refl).distinct
 
 -- before the first event nothing is placed or open
 pub starts : (events : ℕ) (calls : Calls) (s : Set) (pool placed : Calls) →

@@ -1,6 +1,6 @@
 -- Calls in lists.
-use Rattle.std.proofs.Common.{◌≡◌, ◌∙◌, ◌⊎◌, inl, inr, ℕ, zero, suc, ◌<◌, false, List, [], ◌∷◌, ◌++◌, length, get_or}
-use Rattle.std.proofs.Common.{take, drop, refl, sym, ap, subst, suc-le-suc, zero-le, not-suc-le-zero, le_of_suc-le-suc}
+use Rattle.std.proofs.Common.{◌≡◌, ◌∙◌, ◌⊎◌, inl, inr, ℕ, false, List, [], ◌∷◌, ◌++◌}
+use Rattle.std.proofs.Common.{refl, sym, ap, subst}
 use Rattle.ls_orders.specs.declared.calls.SetCall.{SetCall}
 use Rattle.ls_orders.specs.Rules.{ended_before}
 use Rattle.ls_order_search.specs.Plans.{Among, Distinct, MayPrecede, Ordered}
@@ -88,6 +88,11 @@ ordered_apart c x (y ∷ f) b h (inr a) e = ordered_apart c x f b h.1 a e
 pub distinct_without : (f : List SetCall) (x : SetCall) (b : List SetCall) → Distinct (f ++ x ∷ b) → Distinct (f ++ b)
 distinct_without [] x b h = h.1
 distinct_without (y ∷ f) x b h = (λ z a. h.0 z (among_with z x f b a), distinct_without f x b h.1)
+
+-- the first of distinct calls
+pub distinct_front : (f b : List SetCall) → Distinct (f ++ b) → Distinct f
+distinct_front [] b h = tt
+distinct_front (y ∷ f) b h = (λ z a. h.0 z (among_front z f b a), distinct_front f b h.1)
 
 -- no other call has its place
 pub distinct_apart : (c x : SetCall) (f b : List SetCall) →
@@ -182,40 +187,3 @@ swap_apart c k x [] m b h a e = go (among_either c k m b a)
 swap_apart c k x (y ∷ f) m b h (inl i) e =
     (h.0 x (among_back x f (k ∷ (m ++ x ∷ b)) (inr (among_it x m b)))).apart (ap (λ (d : SetCall). d.called) i ∙ e)
 swap_apart c k x (y ∷ f) m b h (inr a) e = swap_apart c k x f m b h.1 a e
-
--- ---- by places
-
--- the call at a number
-pub among_at : (xs : List SetCall) (i : ℕ) (d : SetCall) → i < length xs → Among (get_or xs i d) xs
-among_at [] i d lt = absurd (not-suc-le-zero lt)
-among_at (x ∷ xs) zero d lt = inl refl
-among_at (x ∷ xs) (suc i) d lt = inr (among_at xs i d (le_of_suc-le-suc lt))
-
--- what fails at each place holds of none among them
-pub none_among : (P : SetCall → Type 0) (xs : List SetCall) →
-    ((i : ℕ) (d : SetCall) → i < length xs → P (get_or xs i d) → ⊥) →
-    (c : SetCall) →
-    Among c xs →
-    P c →
-    ⊥
-none_among P [] h c a p = a
-none_among P (x ∷ xs) h c (inl e) p = h 0 x (suc-le-suc zero-le) (subst P (sym e) p)
-none_among P (x ∷ xs) h c (inr a) p = none_among P xs (λ i d lt. h (suc i) d (suc-le-suc lt)) c a p
-
--- what holds at each number holds of each call
-pub all_among : (P : SetCall → Type 0) (xs : List SetCall) (d : SetCall) →
-    ((i : ℕ) → i < length xs → P (get_or xs i d)) →
-    (c : SetCall) →
-    Among c xs →
-    P c
-all_among P [] d h c a = absurd a
-all_among P (x ∷ xs) d h c (inl e) = subst P e (h 0 (suc-le-suc zero-le))
-all_among P (x ∷ xs) d h c (inr a) = all_among P xs d (λ i lt. h (suc i) (suc-le-suc lt)) c a
-
--- a call is taken out of a list
-pub taken_out : (xs : List SetCall) (i : ℕ) (d : SetCall) →
-    i < length xs →
-    xs ≡ take i xs ++ get_or xs i d ∷ drop (suc i) xs
-taken_out [] i d lt = absurd (not-suc-le-zero lt)
-taken_out (x ∷ xs) zero d lt = refl
-taken_out (x ∷ xs) (suc i) d lt = ap (λ l. x ∷ l) (taken_out xs i d (le_of_suc-le-suc lt))

@@ -335,3 +335,12 @@ calls_filter q events calls h = record {
   within = λ c a. h.within c (filter_among q calls c a).0;
   lasting = λ c a. h.lasting c (filter_among q calls c a).0;
 }
+
+-- if no call is trapped, there is nothing to settle
+pub none_trapped : (calls : Calls) (marks : List Bool) → list_any (λ c. is_trapped c.end) calls ≡ false →
+    Settled calls marks
+none_trapped calls marks none item = inr (λ c a e. by c a (is_trapped c.end) refl)
+  where
+    by : (c : SetCall) → Among c calls → (b : Bool) → is_trapped c.end ≡ b → is_trapped c.end ≡ false
+    by c a false t = t
+    by c a true t = absurd (true≢false (sym (any_some (λ d. is_trapped d.end) calls c a t) ∙ none))

@@ -1,32 +1,10 @@
 -- Events are passed over at which no call comes or ends.
-use Rattle.std.proofs.Common.{◌≡◌, ◌∙◌, ◌⊎◌, ◌+◌, ◌<◌, ◌≤◌, inl, inr, ℕ, false, [], ◌∷◌, ◌++◌, length, get_or, drop}
-use Rattle.std.proofs.Common.{take, min, refl, sym, ap, subst, arith}
-use Rattle.std.proofs.lemmas.List.{drop_more, get_or_default, take_more}
+use Rattle.std.proofs.Common.{◌≡◌, ◌∙◌, ◌⊎◌, ◌+◌, ◌<◌, ◌≤◌, inl, inr, ℕ, ◌∷◌, length, get_or, drop}
+use Rattle.std.proofs.Common.{min, refl, sym, ap, subst, arith}
+use Rattle.std.proofs.lemmas.List.{drop_more, get_or_default}
 use Rattle.ls_orders.specs.declared.calls.SetCall.{SetCall}
-use Rattle.ls_orders.specs.Rules.{ended_before}
 use Rattle.ls_order_search.specs.Plans.{Among}
-use Rattle.ls_order_search.specs.Search.{CalledFrom, Calls, LastUntil, Rising}
-use Rattle.ls_order_search.proofs.Lists.{among_at, among_cases}
-use Rattle.ls_order_search.proofs.Steps.{sooner}
-
--- of one call more none ends before
-pub one_more_end : (pool : Calls) (i : ℕ) (x : SetCall) (from place next : ℕ) →
-    i < length pool →
-    x ≡ get_or pool i x →
-    next ≤ place
-    → (LastUntil from pool → LastUntil place (take i pool)) →
-    (ended_before x.end from ≡ false → ended_before x.end next ≡ false)
-    → LastUntil from pool → LastUntil next (take (i + 1) pool)
-one_more_end pool i x from place next lt is le so own l c a = by
-    (among_cases c (take i pool) (get_or pool i x ∷ []) (subst (λ q. Among c q) (take_more pool i x lt) a))
-  where
-    there : Among x pool
-    there = subst (λ d. Among d pool) (sym is) (among_at pool i x lt)
-
-    by : Among c (take i pool) ⊎ Among c (get_or pool i x ∷ []) → ended_before c.end next ≡ false
-    by (inl b) = sooner next place c.end (so l c b) le
-    by (inr (inl e)) = subst (λ (d : SetCall). ended_before d.end next ≡ false) (is ∙ e) (own (l x there))
-    by (inr (inr b)) = absurd b
+use Rattle.ls_order_search.specs.Search.{CalledFrom, Calls, Rising}
 
 module _ (calls : Calls) (next : ℕ) (x : SetCall) (lt : next < length calls) (is : x ≡ get_or calls next x) where
   split : drop next calls ≡ x ∷ drop (next + 1) calls
@@ -60,11 +38,3 @@ module _ (calls : Calls) (next : ℕ) (d : SetCall) (events first : ℕ) (lt : n
   pub first_is_last : (n : ℕ) → n ≤ events → CalledFrom n (drop next calls) → n ≤ first
   first_is_last n le h = let low : n ≤ (get_or calls next d).called = no_later calls next (get_or calls next d) lt x_is
       n h in omega arith
-
--- the first end, with one more call
-pub one_end_more : (pool : Calls) (i : ℕ) (d : SetCall) (from place next : ℕ) → i < length pool → next ≤ place
-    → (LastUntil from pool → LastUntil place (take i pool)) →
-    (ended_before (get_or pool i d).end from ≡ false → ended_before (get_or pool i d).end next ≡ false)
-    → LastUntil from pool → LastUntil next (take (i + 1) pool)
-one_end_more pool i d from place next lt le so own =
-    one_more_end pool i (get_or pool i d) from place next lt (get_or_default pool i d (get_or pool i d) lt) le so own

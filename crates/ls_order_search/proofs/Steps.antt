@@ -1,8 +1,7 @@
 -- The steps at the end of a call, over the calls that are open.
-use Rattle.std.proofs.Common.{◌≡◌, ◌∙◌, ◌⊎◌, ◌+◌, ◌<◌, ◌≤◌, inl, inr, ℕ, ℤ, Bool, suc, true, false, [], ◌∷◌, ◌++◌}
-use Rattle.std.proofs.Common.{length, get_or, take, drop, Some, refl, sym, ap, subst, append_assoc, arith, eqb-true}
+use Rattle.std.proofs.Common.{◌≡◌, ◌∙◌, ◌⊎◌, ◌+◌, ◌<◌, ◌≤◌, inl, inr, ℕ, ℤ, Bool, true, false, [], ◌∷◌, ◌++◌}
+use Rattle.std.proofs.Common.{Some, refl, sym, ap, subst, append_assoc, arith, eqb-true}
 use Rattle.std.proofs.Common.{lt-ltb, le-ltb, ltb-false}
-use Rattle.std.specs.Prelude.{remove}
 use Rattle.std.proofs.lemmas.Bool.{eqb-false, true≢false}
 use Rattle.ls_orders.specs.declared.calls.End.{End}
 use Rattle.ls_orders.specs.declared.calls.End.TheVariants.{Pending, Returned, Trapped}
@@ -12,7 +11,7 @@ use Rattle.ls_orders.specs.Legal.{Set, after}
 use Rattle.ls_order_search.specs.Plans.{Among, Distinct, IsPlan, has_end, turns, wanted}
 use Rattle.ls_order_search.specs.Search.{HasPlan, CalledAfter, Best, Calls, Choice, Fits, Goes, Keeps, Lasting}
 use Rattle.ls_order_search.specs.Search.{LastUntil, Stuck, CalledBy, ends_at, is_item, on_items}
-use Rattle.ls_order_search.proofs.Lists.{among_cases, among_front, distinct_without, taken_out, among_it, among_with}
+use Rattle.ls_order_search.proofs.Lists.{among_cases, among_front, distinct_without, among_it, among_with}
 use Rattle.ls_order_search.proofs.Sets.{Same, runs_same}
 use Rattle.ls_order_search.proofs.Filters.{among_filter, among_seen, filter_among, is_item_self, placed_on, seen_among}
 use Rattle.ls_order_search.proofs.Filters.{seen_distinct}
@@ -203,21 +202,9 @@ module _ (at : ℕ) (s : Set) (z : SetCall) (ends : ends_at at z.end ≡ true) w
         (λ c a o i q t. none c (in' c a o) (record { fits = record { item_is = i; wants = q }; same = t }))
         (λ c a o i q t. best.least c (in' c a o) (record { fits = record { item_is = i; wants = q }; changes = t })) w)
 
-    one_goes : Among z (p1 ++ x ∷ p2) →
+    -- the chosen call is placed
+    pub one_goes : Among z (p1 ++ x ∷ p2) →
         Choice z.item (s z.item) (p1 ++ x ∷ p2) x →
         Goes at s (after s x) (p1 ++ x ∷ p2) (p1 ++ p2) (x ∷ [])
     one_goes az (inl k) = keeper_goes k
     one_goes az (inr q) = changer_goes az q.0 q.1
-
-  -- the chosen call is placed
-  pub place_goes : (pool : Calls) (i : ℕ) (d : SetCall) →
-      Among z pool →
-      i < length pool →
-      Choice z.item (s z.item) pool (get_or pool i d) →
-      Goes at s (after s (get_or pool i d)) pool (remove pool i) (get_or pool i d ∷ [])
-  place_goes pool i d az lt ch =
-      let x = get_or pool i d in
-      let is : pool ≡ take i pool ++ x ∷ drop (suc i) pool = taken_out pool i d lt in
-      subst (λ l. Goes at s (after s x) l (take i pool ++ drop (suc i) pool) (x ∷ [])) (sym is)
-      (one_goes (take i pool) (drop (suc i) pool) x (subst (λ l. Among z l) is az)
-      (subst (λ l. Choice z.item (s z.item) l x) is ch))

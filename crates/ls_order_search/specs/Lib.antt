@@ -1,6 +1,8 @@
 pub mod Trapped
 pub mod Plans
 pub mod Search
+pub mod Pools
+pub mod Groups
 pub mod Answers
 pub mod OrderLines
 pub mod Faults

@@ -1,6 +1,6 @@
 -- The steps of the search.
-use Rattle.std.specs.Prelude.{◌≡◌, ◌==◌, ◌⊎◌, ◌++◌, ◌<◌, ◌≤◌, ℕ, ℤ, Bool, true, false, not, List, [], ◌∷◌, Option, Some}
-use Rattle.std.specs.Prelude.{None, length, slice_index_or, nat_lt, drop, filter, take, ◌||◌}
+use Rattle.std.specs.Prelude.{◌≡◌, ◌==◌, ◌⊎◌, ◌++◌, ◌<◌, ◌≤◌, ℕ, ℤ, Bool, true, false, not, List, [], ◌∷◌, Some}
+use Rattle.std.specs.Prelude.{length, slice_index_or, drop, filter, take, ◌||◌}
 use Rattle.std.specs.BTreeSet.{BTreeSet, contains}
 use Rattle.std.specs.Ordering.{int_cmp, int_eq}
 use Rattle.ls_orders.specs.declared.calls.SetCall.{SetCall}
@@ -46,25 +46,10 @@ pub record Best (item : ℤ) (was : Bool) (pool : Calls) (x : SetCall) : Type 0 
   pub turn : Turns item was x
   pub least : (c : SetCall) → Among c pool → Turns item was c → NoLater x.end c.end
 
--- the best of the first calls of the pool
-abbrev pub BestSoFar : ℤ → Bool → Calls → ℕ → Option ℕ → Type 0
-BestSoFar item was pool n None = (k : ℕ) (d : SetCall) → k < n → Turns item was (slice_index_or pool k d) → ⊥
-BestSoFar item was pool n (Some b) = (b < length pool) × ((d : SetCall) → Turns item was (slice_index_or pool b d))
-    × ((k : ℕ) (d : SetCall) → k < n → Turns item was (slice_index_or pool k d) →
-    NoLater (slice_index_or pool b d).end (slice_index_or pool k d).end)
-
-abbrev pub comes_first : ℕ → End → Bool
-comes_first at Pending = true
-comes_first at (Trapped place) = nat_lt at place
-comes_first at (Returned place reply) = nat_lt at place
-
 -- A call that changes nothing. If there is none, then among the calls that change the set, the first to end.
 abbrev pub Choice : ℤ → Bool → Calls → SetCall → Type 0
 Choice item was pool x = Keeps item was x ⊎ (((c : SetCall) → Among c pool → Keeps item was c → ⊥) ×
     Best item was pool x)
-
-abbrev pub Place : Calls → (SetCall → Type 0) → ℕ → Type 0
-Place pool P i = (i < length pool) × ((d : SetCall) → P (slice_index_or pool i d))
 
 -- ---- a place of the history
 

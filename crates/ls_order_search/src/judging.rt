@@ -96,7 +96,7 @@ pub fn judge(alloc: Global, events: &[NamedEvent<'_>]) -> Result<Outcome, AllocE
         return Ok(Outcome::NotOneSet(call));
     }
     let calls = set_calls(alloc, events)?;
-    if has_many_trapped(calls.as_slice()) {
+    if has_many_trapped(alloc, calls.as_slice())? {
         return Ok(Outcome::TooManyTrapped);
     }
     decide(alloc, events, calls.as_slice())

@@ -4,7 +4,7 @@ ghost use Rattle.std.specs.Prelude.{◌≡◌, ◌≤◌, ℕ, drop, false};
 ghost use Rattle.ls_orders.specs.Rules.{ended_before};
 ghost use Rattle.ls_orders.specs.declared.calls.SetCall.{SetCall};
 ghost use Rattle.ls_order_search.specs.Plans.{Among};
-ghost use Rattle.ls_order_search.specs.Search.{CalledFrom, LastUntil, Rising};
+ghost use Rattle.ls_order_search.specs.Search.{CalledFrom, Rising};
 
 use ls_orders::calls::{End, SetCall};
 
@@ -34,18 +34,4 @@ pub(crate) fn end_within(end: End, from: usize, most: usize) -> usize
         End::Trapped(at) => at.max(from).min(most),
         End::Returned(at, _) => at.max(from).min(most),
     }
-}
-
-/// The first place where a call of the pool ends, but at least `from` and at most `most`.
-pub(crate) fn next_end(pool: &[SetCall], from: usize, most: usize) -> usize
-    requires { from ≤ most }
-    ensures from { from ≤ result }
-    ensures within { result ≤ most }
-    ensures lasts { LastUntil from pool.now → LastUntil result pool.now }
-{
-    let mut place = most;
-    for call in pool {
-        place = end_within(call.end, from, place);
-    }
-    place
 }

@@ -1,13 +1,16 @@
-// The search, from the first event to the last. Events at which no call begins or ends are passed over. The open calls
-// are looked at only where one of them ends.
+// The search, from the first event to the last. Events at which no call begins or ends are passed over. Where an open
+// call ends, the calls that are placed are found in maps, and the others aren't looked at.
 
 ghost use Rattle.std.specs.Prelude.{◌<◌, ◌≤◌, IfOk, IfNone, IfSome, MatchBool, MatchOption};
 ghost use Rattle.ls_orders.specs.Legal.{empty};
 ghost use Rattle.ls_order_search.specs.Plans.{IsPlan};
-ghost use Rattle.ls_order_search.specs.Search.{Due, Lasting, NoPlanOn, NotDue, Passed, Rising, Stuck, Within, held};
+ghost use Rattle.ls_order_search.specs.Pools.{Holds, PassedTo};
+ghost use Rattle.ls_order_search.specs.Search.{Calls, Due, Lasting, NoPlanOn, NotDue, Rising, Stuck, Within, held};
 
 use crate::closing::close;
-use crate::places::{end_within, next_call, next_end};
+use crate::opening::{next_end, no_calls, open_call};
+use crate::places::{end_within, next_call};
+use crate::pool::Pool;
 use ls_orders::calls::SetCall;
 use std::alloc::{AllocError, Global};
 use std::collections::BTreeSet;
@@ -24,7 +27,7 @@ fn is_due(calls: &[SetCall], next: usize, at: usize) -> bool
 /// The only refusal is that memory ran out.
 fn pass(
     set: &mut BTreeSet<i32>,
-    pool: &mut Vec<SetCall>,
+    pool: &mut Pool,
     placed: &mut Vec<SetCall>,
     at: usize,
     end: usize,
@@ -32,9 +35,9 @@ fn pass(
 ) -> Result<Option<usize>, AllocError>
     requires here { at < events }
     requires within { end ≤ events }
-    ensures { IfOk result (λ passed. MatchOption passed (Stuck at (held set.old) pool.old.items)
-        (Passed at end events (held set.old) (held set.new) pool.old.items pool.new.items placed.old.items
-        placed.new.items)) }
+    ensures { IfOk result (λ passed. (calls : Calls) → Holds pool.old calls →
+        MatchOption passed (Stuck at (held set.old) calls)
+        (PassedTo at end events (held set.old) (held set.new) calls pool.new placed.old.items placed.new.items)) }
 {
     if at < end {
         return Ok(Some(end));
@@ -42,7 +45,7 @@ fn pass(
     if !close(set, pool, placed, at)? {
         return Ok(None);
     }
-    Ok(Some(next_end(pool.as_slice(), at + 1, events)))
+    Ok(Some(next_end(pool, at + 1, events)))
 }
 
 /// An order of the calls, with each call that has an end. None if there is no order. The only refusal is that
@@ -59,7 +62,7 @@ pub(crate) fn search(
         IsPlan empty calls.now order.items)) }
 {
     let mut set = BTreeSet::new(alloc);
-    let mut pool = Vec::new(alloc);
+    let mut pool = no_calls(alloc);
     let mut placed = Vec::new(alloc);
     let mut next = 0;
     let mut at = 0;
@@ -68,7 +71,7 @@ pub(crate) fn search(
     'places: while at < events {
         'due: while is_due(calls, next, at) {
             let call = calls[next];
-            pool.push(call)?;
+            open_call(&mut pool, call)?;
             end = end_within(call.end, at, end);
             next += 1;
         }

@@ -9,7 +9,7 @@ use Rattle.ls_order_search.proofs.items.settle.Goals as goal
 
 pub loop-at-init : goal.loop-at-init
 loop-at-init c =
-    settling_start c.args.calls.now (held c.new-items.result) c.new-marks.result.items
+    settling_start c.args.groups.now.calls.now (held c.new-items.result) c.new-marks.result.items
     (λ z. ap (λ ks. list_any (is_at (int_cmp z)) ks) c.new-items.ensures.empty) c.new-marks.ensures.items
 
 pub loop-at-preserved : goal.loop-at-preserved
@@ -19,5 +19,6 @@ pub returns-then-not-branch-clause-none : goal.returns-then-not-branch-clause-no
 returns-then-not-branch-clause-none c = MatchBool-at_false _ _ c.if-not-branch.true c.in_ok-settle_call.ensures
 
 pub returns-clause-some : goal.returns-clause-some
-returns-clause-some c = settled c.args.calls.now c.loop-at.at (held c.loop-at.items) c.loop-at.marks.items (omega arith)
+returns-clause-some c = settled c.args.groups.now.calls.now c.loop-at.at (held c.loop-at.items)
+    c.loop-at.marks.items (omega arith)
     c.loop-at.invariant

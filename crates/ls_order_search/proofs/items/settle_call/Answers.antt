@@ -8,25 +8,29 @@ use Rattle.ls_order_search.proofs.items.settle_call.Goals as goal
 
 pub returns-then-not-is_new : goal.returns-then-not-is_new
 returns-then-not-is_new c =
-    settling_same c.args.calls.now c.args.at (held c.args.items.now) c.args.marks.now.items no_call c.requires.place
+    settling_same c.args.groups.now.calls.now c.args.at (held c.args.items.now) c.args.marks.now.items no_call
+    c.requires.place
     c.requires.so (MatchBool-at_false _ _ c.if-not-is_new.true c.is_new.ensures)
 
 pub returns-in_default : goal.returns-in_default
 returns-in_default c =
-    let x : SetCall = get_or c.args.calls.now c.args.at no_call in (
+    let x : SetCall = get_or c.args.groups.now.calls.now c.args.at no_call in (
       is_item x.item,
-      subst (λ o. IfNone o (NoWay [] (on_items (is_item x.item) c.args.calls.now))) c.in_default.is
+      subst (λ o. IfNone o (NoWay [] (on_items (is_item x.item) c.args.groups.now.calls.now))) c.in_default.is
           c.in_ok-order.ensures.none,
     )
 
 pub returns : goal.returns
 returns c =
-    let x : SetCall = get_or c.args.calls.now c.args.at no_call in
-    let way = subst (λ o. IfSome o (λ order. Way [] (on_items (is_item x.item) c.args.calls.now) order.items))
+    let x : SetCall = get_or c.args.groups.now.calls.now c.args.at no_call in
+    let way = subst (λ o. IfSome o
+    (λ order. Way [] (on_items (is_item x.item) c.args.groups.now.calls.now) order.items))
     c.in-Some.is c.in_ok-order.ensures.some in
-    settling_more c.args.calls.now c.args.at (held c.args.items.now) c.args.marks.now.items no_call c.requires.place
+    settling_more c.args.groups.now.calls.now c.args.at (held c.args.items.now) c.args.marks.now.items no_call
+    c.requires.place
     c.requires.so
-    (held c.put.new.items) c.mark_all.new.marks.items c.as_slice.result.now c.requires.calls.rising
+    (held c.put.new.items) c.mark_all.new.marks.items c.as_slice.result.now c.requires.groups.calls.rising
     (MatchBool-at_true _ _ c.if-not-is_new.false c.is_new.ensures).1
-    (subst (λ (l : Calls). Way [] (on_items (is_item x.item) c.args.calls.now) l) (sym c.as_slice.ensures.value) way)
+    (subst (λ (l : Calls). Way [] (on_items (is_item x.item) c.args.groups.now.calls.now) l)
+    (sym c.as_slice.ensures.value) way)
     c.in_ok-put.ensures c.in_ok-mark_all.ensures

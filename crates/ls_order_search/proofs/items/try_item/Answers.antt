@@ -7,13 +7,14 @@ use Rattle.ls_order_search.proofs.items.try_item.Goals as goal
 
 pub tries-requires : goal.tries-requires
 tries-requires c =
-    subst (λ (l : Calls). Rising (l ++ c.as_slice.result.now)) (sym c.new.ensures.items)
-    (subst Rising (sym (c.as_slice.ensures.value ∙ c.in_ok-own.ensures))
-    (calls_filter _ c.args.events c.args.calls.now c.requires).rising)
+    subst (λ (l : Calls). Rising (l ++ c.of_item-own.result.now)) (sym c.new.ensures.items)
+    (subst Rising (sym (c.of_item-own.ensures ∙ c.requires.grouped c.args.item.now))
+    (calls_filter _ c.args.events c.args.groups.now.calls.now c.requires.calls).rising)
 
 pub returns-clause-some : goal.returns-clause-some
 returns-clause-some c =
     IfOk-weaker c.tries.result _ _ (λ found h. if_some_more found _ _
     (λ order k. on_own c.args.events _ _ _ order.items c.new.ensures.items
-    (c.as_slice.ensures.value ∙ c.in_ok-own.ensures) (calls_filter _ c.args.events c.args.calls.now c.requires) k)
+    (c.of_item-own.ensures ∙ c.requires.grouped c.args.item.now)
+    (calls_filter _ c.args.events c.args.groups.now.calls.now c.requires.calls) k)
     h) c.tries.ensures.some
