@@ -1,7 +1,7 @@
 -- The first call in the order of what calls do, and in the order of their ends.
 use Rattle.std.proofs.Common.{◌≡◌, ◌∙◌, ◌<◌, ◌≤◌, inl, inr, ℕ, ℤ, Bool, true, false, not, Option, Some, None}
 use Rattle.std.proofs.Common.{refl, sym, ap, subst, arith, is_gt, is_lt, is_some, nat_cmp, int_cmp, Ordering, Less}
-use Rattle.std.proofs.Common.{Equal}
+use Rattle.std.proofs.Common.{◌&&◌, Equal}
 use Rattle.std.proofs.Common.{Greater, BTreeMap, eqb-true, eq-eqb, le-ltb, ltb-false, unwrap_or}
 use Rattle.std.specs.BTreeMap.{get}
 use Rattle.std.specs.BTreeMap.Range.{IsLeBy}
@@ -21,7 +21,7 @@ use Rattle.ls_order_search.specs.declared.pool.Ending.{Ending}
 use Rattle.ls_order_search.specs.declared.pool.Turn.{Turn}
 use Rattle.ls_order_search.specs.Plans.{Among, turns, wanted}
 use Rattle.ls_order_search.specs.Pools.{EndsNext, Indexed, IsFirst, ending_cmp, ending_of, first_ending, first_turn}
-use Rattle.ls_order_search.specs.Pools.{place_of, turn_at, turn_cmp, turn_of}
+use Rattle.ls_order_search.specs.Pools.{end_if, place_of, turn_at, turn_cmp, turn_of}
 use Rattle.ls_order_search.specs.Search.{Calls, Choice, Fits, Keeps, LastUntil, NoLater, Turns, ends_at}
 use Rattle.ls_order_search.proofs.Indexes.{None≢Some}
 use Rattle.ls_order_search.proofs.Steps.{sooner}
@@ -98,9 +98,9 @@ module _ (item : ℤ) (was : Bool) (k l : Turn) (there : l.item ≡ item) (alike
       (then_le _ _ back upto)
 
 -- the order of two calls that both change the set, or both don't
-abbrev later_cmp : SetCall → SetCall → Ordering
-later_cmp x d = ordering_then (bool_cmp (not (is_some (place_of x.end))) (not (is_some (place_of d.end))))
-    (ordering_then (nat_cmp (unwrap_or (place_of x.end) 0) (unwrap_or (place_of d.end) 0)) (nat_cmp x.called d.called))
+abbrev later_cmp : Bool → Bool → SetCall → SetCall → Ordering
+later_cmp b d x y = ordering_then (bool_cmp (b && not (is_some (place_of x.end))) (d && not (is_some (place_of y.end))))
+    (ordering_then (nat_cmp (end_if b (place_of x.end)) (end_if d (place_of y.end))) (nat_cmp x.called y.called))
 
 -- if one call's end isn't after another's, it has ended where the other has
 no_later : (e f : End) (o : Ordering) → is_gt (ordering_then (bool_cmp (not (is_some (place_of e)))
@@ -176,14 +176,21 @@ module _ (item : ℤ) (was : Bool) (m : BTreeMap Turn SetCall) (calls : Calls) (
             before : (d : SetCall) → Among d calls → turns x.operation was ≡ true → Keeps item was d → ⊥
             before d a t q = true≢false (subst (λ b. is_gt (bool_cmp true b) ≡ false) q.same
                 (subst (λ b. is_gt (bool_cmp b (turns d.operation was)) ≡ false) t
-                (first_le (bool_cmp (turns x.operation was) (turns d.operation was)) (later_cmp x d)
-                (rest d a q.fits))))
+                (first_le (bool_cmp (turns x.operation was) (turns d.operation was))
+                (later_cmp (turns x.operation was) (turns d.operation was) x d) (rest d a q.fits))))
+
+            later : (d : SetCall) → Among d calls → turns x.operation was ≡ true → Turns item was d
+                → is_gt (later_cmp (turns x.operation was) (turns d.operation was) x d) ≡ false
+            later d a t q = then_le (bool_cmp (turns x.operation was) (turns d.operation was))
+                (later_cmp (turns x.operation was) (turns d.operation was) x d)
+                (ap (bool_cmp (turns x.operation was)) (q.changes ∙ sym t)
+                ∙ tied_itself bool_cmp_total (turns x.operation was)) (rest d a q.fits)
 
             least : (d : SetCall) → Among d calls → turns x.operation was ≡ true → Turns item was d
                 → NoLater x.end d.end
-            least d a t q = no_later x.end d.end (nat_cmp x.called d.called) (then_le (bool_cmp (turns x.operation was)
-                (turns d.operation was)) (later_cmp x d) (ap (bool_cmp (turns x.operation was)) (q.changes ∙ sym t)
-                ∙ tied_itself bool_cmp_total (turns x.operation was)) (rest d a q.fits))
+            least d a t q = no_later x.end d.end (nat_cmp x.called d.called)
+                (subst (λ b. is_gt (later_cmp true b x d) ≡ false) q.changes
+                (subst (λ b. is_gt (later_cmp b (turns d.operation was) x d) ≡ false) t (later d a t q)))
 
             by_turns : (b : Bool) → turns x.operation was ≡ b → Choice item was calls x
             by_turns false t = inl (record { fits = fits_x; same = t })

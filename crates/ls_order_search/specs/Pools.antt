@@ -1,6 +1,6 @@
 -- The open calls, found by what they do to the set and by where they end.
 use Rattle.std.specs.Prelude.{◌≡◌, ◌≤◌, ℕ, ℤ, Bool, false, not, Option, Some, None, is_some, option_map, unwrap_or}
-use Rattle.std.specs.Prelude.{IsSome, ◌++◌, ◌∷◌}
+use Rattle.std.specs.Prelude.{◌&&◌, IsSome, if◌then◌else◌, ◌++◌, ◌∷◌}
 use Rattle.std.specs.BTreeMap.{BTreeMap, get}
 use Rattle.std.specs.BTreeMap.Range.{IsLeBy}
 use Rattle.std.specs.Ordering.{bool_cmp, int_cmp, nat_cmp, ordering_then}
@@ -24,14 +24,18 @@ place_of Pending = None
 place_of (Trapped at) = Some at
 place_of (Returned at reply) = Some at
 
+-- the end of a call that changes the set
+abbrev pub end_if : Bool → Option ℕ → ℕ
+end_if changes place = if changes then unwrap_or place 0 else 0
+
 -- what the call does where its item is present or absent, as `present` says
 abbrev pub turn_at : SetCall → Bool → Turn
 turn_at c present = record {
   item = c.item;
   present = present;
   turns = turns c.operation present;
-  pending = not (is_some (place_of c.end));
-  end = unwrap_or (place_of c.end) 0;
+  pending = turns c.operation present && not (is_some (place_of c.end));
+  end = end_if (turns c.operation present) (place_of c.end);
   called = c.called;
 }
 
@@ -43,8 +47,8 @@ turn_of c = option_map (turn_at c) (wanted c)
 abbrev pub ending_of : SetCall → Option Ending
 ending_of c = option_map (λ at. record { at = at; called = c.called }) (place_of c.end)
 
--- Of the calls on an item that is present, or absent, first those that change nothing. Then the others by their ends,
--- pending calls last.
+-- Of the calls on an item that is present, or absent, first those that change nothing, by their calls. Then the others
+-- by their ends, pending calls last.
 abbrev pub turn_cmp : Turn → Turn → Ordering
 turn_cmp a b = ordering_then (int_cmp a.item b.item) (ordering_then (bool_cmp a.present b.present)
     (ordering_then (bool_cmp a.turns b.turns) (ordering_then (bool_cmp a.pending b.pending)

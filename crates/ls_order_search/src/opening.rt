@@ -7,7 +7,7 @@ ghost use Rattle.std.specs.Prelude.{None};
 ghost use Rattle.ls_orders.specs.Rules.{ended_before};
 ghost use Rattle.ls_orders.specs.declared.calls.SetCall.{SetCall as ghost_SetCall};
 ghost use Rattle.ls_order_search.specs.Plans.{Among, Distinct};
-ghost use Rattle.ls_order_search.specs.Pools.{EndsNext, Holds, Indexed, IsFirst, Taken, ending_cmp, ending_of};
+ghost use Rattle.ls_order_search.specs.Pools.{EndsNext, Holds, Indexed, IsFirst, Taken, end_if, ending_cmp, ending_of};
 ghost use Rattle.ls_order_search.specs.Pools.{first_ending, first_turn, place_of, turn_at, turn_cmp, turn_of};
 ghost use Rattle.ls_order_search.specs.Search.{Calls, Choice, Fits, LastUntil, ends_at};
 
@@ -28,16 +28,23 @@ fn place_of(end: End) -> Option<usize>
     }
 }
 
+fn end_if(changes: bool, place: Option<usize>) -> usize
+    ensures { result ≡ end_if changes place }
+{
+    if changes { place.unwrap_or(0) } else { 0 }
+}
+
 fn turn_at(call: SetCall, present: bool) -> Turn
     ensures { result ≡ turn_at call present }
 {
+    let changes = turns(call.operation, present);
     let place = place_of(call.end);
     Turn {
         item: call.item,
         present,
-        turns: turns(call.operation, present),
-        pending: !place.is_some(),
-        end: place.unwrap_or(0),
+        turns: changes,
+        pending: changes && !place.is_some(),
+        end: end_if(changes, place),
         called: call.called,
     }
 }

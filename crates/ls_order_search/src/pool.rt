@@ -5,7 +5,7 @@ use std::alloc::AllocError;
 use std::collections::BTreeMap;
 
 /// What a call does that can be placed: on which item, whether the item has to be present, and whether the call changes
-/// the set. Then where the call ends; the place is 0 if the call is pending. `called` is the call's own.
+/// the set. If it does, where it ends; the place is 0 if the call is pending. `called` is the call's own.
 #[derive(Copy, PartialEq, Eq, PartialOrd, Ord)]
 pub(crate) struct Turn {
     pub(crate) item: i32,
