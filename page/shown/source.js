@@ -52,10 +52,11 @@ class Code {
     if (here.length === 0) return words;
     const span = element("span", { class: here.map(range => range.kind).join(" ") }, words);
     const edges = here.filter(range => range.colour).slice(0, MOST_FRAMED).flatMap((range, at) => {
-      const wide = 2 * (at + 1), sides = [[0, wide], [0, -wide]];
-      if (start === Math.max(range.start, line.start)) sides.push([wide, 0]);
-      if (end === Math.min(range.end, line.end)) sides.push([-wide, 0]);
-      return sides.map(([x, y]) => `inset ${x}px ${y}px 0 ${range.colour}`);
+      // above and below within the box, where no letter is, and beside it outside
+      const wide = 2 * (at + 1), sides = ["inset 0 " + wide + "px", "inset 0 -" + wide + "px"];
+      if (start === Math.max(range.start, line.start)) sides.push("-" + wide + "px 0");
+      if (end === Math.min(range.end, line.end)) sides.push(wide + "px 0");
+      return sides.map(side => side + " 0 " + range.colour);
     });
     if (edges.length) span.style.boxShadow = edges.join(",");
     return span;
