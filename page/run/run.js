@@ -47,17 +47,21 @@ class Run {
     return fields;
   }
 
-  // Each text is read once: rows with one text are one row.
+  // Where a step has no line, its line is that of the step before. Each text is read once: rows with one text are one
+  // row.
   readRows(trace) {
     const rows = [], known = new Map();
-    for (let start = 0, step = this.from; start < trace.length; step++) {
+    const fill = count => { while (rows.length > 0 && rows.length < count) rows.push(rows[rows.length - 1]); };
+    for (let start = 0; start < trace.length;) {
       let end = trace.indexOf("\n", start);
       if (end < 0) end = trace.length;
-      const text = trace.slice(start + String(step).length + 1, end);
+      const space = trace.indexOf(" ", start), text = trace.slice(space + 1, end);
+      fill(Number(trace.slice(start, space)) - this.from);
       if (!known.has(text)) known.set(text, readRow(text));
       rows.push(known.get(text));
       start = end + 1;
     }
+    fill(this.data.to - this.from + 1);
     return rows;
   }
 

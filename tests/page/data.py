@@ -80,6 +80,13 @@ def schedule_of(steps):
     return " ".join(items)
 
 
+def changes(trace):
+    """The lines of a trace, without those that say what the line before says."""
+    lines = trace.splitlines(keepends=True)
+    said = [None] + [line.split(" ", 1)[1] for line in lines]
+    return "".join(line for line, words, before in zip(lines, said[1:], said) if words != before)
+
+
 def data_of(tool, parts, first=1, last=None):
     """The line that `page --from FIRST --to LAST` prints of three parts, or of four."""
     classes, program, schedule = parts[:3]
@@ -92,8 +99,8 @@ def data_of(tool, parts, first=1, last=None):
     told = ["--from", str(first)] + ([] if last is None else ["--to", str(last)])
     pairs = [("classes", classes), ("program", program), ("schedule", schedule)]
     pairs += [("past", tool.run("source", after(first - 1))), ("before", tool.run("state", after(first - 1)))]
-    pairs += [("trace", tool.run("trace", parts[:3], *told)), ("after", tool.run("state", after(end)))]
+    pairs += [("trace", changes(tool.run("trace", parts[:3], *told))), ("after", tool.run("state", after(end)))]
     if len(parts) > 3:
         history = tool.run("source", after(end))
         pairs += [("order", parts[3]), ("verdict", tool.run("check", [history, parts[3]]))]
-    return f'{{"listset":1,"from":{first},' + ",".join(f'"{key}":{quoted(text)}' for key, text in pairs) + "}\n"
+    return f'{{"listset":2,"from":{first},"to":{end},' + ",".join(f'"{key}":{quoted(text)}' for key, text in pairs) + "}\n"

@@ -1,14 +1,17 @@
 -- Rows, as there are more of them and more states are kept.
 use Rattle.std.proofs.Common.{◌≡◌, ℕ, zero, suc, ◌<◌, ◌≤◌, List, [], ◌∷◌, ◌++◌, length, refl, sym, ap, ◌∙◌, subst}
-use Rattle.std.proofs.Common.{◌⊎◌, ◌+◌, inl, inr, None, Some, arith, length-append}
+use Rattle.std.proofs.Common.{◌⊎◌, ◌+◌, inl, inr, Option, None, Some, arith, length-append}
 use Rattle.std.specs.Prelude.{map, slice_get}
+use Rattle.std.specs.Option.{option_and_then}
 use Rattle.std.proofs.lemmas.List.{length-map, map-append}
 use Rattle.ls_labels.specs.Names.{Names}
 use Rattle.ls_trace.specs.Told.{Told}
 use Rattle.ls_transitions.specs.Tables.{Keeps}
 use Rattle.ls_transitions.proofs.Keeping.{below, still_below, there}
 use Rattle.ls_choices.specs.Schedules.{told_after}
-use Rattle.ls_choices.specs.Rows.{AreCut, AreRows, AreRowsCut, AreRowsOfAll, IsRow, Row}
+use Rattle.ls_choices.specs.Reaching.{IsClosed, target_in}
+use Rattle.ls_choices.specs.Rows.{AreCut, AreRows, AreRowsCut, AreRowsOfAll, HaveRows, IsRow, Row}
+use Rattle.ls_choices.specs.Rows.{rows_of_threads}
 use Rattle.ls_choices.specs.Seen.{AreSeen, path_of, row_of}
 use Rattle.ls_choices.specs.declared.points.Point.{Point}
 use Rattle.ls_choices.specs.declared.rows.Row.{Row as KeptRow}
@@ -132,6 +135,19 @@ all_cut_more most n m all all' new more e h here i rows at =
     by_cases (inl old) = cut_keeps most n m rows more (h i rows old)
     by_cases (inr w) = subst (AreRowsCut most m) w.1 here
 
+-- ---- as many rows as threads
+
+have_more : (count : ℕ) (all all' : List (List Row)) (new : List Row) → all' ≡ all ++ new ∷ [] → HaveRows count all →
+    length new ≡ count → HaveRows count all'
+have_more count all all' new e h here i rows at =
+    by_cases (pushed_at all new i rows (ap (λ l. slice_get l i) (sym e) ∙ at))
+  where
+    by_cases : (slice_get all i ≡ Some rows) ⊎ ((i ≡ length all) × (new ≡ rows)) → length rows ≡ count
+    by_cases (inl old) = h i rows old
+    by_cases (inr w) = ap length (sym w.1) ∙ here
+
+-- ---- turns
+
 -- a graph on the way, after so many turns; each has made the rows of a state, or all have theirs
 pub record IsAtTurn (names : Names) (first : List ℕ) (most turn : ℕ) (points : List Point) (all : List (List Row)) :
     Type 0 where
@@ -139,6 +155,7 @@ pub record IsAtTurn (names : Names) (first : List ℕ) (most turn : ℕ) (points
   pub few : 0 < most → length points ≤ most
   pub made : (length all ≡ turn) ⊎ (length all ≡ length points)
   pub cut : AreCut most (length points) all
+  pub threads : HaveRows (rows_of_threads names.program) all
 
 pub at_first_turn : (names : Names) (first : List ℕ) (most : ℕ) (points : List Point) →
     slice_get (map path_of points) 0 ≡ Some first → AreSeen names points → length points ≡ 1 →
@@ -148,6 +165,7 @@ at_first_turn names first most points begins seen one = record {
   few = λ some. omega (arith, one, some);
   made = inl refl;
   cut = λ i rows at. cc;
+  threads = λ i rows at. cc;
 }
 
 pub at_next_turn : (names : Names) (first : List ℕ) (most turn : ℕ) (xs ys : List Point) (all all' : List (List Row))
@@ -157,14 +175,15 @@ pub at_next_turn : (names : Names) (first : List ℕ) (most turn : ℕ) (xs ys :
     ((path : List ℕ) → slice_get (map path_of ys) (length all) ≡ Some path →
     AreRows names (map path_of ys) (told_after names path) new) →
     AreRowsCut most (length ys) new → (length xs ≤ most → length ys ≤ most) →
-    IsAtTurn names first most (turn + 1) ys all'
-at_next_turn names first most turn xs ys all all' new h k seen within e here cut few =
+    length new ≡ rows_of_threads names.program → IsAtTurn names first most (turn + 1) ys all'
+at_next_turn names first most turn xs ys all all' new h k seen within e here cut few threads =
     let longer : length all' ≡ length all + 1 = ap length e ∙ length-append all (new ∷ []) in
     record {
       way = goes_on names first xs ys all all' new h.way k seen within e here;
       few = λ some. few (h.few some);
       made = by_cases longer h.made;
       cut = all_cut_more most (length xs) (length ys) all all' new (keeps_longer xs ys k) e h.cut cut;
+      threads = have_more (rows_of_threads names.program) all all' new e h.threads threads;
     }
   where
     by_cases : length all' ≡ length all + 1 → (length all ≡ turn) ⊎ (length all ≡ length xs) →
@@ -180,6 +199,7 @@ at_idle_turn names first most turn points all h over = record {
   few = h.few;
   made = let few = h.way.few in inr (omega (arith, few, over));
   cut = h.cut;
+  threads = h.threads;
 }
 
 -- after as many turns as states are kept at most, all have their rows
@@ -192,3 +212,39 @@ at_last_turn names first (suc m) turn points all h over i rows at t row is none 
     by_cases : (length all ≡ turn) ⊎ (length all ≡ length points) → length points ≤ length all
     by_cases (inl e) = let few = h.few (omega arith) in omega (arith, few, e, over)
     by_cases (inr e) = omega (arith, e)
+
+all_have : (names : Names) (first : List ℕ) (most turn : ℕ) (points : List Point) (all : List (List Row)) →
+    IsAtTurn names first most turn points all → most ≤ turn → 0 < most → length points ≤ length all
+all_have names first most turn points all h over some = by_cases h.made
+  where
+    by_cases : (length all ≡ turn) ⊎ (length all ≡ length points) → length points ≤ length all
+    by_cases (inl e) = let few = h.few some in omega (arith, few, e, over)
+    by_cases (inr e) = omega (arith, e)
+
+-- where a row leads to a number, that is the number of a path
+target_is_path : (names : Names) (paths : List (List ℕ)) (r : Told) (rows : List Row) (thread to : ℕ) →
+    AreRows names paths r rows → target_in rows thread ≡ Some to → to < length paths
+target_is_path names paths r rows thread to h e = by_found (slice_get rows thread) refl e
+  where
+    by_found : (o : Option Row) → slice_get rows thread ≡ o → option_and_then (λ row. row.to) o ≡ Some to →
+        to < length paths
+    by_found None at is = cc
+    by_found (Some row) at is = let l = (h thread row at).leads to is in below paths to l.path l.found
+
+-- then steps lead to states that have rows
+pub closed_at_last : (names : Names) (first : List ℕ) (most turn : ℕ) (points : List Point) (all : List (List Row)) →
+    IsAtTurn names first most turn points all → most ≤ turn → 0 < most →
+    IsClosed (record { paths = map path_of points; rows = all })
+closed_at_last names first most turn points all h over some =
+    let paths = map path_of points in
+    let same = length-map points path_of in
+    let whole = all_have names first most turn points all h over some in
+    record {
+      begins = let one = below paths 0 first h.way.begins in omega (arith, one, same, whole);
+      within = λ number thread to rows found e.
+          let at = below all number rows found in
+          let path = there paths number (let few = h.way.few in omega (arith, at, few, same)) in
+          let far = target_is_path names paths (told_after names path.0) rows thread to
+          (h.way.rows number path.0 rows path.1 found) e in
+          omega (arith, far, same, whole);
+    }

@@ -5,3 +5,4 @@ pub mod Leading
 pub mod Walking
 pub mod Seeing
 pub mod Growing
+pub mod Cutting

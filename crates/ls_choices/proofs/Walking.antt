@@ -10,7 +10,7 @@ use Rattle.ls_choices.specs.Rows.{Graph, Row}
 use Rattle.ls_choices.specs.Walks.{row_at, words_along}
 use Rattle.ls_choices.specs.Reaching.{AreKept, IsWalk}
 
-mapped : (row : Row) (rest : Option (List Text)) → rest ≢ None → option_map (λ l. row.words ∷ l) rest ≢ None
+pub mapped : (row : Row) (rest : Option (List Text)) → rest ≢ None → option_map (λ l. row.words ∷ l) rest ≢ None
 mapped row None h = λ e. h refl
 mapped row (Some l) h = λ e. cc
 
@@ -36,19 +36,6 @@ pub walks_up_to : (steps count : ℕ) (depth : ℕ → ℕ) (g : Graph) → AreK
     (threads : List ℕ) → length threads ≤ steps → IsWalk count g threads
 walks_up_to steps count depth g h threads few all =
     walk steps count depth g h threads 0 h.begins (omega (arith, few, h.first)) all
-
--- where each state is at the same place, there is no bound
-pub all_are_walks : (count : ℕ) (depth : ℕ → ℕ) (g : Graph) → ((n : ℕ) → depth n ≡ 0) → AreKept 1 count depth g →
-    (threads : List ℕ) → IsWalk count g threads
-all_are_walks count depth g zero_ h threads all =
-    walks_up_to (length threads) count depth g (record {
-      begins = h.begins;
-      first = h.first;
-      states = λ n rows at. let s = h.states n rows at in record {
-        threads = s.threads;
-        leads = λ under. s.leads (omega (arith, zero_ n));
-      };
-    }) threads (omega arith) all
 
 pub up_to_none : (count : ℕ) (g : Graph) (threads : List ℕ) → length threads ≤ 0 → IsWalk count g threads
 up_to_none count g [] few all = λ e. cc

@@ -1,5 +1,6 @@
 -- The states that are kept, and the next step of each thread in them.
-use Rattle.std.specs.Prelude.{◌≡◌, ◌≤◌, ℕ, Bool, List, Option, None, Some, slice_get}
+use Rattle.std.specs.Prelude.{◌≡◌, ◌≤◌, ℕ, Bool, List, Option, None, Some, length, min, slice_get}
+use Rattle.ls_checked.specs.CheckedProgram.{Program}
 use Rattle.ls_report.specs.Events.{Text}
 use Rattle.ls_labels.specs.Names.{Names}
 use Rattle.ls_trace.specs.Told.{Told, after_step}
@@ -48,6 +49,14 @@ AreRowsCut most total rows = (thread : ℕ) (row : Row) → slice_get rows threa
 
 abbrev pub AreCut : ℕ → ℕ → List (List Row) → Type 0
 AreCut most total all = (number : ℕ) (rows : List Row) → slice_get all number ≡ Some rows → AreRowsCut most total rows
+
+-- each state has so many rows
+abbrev pub HaveRows : ℕ → List (List Row) → Type 0
+HaveRows count all = (number : ℕ) (rows : List Row) → slice_get all number ≡ Some rows → length rows ≡ count
+
+-- a row for each thread; a step's number is below 256, so no more threads have one
+abbrev pub rows_of_threads : Program → ℕ
+rows_of_threads program = min (length program.threads) 256
 
 -- the graph of a program's states from the end of a schedule on
 pub record IsGraphFrom (names : Names) (first : List ℕ) (g : Graph) : Type 0 where

@@ -3,7 +3,8 @@
 ghost use Rattle.std.specs.Prelude.{◌≡◌, ◌<◌, ◌≤◌, ℕ, List, IfOk, OnOk, Some, length, map, slice_get};
 ghost use Rattle.ls_labels.specs.Names.{names_of};
 ghost use Rattle.ls_transitions.specs.Tables.{Keeps};
-ghost use Rattle.ls_choices.specs.Rows.{AreCut, AreRows, AreRowsCut, IsGraphFrom};
+ghost use Rattle.ls_choices.specs.Reaching.{IsClosed};
+ghost use Rattle.ls_choices.specs.Rows.{AreCut, AreRows, AreRowsCut, HaveRows, IsGraphFrom, rows_of_threads};
 ghost use Rattle.ls_choices.specs.Schedules.{told_after};
 ghost use Rattle.ls_choices.specs.Seen.{AreSeen, graph_of, path_of, row_of};
 
@@ -64,6 +65,7 @@ fn next_rows<'a>(
     ensures keeps { OnOk result (Keeps points.old.points.items points.new.points.items) }
     ensures full { IfOk result (λ v. AreRowsCut most (length points.new.points.items) (map row_of v.items)) }
     ensures few { OnOk result (length points.old.points.items ≤ most → length points.new.points.items ≤ most) }
+    ensures threads { IfOk result (λ v. length v.items ≡ rows_of_threads (names_of names.entry).program) }
 {
     let steps = path_at(alloc, points, number)?;
     let rows = rows_after(alloc, names, points, &steps, most)?;
@@ -81,6 +83,9 @@ pub fn all_choices<'a>(
     ensures graph { IfOk result (λ c. IsGraphFrom (names_of names.entry) first.now (graph_of c)) }
     ensures few { 0 < most → IfOk result (λ c. length c.rows.items ≤ most) }
     ensures cut { IfOk result (λ c. AreCut most (length c.rows.items) (graph_of c).rows) }
+    ensures threads { IfOk result (λ c.
+        HaveRows (rows_of_threads (names_of names.entry).program) (graph_of c).rows) }
+    ensures closed { 0 < most → IfOk result (λ c. IsClosed (graph_of c)) }
 {
     let mut points = first_point(alloc, names, first)?;
     let mut rows = Vec::new(alloc);

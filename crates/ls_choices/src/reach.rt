@@ -1,7 +1,8 @@
 // Which lists of threads are walks.
 
-ghost use Rattle.std.specs.Prelude.{◌≡◌, IfOk, IsTrue, List, length, map, slice_index_or};
-ghost use Rattle.ls_choices.specs.Reaching.{AllLeadNear, AreKept, IsReach, IsStateKept, LeadsNear};
+ghost use Rattle.std.specs.Prelude.{◌≡◌, ◌↔◌, IfOk, IsTrue, List, length, map, slice_index_or};
+ghost use Rattle.ls_choices.specs.Reaching.{AllLeadNear, AreKept, IsClosed, IsCutOff, IsReach, IsStateKept};
+ghost use Rattle.ls_choices.specs.Reaching.{LeadsNear, LeavesOut, TellsLeftOut};
 ghost use Rattle.ls_choices.specs.Seen.{graph_of, row_of};
 
 use crate::graph::Choices;
@@ -13,6 +14,33 @@ use std::alloc::{AllocError, Global};
 pub enum Reach {
     All,
     UpTo(usize),
+}
+
+// Whether the step of one of so many threads leads to no state that is kept.
+fn is_cut_off(rows: &[Row], count: usize) -> bool
+    ensures { IsTrue result ↔ IsCutOff count (map row_of rows.now) }
+{
+    if rows.len() < count {
+        return true;
+    }
+    for thread in 0..count {
+        if rows[thread].to.is_none() {
+            return true;
+        }
+    }
+    false
+}
+
+// Whether that of some thread in some state does.
+fn leaves_out(choices: &Choices, count: usize) -> bool
+    ensures { IsTrue result ↔ LeavesOut count (graph_of choices.now) }
+{
+    for rows in &choices.rows {
+        if is_cut_off(rows, count) {
+            return true;
+        }
+    }
+    false
 }
 
 // How far a state is from the first. Where nothing is said, it is 0.
@@ -110,14 +138,14 @@ fn fewest_to_cut(choices: &Choices, depths: &[usize]) -> usize {
     fewest
 }
 
-/// Which lists of threads are walks, where there are so many threads. It is each, if no state is left out. Otherwise it
+/// Which lists of threads are walks, where there are so many threads. It is each, if no step is left out. Otherwise it
 /// is each that has no more steps than the shortest path of a state before one that is left out. The only refusal is
 /// that memory ran out.
 pub fn reach_of(alloc: Global, choices: &Choices, count: usize) -> Result<Reach, AllocError>
-    ensures { IfOk result (λ r. IsReach count (graph_of choices.now) r) }
+    ensures reach { IsClosed (graph_of choices.now) → IfOk result (λ r. IsReach count (graph_of choices.now) r) }
+    ensures left_out { IfOk result (λ r. TellsLeftOut count (graph_of choices.now) r) }
 {
-    let none = Vec::new(alloc);
-    if are_kept(choices, count, &none, 1) {
+    if !leaves_out(choices, count) {
         return Ok(Reach::All);
     }
     let depths = depths_of(alloc, choices)?;

@@ -5,7 +5,7 @@ ghost use Rattle.ls_labels.specs.Names.{names_of};
 ghost use Rattle.ls_trace.specs.SeenTeller.{RunsNamed, names_in, told_of};
 ghost use Rattle.ls_trace.specs.Told.{after_step};
 ghost use Rattle.ls_transitions.specs.Tables.{Keeps};
-ghost use Rattle.ls_choices.specs.Rows.{AreRows, AreRowsCut, IsRow, LeadsTo};
+ghost use Rattle.ls_choices.specs.Rows.{AreRows, AreRowsCut, IsRow, LeadsTo, rows_of_threads};
 ghost use Rattle.ls_choices.specs.Schedules.{acts, is_action, is_waiting, told_after, waits, words_of};
 ghost use Rattle.ls_choices.specs.Seen.{AreSeen, path_of, row_of};
 
@@ -155,7 +155,8 @@ fn row_of_thread<'a>(
     })
 }
 
-/// The rows of all threads after a schedule, the setup first. The only refusal is that memory ran out.
+/// The rows of all threads after a schedule, the setup first, and of 256 at most. The only refusal is that memory ran
+/// out.
 pub fn rows_after<'a>(
     alloc: Global,
     names: Names<'a>,
@@ -170,6 +171,7 @@ pub fn rows_after<'a>(
     ensures keeps { OnOk result (Keeps points.old.points.items points.new.points.items) }
     ensures full { IfOk result (λ v. AreRowsCut most (length points.new.points.items) (map row_of v.items)) }
     ensures few { OnOk result (length points.old.points.items ≤ most → length points.new.points.items ≤ most) }
+    ensures threads { IfOk result (λ v. length v.items ≡ rows_of_threads (names_of names.entry).program) }
 {
     let mut rows = Vec::new(alloc);
     for thread in 0..names.program.threads.len().min(256) {

@@ -13,10 +13,10 @@ use Rattle.ls_labels.specs.Names.{Names}
 use Rattle.ls_state.specs.State.{state_text}
 use Rattle.ls_page.specs.Data.{Texts, field, texts_text}
 use Rattle.ls_page.specs.Quoted.{quoted}
-use Rattle.ls_choices.specs.Rows.{AreCut, Graph, IsGraphFrom}
+use Rattle.ls_choices.specs.Rows.{AreCut, Graph, HaveRows, IsGraphFrom, rows_of_threads}
 use Rattle.ls_choices.specs.Walks.{numbered, words_along}
 use Rattle.ls_choices.specs.Laws.{whole_trace}
-use Rattle.ls_choices.specs.Reaching.{IsReach}
+use Rattle.ls_choices.specs.Reaching.{IsReach, TellsLeftOut}
 use Rattle.ls_choices.specs.declared.reach.Reach.{Reach}
 use Rattle.ls_choices.specs.declared.reach.Reach.TheVariants as reaches
 use Rattle.ls_choices_page.specs.Lists.{listed, lists_text}
@@ -83,16 +83,19 @@ pub record AreSerialHistories (names : Names) (histories : List (List Event)) (d
       ((h : List Event) → IsLinearizable names.file names.program h ↔ IsExplainedBy histories h)
   pub why : IfSome doubt (IsDoubt names.file names.program usual)
 
--- The graph is one of the program's states from the end of the first steps on, of at most so many states. A step leads
--- to no state that is kept only if so many are kept. The lines along each walk are those of `trace`. Each list of
--- threads is a walk, or each up to the number of steps that is told.
+-- The graph is one of the program's states from the end of the first steps on, of at most so many states, with a row for
+-- each thread in each. A step leads to no state that is kept only if so many are kept. The lines along each walk are
+-- those of `trace`. Each list of threads is a walk, or each up to the number of steps that is told. It is said that each
+-- is one exactly if no thread's step is left out.
 pub record IsChoice (names : Names) (first : List ℕ) (most : ℕ) (g : Graph) (reach : Reach) : Type 0 where
   pub states : IsGraphFrom names first g
+  pub threads : HaveRows (rows_of_threads names.program) g.rows
   pub few : length g.rows ≤ most
   pub cut : AreCut most (length g.rows) g.rows
   pub walks : (threads : List ℕ) (words : List Text) → words_along g 0 threads ≡ Some words →
       whole_trace names (first ++ threads) ≡ whole_trace names first ++ numbered (length first + 1) words
   pub reaches : IsReach (length names.program.threads) g reach
+  pub left_out : TellsLeftOut (length names.program.threads) g reach
 
 -- the tables have the lines of the rows and of the histories
 pub record AreTables (names : Names) (g : Graph) (histories : List (List Event)) (t : Tables) : Type 0 where

@@ -1,12 +1,12 @@
 -- The data of a page, as one JSON text.
-use Rattle.std.specs.Prelude.{ℕ, ◌-◌, List, [], ◌∷◌, ◌++◌, codes, take}
+use Rattle.std.specs.Prelude.{ℕ, ◌-◌, List, ◌++◌, codes, length, take}
 use Rattle.std.specs.Fmt.{decimal}
 use Rattle.ls_meaning.specs.Runs.{source_history}
 use Rattle.ls_report.specs.Events.{Text}
 use Rattle.ls_report.specs.Printing.{run_text}
 use Rattle.ls_labels.specs.Names.{Names}
-use Rattle.ls_trace.specs.Lines.{trace_text}
 use Rattle.ls_state.specs.State.{state_text}
+use Rattle.ls_page.specs.Changes.{changes_text}
 use Rattle.ls_page.specs.Quoted.{quoted}
 use Rattle.ls_page.specs.declared.parts.Judged.{Judged as GivenJudged}
 use Rattle.ls_page.specs.declared.parts.Texts.{Texts as GivenTexts}
@@ -36,9 +36,9 @@ field key text = codes ",\"" ++ (key ++ (codes "\":" ++ quoted text))
 abbrev pub history_text : Names → List ℕ → Text
 history_text names steps = run_text names.program (source_history names.file names.program steps)
 
--- the format's number, and that of the first step that is shown
-abbrev pub head_text : ℕ → Text
-head_text from = codes "{\"listset\":1,\"from\":" ++ decimal from
+-- the format's number, and those of the first and the last step that are shown
+abbrev pub head_text : ℕ → ℕ → Text
+head_text from to = codes "{\"listset\":2,\"from\":" ++ (decimal from ++ (codes ",\"to\":" ++ decimal to))
 
 -- what the run comes from
 abbrev pub texts_text : Texts → Text
@@ -51,10 +51,10 @@ abbrev pub before_text : Names → List ℕ → Text
 before_text names steps =
     field (codes "past") (history_text names steps) ++ field (codes "before") (state_text names steps)
 
--- each step that is shown, and the state after the last
+-- the steps that are shown, where a line that says what the line before says is left out, and the state after the last
 abbrev pub rest_text : Names → List ℕ → ℕ → ℕ → Text
 rest_text names steps from to =
-    field (codes "trace") (trace_text names steps from to) ++ field (codes "after") (state_text names (take to steps))
+    field (codes "trace") (changes_text names steps from to) ++ field (codes "after") (state_text names (take to steps))
 
 -- the steps with numbers in a range, with both ends of the range, and what was before; steps are numbered from 1
 abbrev pub told_text : Names → List ℕ → ℕ → ℕ → Text
@@ -62,7 +62,8 @@ told_text names steps from to = before_text names (take (from - 1) steps) ++ res
 
 -- the whole object without its end
 abbrev pub run_fields : Names → Texts → List ℕ → ℕ → ℕ → Text
-run_fields names texts steps from to = head_text from ++ (texts_text texts ++ told_text names steps from to)
+run_fields names texts steps from to =
+    head_text from (length (take to steps)) ++ (texts_text texts ++ told_text names steps from to)
 
 abbrev pub judged_text : Judged → Text
 judged_text judged = field (codes "order") judged.order ++ field (codes "verdict") judged.verdict

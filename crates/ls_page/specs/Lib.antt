@@ -1,4 +1,6 @@
 pub mod Quoted
 pub mod Strings
 pub mod Laws
+pub mod Changes
+pub mod SeenChanges
 pub mod Data

@@ -3,18 +3,18 @@
 ghost use Rattle.std.specs.Prelude.{◌≡◌, ◌-◌, ◌++◌, IfOk, OnOk, string_bytes, take, codes};
 ghost use Rattle.ls_labels.specs.Names.{names_of};
 ghost use Rattle.ls_state.specs.State.{state_text};
-ghost use Rattle.ls_trace.specs.Lines.{trace_text};
+ghost use Rattle.ls_page.specs.Changes.{changes_text};
 ghost use Rattle.ls_page.specs.Data.{before_text, field, head_text, history_text, judged_of, judged_text};
 ghost use Rattle.ls_page.specs.Data.{ordered_page_text, page_text, rest_text, run_fields, texts_of, texts_text};
 ghost use Rattle.ls_page.specs.Data.{told_text};
 
+use crate::changes::told_changes;
 use crate::parts::{Judged, Texts, Window};
 use crate::quoted::push_quoted;
 use ls_labels::names::Names;
 use ls_report::print_history;
 use ls_source::run::play;
 use ls_state::state::state;
-use ls_trace::trace;
 use std::alloc::{AllocError, Global};
 use std::fmt::Write;
 
@@ -70,6 +70,7 @@ fn push_state(
     push_field(out, key, text.as_str())
 }
 
+// Adds what is told of the steps that are shown.
 fn push_trace(
     alloc: Global,
     out: &mut String,
@@ -78,17 +79,17 @@ fn push_trace(
     window: Window,
 ) -> Result<(), AllocError>
     ensures { OnOk result (string_bytes out.new ≡ string_bytes out.old
-        ++ field (codes "trace") (trace_text (names_of names.entry) steps.now window.from window.to)) }
+        ++ field (codes "trace") (changes_text (names_of names.entry) steps.now window.from window.to)) }
 {
-    let text = trace(alloc, names, steps, window.from, window.to)?;
+    let text = told_changes(alloc, names, steps, window)?;
     push_field(out, "trace", text.as_str())
 }
 
-// Adds the format's number, and that of the first step that is shown.
-fn push_head(out: &mut String, from: usize) -> Result<(), AllocError>
-    ensures { OnOk result (string_bytes out.new ≡ string_bytes out.old ++ head_text from) }
+// Adds the format's number, and those of the first and the last step that are shown.
+fn push_head(out: &mut String, from: usize, to: usize) -> Result<(), AllocError>
+    ensures { OnOk result (string_bytes out.new ≡ string_bytes out.old ++ head_text from to) }
 {
-    write!(out, "{{\"listset\":1,\"from\":{from}")
+    write!(out, "{{\"listset\":2,\"from\":{from},\"to\":{to}")
 }
 
 // Adds what the run comes from.
@@ -157,7 +158,8 @@ fn push_run(
     ensures { OnOk result (string_bytes out.new ≡ string_bytes out.old
         ++ run_fields (names_of names.entry) (texts_of texts.entry) steps.now window.from window.to) }
 {
-    push_head(out, window.from)?;
+    let to = first_steps(steps, window.to).len();
+    push_head(out, window.from, to)?;
     push_texts(out, texts)?;
     push_told(alloc, out, names, steps, window)?;
     Ok(())

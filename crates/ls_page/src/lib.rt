@@ -1,6 +1,7 @@
 //! A run as the data of a page: its texts, its trace, and the states at both ends, as one JSON text.
 #![tactic(auto)]
 
+mod changes;
 mod data;
 mod parts;
 mod quoted;

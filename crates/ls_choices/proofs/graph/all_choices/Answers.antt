@@ -5,6 +5,7 @@ use Rattle.ls_labels.specs.Names.{names_of}
 use Rattle.ls_choices.specs.Rows.{AreCut}
 use Rattle.ls_choices.specs.Seen.{path_of, row_of}
 use Rattle.ls_choices.proofs.Growing.{IsAtTurn, at_first_turn, at_idle_turn, at_last_turn, at_next_turn}
+use Rattle.ls_choices.proofs.Growing.{closed_at_last}
 use Rattle.ls_choices.proofs.graph.all_choices.Goals as goal
 use Rattle.ls_choices.proofs.graph.all_choices.Goals.{then-number-len+in_ok-next_rows+in_ok-push, else-number-len}
 
@@ -44,7 +45,8 @@ loop-turn-preserved c =
           (λ path at. w.in_ok-next_rows.ensures.rows path
           (ap (slice_get (map path_of w.next_rows.new.points.points.items))
           (number ∙ sym (length-map old (λ v. map row_of v.items))) ∙ at))
-          w.in_ok-next_rows.ensures.full w.in_ok-next_rows.ensures.few))
+          w.in_ok-next_rows.ensures.full w.in_ok-next_rows.ensures.few
+          (length-map w.in_ok-next_rows.field-0.items row_of ∙ w.in_ok-next_rows.ensures.threads)))
       | else-number-len w ↦
           subst (λ p. IsAtTurn names first most (turn + 1) p.points.items
           (map (λ v. map row_of v.items) c.if-number-len.rows.items))
@@ -74,3 +76,11 @@ returns-clause-cut c =
     subst (λ n. AreCut c.args.most n rows) (length-map c.loop-turn.rows.items (λ v. map row_of v.items))
     (at_last_turn names c.args.first.now c.args.most c.loop-turn.turn c.loop-turn.points.points.items rows
     c.loop-turn.invariant over)
+
+pub returns-clause-closed : goal.returns-clause-closed
+returns-clause-closed c = λ some.
+    let names = names_of c.args.names in
+    let rows = map (λ v. map row_of v.items) c.loop-turn.rows.items in
+    let over : c.args.most ≤ c.loop-turn.turn = search rules in
+    closed_at_last names c.args.first.now c.args.most c.loop-turn.turn c.loop-turn.points.points.items rows
+    c.loop-turn.invariant over some

@@ -1,5 +1,7 @@
-use Rattle.std.proofs.Common.{◌≡◌, [], ◌∷◌, ◌++◌, ◌+◌, ◌∙◌, ap, arith, length, length-append}
-use Rattle.std.specs.Prelude.{map}
+use Rattle.std.proofs.Common.{◌≡◌, [], ◌∷◌, ◌++◌, ◌+◌, ◌∙◌, ap, arith, length, length-append, rules, sym}
+use Rattle.std.specs.Prelude.{map, min}
+use Rattle.std.proofs.lemmas.List.{length-map}
+use Rattle.ls_checked.specs.PlainProgram.{plain_thread}
 use Rattle.ls_labels.specs.Names.{names_of}
 use Rattle.ls_choices.specs.Schedules.{told_after}
 use Rattle.ls_choices.specs.Seen.{path_of, row_of}
@@ -30,3 +32,12 @@ loop-thread-preserved c =
           (keeps_longer xs ys more.keeps) pushed inv.cut more.full;
       few = λ fits. more.few (inv.few fits);
     }
+
+pub returns-clause-threads : goal.returns-clause-threads
+returns-clause-threads c =
+    let threads = c.args.names.program.now.threads.items in
+    let count : c.len.result ≡ length threads = search rules in
+    let all : c.loop-thread.thread ≡ c.min-thread-end.result =
+    omega (arith, c.loop-thread.auto.thread-end, c.loop-thread-test.false) in
+    sym c.loop-thread.invariant.count ∙ all ∙ c.min-thread-end.ensures
+    ∙ ap (λ n. min n 256) (count ∙ sym (length-map threads plain_thread))
