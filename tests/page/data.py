@@ -103,4 +103,5 @@ def data_of(tool, parts, first=1, last=None):
     if len(parts) > 3:
         history = tool.run("source", after(end))
         pairs += [("order", parts[3]), ("verdict", tool.run("check", [history, parts[3]]))]
-    return f'{{"listset":2,"from":{first},"to":{end},' + ",".join(f'"{key}":{quoted(text)}' for key, text in pairs) + "}\n"
+    told = ",".join(f'"{key}":{quoted(text)}' for key, text in pairs)
+    return f'{{"listset":2,"from":{first},"to":{end},{told}}}\n'

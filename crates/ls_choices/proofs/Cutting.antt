@@ -81,7 +81,8 @@ walk_on count g closed whole (t ∷ ts) number within few =
       found = rows.1;
       cut = record { thread = t; within = All-head (λ x. x < count) t ts few; nowhere = none };
     })) in
-    let at : row_at g number t ≡ Some on.row = ap (λ (o : Option (List Row)). option_and_then (λ l. slice_get l t) o) rows.1 ∙ on.at in
+    let at : row_at g number t ≡ Some on.row =
+    ap (λ (o : Option (List Row)). option_and_then (λ l. slice_get l t) o) rows.1 ∙ on.at in
     let far = closed.within number t on.to rows.0 rows.1 (target_at rows.0 t on.row on.at ∙ on.is) in
     let rest = mapped on.row (words_along g on.to ts) (walk_on count g closed whole ts on.to far
     (All-tail (λ x. x < count) t ts few)) in

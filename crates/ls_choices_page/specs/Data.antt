@@ -83,10 +83,10 @@ pub record AreSerialHistories (names : Names) (histories : List (List Event)) (d
       ((h : List Event) → IsLinearizable names.file names.program h ↔ IsExplainedBy histories h)
   pub why : IfSome doubt (IsDoubt names.file names.program usual)
 
--- The graph is one of the program's states from the end of the first steps on, of at most so many states, with a row for
--- each thread in each. A step leads to no state that is kept only if so many are kept. The lines along each walk are
--- those of `trace`. Each list of threads is a walk, or each up to the number of steps that is told. It is said that each
--- is one exactly if no thread's step is left out.
+-- The graph is one of the program's states from the end of the first steps on, of at most so many states. Each has a
+-- row for each thread. A step leads to no state that is kept only if so many are kept. The lines along each walk are
+-- those of `trace`. Each list of threads is a walk, or each up to the number of steps that is told. That each is one is
+-- said exactly if no thread's step is left out.
 pub record IsChoice (names : Names) (first : List ℕ) (most : ℕ) (g : Graph) (reach : Reach) : Type 0 where
   pub states : IsGraphFrom names first g
   pub threads : HaveRows (rows_of_threads names.program) g.rows

@@ -27,8 +27,8 @@ one_more true words l ls text = by_same (bytes_eq words l.words)
     by_same false = append_assoc text (line_text l) (flat_map line_text (changed l.words ls))
 
 -- after one more step
-pub rest_after : (names : Names) (from number i d : ℕ) (r r' : Told) (ts : List ℕ) (text text' words words' whole : Text)
-    →
+pub rest_after : (names : Names) (from number i d : ℕ) (r r' : Told) (ts : List ℕ)
+    (text text' words words' whole : Text) →
     i < length ts →
     r' ≡ after_step names r (get_or ts i d) →
     text' ≡ text ++ text_told (nat_le from number) words (line_of names number r (get_or ts i d)) →

@@ -52,8 +52,20 @@ one_object = record {
 abbrev pub StepsInTheMiddle : Type 0
 StepsInTheMiddle =
     page_text one_object texts (0 ∷ 0 ∷ 0 ∷ 0 ∷ 0 ∷ []) 2 3
-    ≡ codes "{\"listset\":1,\"from\":2,\"classes\":\"class C { int v; }\",\"program\":\"setup { c = new C(); }\","
-    ++ (codes "\"schedule\":\"setup*5\",\"past\":\"setup.1 call c = new C()\\u000a\","
+    ≡ codes "{\"listset\":2,\"from\":2,\"to\":3,\"classes\":\"class C { int v; }\","
+    ++ (codes "\"program\":\"setup { c = new C(); }\",\"schedule\":\"setup*5\","
+    ++ (codes "\"past\":\"setup.1 call c = new C()\\u000a\","
     ++ (codes "\"before\":\"c = null\\u000asetup.1 makes C\\u000a\","
     ++ (codes "\"trace\":\"2 setup.1 makes C: C#1\\u000a3 setup.1 enters new C\\u000a\","
-    ++ codes "\"after\":\"C#1: v = 0\\u000ac = null\\u000asetup.1 writes c: C#1\\u000a\"}\n")))
+    ++ codes "\"after\":\"C#1: v = 0\\u000ac = null\\u000asetup.1 writes c: C#1\\u000a\"}\n"))))
+
+-- steps 5 to 8 of 8, of which the last three say the same
+abbrev pub StepsThatSayTheSame : Type 0
+StepsThatSayTheSame =
+    page_text one_object texts (0 ∷ 0 ∷ 0 ∷ 0 ∷ 0 ∷ 0 ∷ 0 ∷ 0 ∷ []) 5 9
+    ≡ codes "{\"listset\":2,\"from\":5,\"to\":8,\"classes\":\"class C { int v; }\","
+    ++ (codes "\"program\":\"setup { c = new C(); }\",\"schedule\":\"setup*5\","
+    ++ (codes "\"past\":\"setup.1 call c = new C()\\u000a\","
+    ++ (codes "\"before\":\"C#1: v = 0\\u000ac = C#1\\u000asetup.1 return\\u000a\","
+    ++ (codes "\"trace\":\"5 setup.1 return\\u000a6 setup has ended\\u000a\","
+    ++ codes "\"after\":\"C#1: v = 0\\u000ac = C#1\\u000asetup has ended\\u000a\"}\n"))))

@@ -1,6 +1,6 @@
 // What the definitions compute.
 
-ghost use Rattle.ls_view_rows.specs.Pages.{EachEscape, OtherCharacters, StepsInTheMiddle};
+ghost use Rattle.ls_view_rows.specs.Pages.{EachEscape, OtherCharacters, StepsInTheMiddle, StepsThatSayTheSame};
 
 /// Small texts as JSON strings.
 pub fn texts()
@@ -10,5 +10,6 @@ pub fn texts()
 
 /// The data of some steps of a run.
 pub fn windows()
-    ensures { StepsInTheMiddle }
+    ensures middle { StepsInTheMiddle }
+    ensures same { StepsThatSayTheSame }
 {}

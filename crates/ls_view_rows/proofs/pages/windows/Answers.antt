@@ -8,4 +8,4 @@ use Rattle.ls_view_rows.proofs.pages.windows.Goals as goal
 
 pub returns : goal.returns
 unfolding chars encode digits int_wrap invoke depth_limit
-returns c = refl
+returns c = record { middle = refl; same = refl }
