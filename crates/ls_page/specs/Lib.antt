@@ -3,4 +3,5 @@ pub mod Strings
 pub mod Laws
 pub mod Changes
 pub mod SeenChanges
+pub mod Filling
 pub mod Data

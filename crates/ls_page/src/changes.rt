@@ -6,6 +6,7 @@ ghost use Rattle.ls_trace.specs.SeenTeller.{RunsNamed, names_in, told_of};
 ghost use Rattle.ls_trace.specs.Told.{after_step};
 ghost use Rattle.ls_page.specs.Changes.{changes_text, line_of};
 ghost use Rattle.ls_page.specs.SeenChanges.{text_told, words_told};
+ghost use Rattle.ls_page.specs.Filling.{ChangesFill, LinesAreTheTrace};
 
 use crate::data::first_steps;
 use crate::parts::Window;
@@ -107,3 +108,10 @@ pub(crate) fn told_changes(
     let Changes { text, words } = changes;
     Ok(text)
 }
+
+/// A step whose line is left out says what the step before says. So from the lines that are left come all that `trace`
+/// prints of these steps, the first of which has a number above 0.
+pub fn changes_fill()
+    ensures lines { LinesAreTheTrace }
+    ensures fill { ChangesFill }
+{}

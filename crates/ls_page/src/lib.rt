@@ -6,6 +6,7 @@ mod data;
 mod parts;
 mod quoted;
 
+pub use changes::changes_fill;
 pub use data::{first_steps, history, page_data, page_data_with_order};
 pub use parts::{Judged, Texts, Window};
 pub use quoted::{push_quoted, quoted_reads_back};
