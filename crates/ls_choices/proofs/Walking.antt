@@ -37,10 +37,6 @@ pub walks_up_to : (steps count : ℕ) (depth : ℕ → ℕ) (g : Graph) → AreK
 walks_up_to steps count depth g h threads few all =
     walk steps count depth g h threads 0 h.begins (omega (arith, few, h.first)) all
 
-pub up_to_none : (count : ℕ) (g : Graph) (threads : List ℕ) → length threads ≤ 0 → IsWalk count g threads
-up_to_none count g [] few all = λ e. cc
-up_to_none count g (t ∷ ts) few all = absurd (omega (arith, few))
-
 -- what holds at each place below one holds at that place too
 pub up_to : {A : Type 0} (Q : ℕ → A → Type 0) (xs : List A) (i : ℕ) (x : A) → slice_get xs i ≡ Some x → Q i x →
     ((n : ℕ) (y : A) → n < i → slice_get xs n ≡ Some y → Q n y) →
