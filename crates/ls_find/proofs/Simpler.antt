@@ -8,7 +8,7 @@ use Rattle.ls_linearizable.specs.Linearizable.{IsLinearizable}
 use Rattle.ls_state_space.specs.Verdicts.{LeavesStuck}
 use Rattle.ls_verdicts.specs.Verdicts.{IsVerdict}
 use Rattle.ls_verdicts.specs.declared.verdicts.Verdict.TheVariants.{Illegal}
-use Rattle.ls_waiting.specs.Laws.{PendingWaits, WaitsSo}
+use Rattle.ls_waiting.specs.Laws.{PendingWaits, NeverEndsSo}
 use Rattle.ls_waiting.specs.Waits.{IsPending}
 use Rattle.ls_fewest_switches.specs.Switches.{EndsSo}
 use Rattle.ls_find.specs.Fewest.{compared}
@@ -48,7 +48,7 @@ module _ (file : File) (program : Program) (found simple : List ℕ)
         record {
           over = stuck.over;
           pending = subst (λ (h : List Event). IsPending h c) (sym history) w.pending;
-          alone = λ so. w.alone (subst (λ (h : List Event). WaitsSo file program h c) history so);
+          alone = λ so. w.alone (subst (λ (h : List Event). NeverEndsSo file program h c) history so);
         },
       )
 

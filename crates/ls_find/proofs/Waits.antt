@@ -8,8 +8,8 @@ use Rattle.ls_meaning.specs.Runs.{source_history}
 use Rattle.ls_explore.specs.Rows.{Told}
 use Rattle.ls_explore.specs.declared.rows.Ending.TheVariants.{Over}
 use Rattle.ls_explore_images.specs.Tellings.{TellTruth, TellWhole, schedule_of}
-use Rattle.ls_serial_search.specs.Waiting.{AreStuckRuns, TellStuckRuns}
-use Rattle.ls_waiting.specs.Laws.{AmongWaitsSo, NoneWaitsForEver, WaitsSo, WaitsSoIsAmong}
+use Rattle.ls_serial_search.specs.Endless.{AreEndlessRuns, TellEndlessRuns}
+use Rattle.ls_waiting.specs.Laws.{AmongNeverEnds, NoneWaitsForEver, NeverEndsSo, NeverEndsIsAmong}
 use Rattle.ls_waiting.specs.Waits.{IsPending}
 use Rattle.ls_find.specs.Verdicts.{AllExcused, AllLinearizable, HasWaiting, IsBad, IsVerdict, IsWaitingVerdict}
 use Rattle.ls_find.specs.Verdicts.{ShowsRow, WaitsAt}
@@ -22,22 +22,22 @@ use Rattle.ls_find.proofs.Shown.{got_there}
 some_is : {X : Type 0} {x y : X} → Some x ≡ Some y → x ≡ y
 some_is e = cc
 
-pub none_stuck : (file : File) (program : Program) → AreStuckRuns file program []
+pub none_stuck : (file : File) (program : Program) → AreEndlessRuns file program []
 none_stuck file program run there = absurd (omega (arith, there.1))
 
 -- if each call that is pending where a row ends is the last of a run in which it waits, none waits for ever
-pub none_waits : (file : File) (program : Program) (rows : List Told) (runs : List (List Event)) → AmongWaitsSo →
-    TellWhole file program rows → AreStuckRuns file program runs → AllExcused runs rows →
+pub none_waits : (file : File) (program : Program) (rows : List Told) (runs : List (List Event)) → AmongNeverEnds →
+    TellWhole file program rows → AreEndlessRuns file program runs → AllExcused runs rows →
     NoneWaitsForEver file program
 none_waits file program rows runs among whole are excused schedule c over pending =
     let e = whole.ended schedule over in
     let here = subst (λ (h : List Event). IsPending h c) (sym e.same) pending in
-    subst (λ (h : List Event). WaitsSo file program h c) e.same
+    subst (λ (h : List Event). NeverEndsSo file program h c) e.same
     (among file program runs e.row.history c are (excused e.row e.there e.ends c here))
 
 -- if the runs are all, and a call that is pending where a row is over is the last of none, it waits for ever
 pub one_waits : (file : File) (program : Program) (k : ℕ) (rows : List Told) (runs : List (List Event)) (at : ℕ) →
-    WaitsSoIsAmong → TellTruth file program k rows → TellStuckRuns file program runs → WaitsAt runs rows at →
+    NeverEndsIsAmong → TellTruth file program k rows → TellEndlessRuns file program runs → WaitsAt runs rows at →
     (r : Told) × (slice_get rows at ≡ Some r) × (r.ending ≡ Over) → (v : Verdict) → ShowsRow Waits k rows at v →
     IsWaitingVerdict file program v
 one_waits file program k rows runs at all truth tell w over Good shows = absurd shows
@@ -57,7 +57,7 @@ one_waits file program k rows runs at all truth tell w over (Bad reason schedule
         over = truth.over r there (subst (λ (q : Told). q.ending ≡ Over) ends over.2);
         pending = subst (λ (h : List Event). IsPending h u.call) told u.pending;
         alone = λ so. u.unexcused (all file program runs w.row.history u.call tell
-            (subst (λ (h : List Event). WaitsSo file program h u.call) (sym told) so));
+            (subst (λ (h : List Event). NeverEndsSo file program h u.call) (sym told) so));
       },
     ))
 

@@ -14,7 +14,7 @@ use ls_events::event::Event;
 use ls_explore::{Ending, Row};
 use ls_image::image::Image;
 use ls_serial_search::telling::Bounds;
-use ls_serial_search::waiting::stuck_runs;
+use ls_serial_search::endless::endless_runs;
 use ls_waiting::first_unexcused;
 use ls_waiting::laws::runs_decide;
 use std::alloc::{AllocError, Global};
@@ -99,7 +99,7 @@ pub(crate) fn waiting_verdict(
         steps: MOST_STEPS_ALONE,
         orders: MOST_ORDERS,
     };
-    let stuck = stuck_runs(alloc, image.checked().file(), image.program(), &bounds)?;
+    let stuck = endless_runs(alloc, image.checked().file(), image.program(), &bounds)?;
     match first_waiting(stuck.runs.as_slice(), rows) {
         None => Ok(Verdict::Good),
         Some(at) => {

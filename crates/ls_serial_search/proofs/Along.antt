@@ -7,13 +7,14 @@ use Rattle.ls_events.specs.declared.event.Event.{Event}
 use Rattle.ls_checked.specs.CheckedTree.{File}
 use Rattle.ls_checked.specs.CheckedProgram.{Program}
 use Rattle.ls_meaning.specs.declared.step.Did.{Did}
-use Rattle.ls_meaning.specs.Still.{IsStill}
 use Rattle.ls_meaning.specs.Runs.{State, history_of, source_history, source_run, step, stepped}
 use Rattle.ls_meaning.specs.Steps.{traced}
 use Rattle.ls_serial.specs.Serial.{IsSerial}
+use Rattle.ls_source.specs.declared.playing.Playing.{Playing}
 use Rattle.ls_source.specs.Progress.{Progress, gone_on}
+use Rattle.ls_source.specs.Stands.{StandsFor}
 use Rattle.ls_serial_search.specs.Following.{IsBegun, called, events_of}
-use Rattle.ls_serial_search.specs.Happened.{EndsIn, IsLast, StaysIn}
+use Rattle.ls_serial_search.specs.Happened.{EndsIn, IsLast}
 use Rattle.ls_serial_search.specs.Orders.{progress_at}
 use Rattle.ls_serial_search.proofs.SoFar.{serial_more}
 use Rattle.ls_serial_search.proofs.Stepping.{history_more, state_more, steps_more, traced_events}
@@ -37,37 +38,54 @@ step_at file program schedule t =
     ∙ ap (λ z. with_parts file program z (source_history file program (schedule ++ t ∷ [])))
     (sym (state_more file program schedule t))
 
--- and one step more of a thread's
-pub go_on_more : (file : File) (program : Program) (schedule : List ℕ) (t j : ℕ) (r r' : Progress) →
-    r ≡ progress_at file program (schedule ++ replicate j t) →
-    r' ≡ gone_on r t →
-    r' ≡ progress_at file program (schedule ++ replicate (j + 1) t)
-go_on_more file program schedule t j r r' at is =
-    is ∙ ap (λ p. gone_on p t) at ∙ step_at file program (schedule ++ replicate j t) t
-    ∙ ap (progress_at file program) (steps_more schedule t j)
+-- ---- runs that stand for it
 
-pub did_at : (file : File) (program : Program) (schedule : List ℕ) (t : ℕ) (r : Progress) (d : Did) →
-    r ≡ progress_at file program schedule →
-    d ≡ (step r.file r.program r.state t).did →
-    d ≡ (step file program (source_run file program schedule) t).did
-did_at file program schedule t r d at is = is ∙ ap (λ (p : Progress). (step p.file p.program p.state t).did) at
+module _ (file : File) (program : Program) where
+  abbrev pub StandsAt : Playing → List ℕ → Type 0
+  StandsAt r schedule = StandsFor r (progress_at file program schedule)
 
-pub did_first : (file : File) (program : Program) (schedule : List ℕ) (t : ℕ) (r : Progress) (d : Did) →
-    r ≡ progress_at file program schedule →
-    d ≡ (step r.file r.program r.state t).did →
-    d ≡ (step file program (source_run file program (schedule ++ [])) t).did
-did_first file program schedule t r d at is =
-    did_at file program (schedule ++ []) t r d (at ∙ ap (progress_at file program) (sym (append-nil schedule))) is
+  abbrev pub GoesOn : Playing → Playing → ℕ → Type 0
+  GoesOn r r' t = (p : Progress) → StandsFor r p → StandsFor r' (gone_on p t)
 
--- a run along the steps of a schedule, one more
-pub steps_at : (file : File) (program : Program) (ts : List ℕ) (i d : ℕ) (r r' : Progress) →
-    i < length ts →
-    r ≡ progress_at file program (take i ts) →
-    r' ≡ gone_on r (get_or ts i d) →
-    r' ≡ progress_at file program (take (i + 1) ts)
-steps_at file program ts i d r r' lt at is =
-    is ∙ ap (λ p. gone_on p (get_or ts i d)) at ∙ step_at file program (take i ts) (get_or ts i d)
-    ∙ ap (progress_at file program) (sym (take_more ts i d lt))
+  abbrev pub Does : Playing → ℕ → Did → Type 0
+  Does r t d = (p : Progress) → StandsFor r p → d ≡ (step p.file p.program p.state t).did
+
+  one_more : (schedule : List ℕ) (t : ℕ) (r r' : Playing) → StandsAt r schedule → GoesOn r r' t →
+      StandsAt r' (schedule ++ t ∷ [])
+  one_more schedule t r r' at goes =
+      subst (StandsFor r') (step_at file program schedule t) (goes (progress_at file program schedule) at)
+
+  pub at_none : (schedule : List ℕ) (r : Playing) → StandsAt r schedule → StandsAt r (schedule ++ [])
+  at_none schedule r at = subst (StandsAt r) (sym (append-nil schedule)) at
+
+  -- one step more of a thread's
+  pub go_on_more : (schedule : List ℕ) (t j : ℕ) (r r' : Playing) → StandsAt r (schedule ++ replicate j t) →
+      GoesOn r r' t →
+      StandsAt r' (schedule ++ replicate (j + 1) t)
+  go_on_more schedule t j r r' at goes =
+      subst (StandsAt r') (steps_more schedule t j) (one_more (schedule ++ replicate j t) t r r' at goes)
+
+  pub did_at : (schedule : List ℕ) (t : ℕ) (r : Playing) (d : Did) → StandsAt r schedule → Does r t d →
+      d ≡ (step file program (source_run file program schedule) t).did
+  did_at schedule t r d at does = does (progress_at file program schedule) at
+
+  pub did_first : (schedule : List ℕ) (t : ℕ) (r : Playing) (d : Did) → StandsAt r schedule → Does r t d →
+      d ≡ (step file program (source_run file program (schedule ++ [])) t).did
+  did_first schedule t r d at does = did_at (schedule ++ []) t r d (at_none schedule r at) does
+
+  -- a run along the steps of a schedule, one more
+  pub steps_at : (ts : List ℕ) (i d : ℕ) (r r' : Playing) →
+      i < length ts →
+      StandsAt r (take i ts) →
+      GoesOn r r' (get_or ts i d) →
+      StandsAt r' (take (i + 1) ts)
+  steps_at ts i d r r' lt at goes =
+      subst (StandsAt r') (sym (take_more ts i d lt)) (one_more (take i ts) (get_or ts i d) r r' at goes)
+
+  -- its events
+  pub history_is : (schedule : List ℕ) (r : Playing) → StandsAt r schedule →
+      r.stage.events.items ≡ source_history file program schedule
+  history_is schedule r at = ap (λ (p : Progress). p.history) at.shows
 
 pub take_none : (ts : List ℕ) → take 0 ts ≡ []
 take_none [] = refl
@@ -126,10 +144,6 @@ module _ (file : File) (program : Program) (schedule : List ℕ) (t call : ℕ) 
           ∙ ap (λ es. source_history file program (schedule ++ replicate j t) ++ es) none
           ∙ append-nil (source_history file program (schedule ++ replicate j t))
           ∙ within j b le
-
-  pub stays_in : (j : ℕ) → IsAt j → IsBegun file program schedule t call j → IsStill d →
-      StaysIn file program schedule t
-  stays_in j at b still = record { call = call; steps = j; begun = b; still = subst IsStill at still }
 
   pub ends_in : (j : ℕ) → IsAt j → 1 ≤ j → IsBegun file program schedule t call j → IsLast t call (events_of t d) →
       EndsIn file program schedule t (j + 1)

@@ -13,7 +13,8 @@ use Rattle.ls_meaning.specs.Threads.{next}
 use Rattle.ls_meaning.specs.Runs.{State, answers_of, source_history, source_run}
 use Rattle.ls_meaning.specs.Runs.{start, step}
 use Rattle.ls_serial.specs.Serial.{IsCall, IsEndOf, IsSerial}
-use Rattle.ls_serial_search.specs.Following.{CallsNext, IsBetween, IsFollowed, called, events_of}
+use Rattle.ls_serial_search.specs.Following.{CallsNext, EndsKnown, IsBegun, IsBetween, IsFollowed, NeverEnds, called}
+use Rattle.ls_serial_search.specs.Following.{events_of}
 use Rattle.ls_serial_search.specs.Searched.{IsSearched}
 use Rattle.ls_serial_search.specs.Laws.{HasHistoryOf}
 use Rattle.ls_serial_search.proofs.Stepping.{acts_within, history_more, holds_of_all, state_more, steps_more}
@@ -46,16 +47,22 @@ module _ (file : File) (program : Program) where
       state : s ≡ source_run file program schedule
       history : h ≡ source_history file program schedule
 
+    -- after so many of its steps a thread goes on in a call that never ends, or in one whose end is known
+    abbrev Going : List ℕ → ℕ → ℕ → Type 0
+    Going schedule t j = ((call : ℕ) × NeverEnds file program schedule t call)
+        ⊎ ((f : EndsKnown file program known schedule t) × (j ≤ f.steps))
+
     -- they are those within a call after one of the schedules
     record IsWithin (s : State) (h : List Event) : Type 0 where
       schedule : List ℕ
       there : Contains known schedule
       thread : ℕ
-      followed : IsFollowed file program known schedule thread
+      call : ℕ
       before : ℕ
-      less : before < followed.steps
       state : s ≡ source_run file program (schedule ++ replicate (before + 1) thread)
       history : h ≡ source_history file program (schedule ++ replicate (before + 1) thread)
+      begun : h ≡ source_history file program schedule ++ called thread call ∷ []
+      going : Going schedule thread (before + 1)
 
     abbrev IsKnown : State → List Event → Type 0
     IsKnown s h = IsAt s h ⊎ IsWithin s h
@@ -63,13 +70,11 @@ module _ (file : File) (program : Program) where
     -- the thread goes on that was followed
     advance : (schedule : List ℕ) (t j : ℕ) (s : State) (h : List Event) →
         Contains known schedule →
-        (f : IsFollowed file program known schedule t) →
-        j ≤ f.steps →
+        Going schedule t j →
         s ≡ source_run file program (schedule ++ replicate j t) →
         h ≡ source_history file program (schedule ++ replicate j t) →
-        IsActing (step file program s t).did →
         IsKnown (step file program s t).after (h ++ events_of t (step file program s t).did)
-    advance schedule t j s h there f le es eh acts = by_place (cases_lt j f.steps)
+    advance schedule t j s h there going es eh = by_going going
       where
         one : List ℕ
         one = schedule ++ replicate j t
@@ -86,38 +91,36 @@ module _ (file : File) (program : Program) where
             ∙ sym (history_more file program (schedule ++ replicate j t) t)
             ∙ ap (source_history file program) (steps_more schedule t j)
 
-        still_acts : (d : Did) → IsStill d → IsActing d → ⊥
-        still_acts (did.Acted a x) still acts = still
-        still_acts did.Waits still acts = acts
-        still_acts did.Idle still acts = acts
-
-        by_last : j ≡ f.steps →
-            IsStill (step file program (source_run file program (schedule ++ replicate f.steps t)) t).did
-            ⊎ Contains known (schedule ++ replicate (f.steps + 1) t) →
+        within : (call i : ℕ) → j < i → IsBegun file program schedule t call i → Going schedule t (j + 1) →
             IsKnown (step file program s t).after (h ++ events_of t (step file program s t).did)
-        by_last same (inl still) = absurd (still_acts _ still
-            (subst (λ i. IsActing (step file program (source_run file program (schedule ++ replicate i t)) t).did) same
-            (subst (λ z. IsActing (step file program z t).did) es acts)))
-        by_last same (inr new) = inl (record {
-          schedule = schedule ++ replicate (j + 1) t;
-          there = subst (λ i. Contains known (schedule ++ replicate (i + 1) t)) (sym same) new;
-          state = state;
-          history = history;
-        })
-
-        by_place : (j < f.steps) ⊎ (f.steps ≤ j) →
-            IsKnown (step file program s t).after (h ++ events_of t (step file program s t).did)
-        by_place (inl less) = inr (record {
+        within call i less begun further = inr (record {
           schedule = schedule;
           there = there;
           thread = t;
-          followed = f;
+          call = call;
           before = j;
-          less = less;
           state = state;
           history = history;
+          begun = history ∙ begun.is j less;
+          going = further;
         })
-        by_place (inr past) = by_last (omega arith) f.last
+
+        by_place : (f : EndsKnown file program known schedule t) → j ≤ f.steps → (j < f.steps) ⊎ (f.steps ≤ j) →
+            IsKnown (step file program s t).after (h ++ events_of t (step file program s t).did)
+        by_place f le (inl less) = within f.call f.steps less f.begun (inr (f, omega (arith, less)))
+        by_place f le (inr past) =
+            let same : j ≡ f.steps = omega (arith, le, past) in
+            inl (record {
+              schedule = schedule ++ replicate (j + 1) t;
+              there = subst (λ i. Contains known (schedule ++ replicate (i + 1) t)) (sym same) f.there;
+              state = state;
+              history = history;
+            })
+
+        by_going : Going schedule t j →
+            IsKnown (step file program s t).after (h ++ events_of t (step file program s t).did)
+        by_going (inl never) = within never.0 (j + 1) (omega arith) (never.1 (j + 1)) (inl never)
+        by_going (inr ends) = by_place ends.0 ends.1 (cases_lt j ends.0.steps)
 
     -- another thread can't go on
     other_calls : (s : State) (h : List Event) (t : ℕ) →
@@ -127,9 +130,8 @@ module _ (file : File) (program : Program) where
         IsSoFar (h ++ events_of t (step file program s t).did) →
         ⊥
     other_calls s h t w ne acts so = not_end (then_ends (source_history file program w.schedule)
-        (called w.thread w.followed.call) (called t k.0) (searched.serial w.schedule w.there)
-        (subst IsSoFar (ap (λ es. h ++ es) k.1 ∙ ap (λ z. z ++ called t k.0 ∷ [])
-        (w.history ∙ w.followed.begun.is w.before w.less)) so))
+        (called w.thread w.call) (called t k.0) (searched.serial w.schedule w.there)
+        (subst IsSoFar (ap (λ es. h ++ es) k.1 ∙ ap (λ z. z ++ called t k.0 ∷ []) w.begun) so))
       where
         between : IsBetween file program s t
         between = subst (λ q. CallsNext (next file program t q))
@@ -156,16 +158,25 @@ module _ (file : File) (program : Program) where
         within w (inr ne) = absurd (other_calls s h t w ne acts so)
         within w (inl same) =
             subst (λ i. IsKnown (step file program s i).after (h ++ events_of i (step file program s i).did)) (sym same)
-            (advance w.schedule w.thread (w.before + 1) s h w.there w.followed (omega (arith, w.less)) w.state w.history
-            (subst (λ i. IsActing (step file program s i).did) same acts))
+            (advance w.schedule w.thread (w.before + 1) s h w.there w.going w.state w.history)
+
+        still_acts : (d : Did) → IsStill d → IsActing d → ⊥
+        still_acts (did.Acted a x) still acting = still
+        still_acts did.Waits still acting = acting
+        still_acts did.Idle still acting = acting
+
+        begins : (at : IsAt s h) → IsFollowed file program known at.schedule t → Going at.schedule t 0
+        begins at (inl still) = absurd (still_acts _ still (subst (λ z. IsActing (step file program z t).did) at.state acts))
+        begins at (inr (inl never)) = inl never
+        begins at (inr (inr f)) = inr (f, omega arith)
 
         by_known : IsKnown s h →
             IsKnown (step file program s t).after (h ++ events_of t (step file program s t).did)
         by_known (inl at) =
             advance at.schedule t 0 s h at.there
-            ((searched.followed at.schedule at.there) t (acts_within file program s t acts)) (omega arith)
+            (begins at ((searched.followed at.schedule at.there) t (acts_within file program s t acts)))
             (at.state ∙ ap (source_run file program) (sym (append-nil at.schedule)))
-            (at.history ∙ ap (source_history file program) (sym (append-nil at.schedule))) acts
+            (at.history ∙ ap (source_history file program) (sym (append-nil at.schedule)))
         by_known (inr w) = within w (cases_nat t w.thread)
 
     at_start : IsKnown (start program) []
@@ -181,8 +192,8 @@ module _ (file : File) (program : Program) where
             HasHistoryOf file program known schedule
         by_known (inl at) = record { one = at.schedule; there = at.there; same = at.history }
         by_known (inr w) = absurd (pending_not_serial (source_history file program w.schedule)
-            (called w.thread w.followed.call) (searched.serial w.schedule w.there)
-            (subst IsSerial (w.history ∙ w.followed.begun.is w.before w.less) serial))
+            (called w.thread w.call) (searched.serial w.schedule w.there)
+            (subst IsSerial w.begun serial))
 
     -- a call that has begun after a serial history is one that was followed
     pub record IsBegunIn (schedule : List ℕ) (before : List Event) (c : Event) : Type 0 where
@@ -205,8 +216,8 @@ module _ (file : File) (program : Program) where
         by_known (inl at) = absurd (pending_not_serial before c serial
             (subst IsSerial (sym at.history ∙ is) (searched.serial at.schedule at.there)))
         by_known (inr w) =
-            let ends = same_end before (source_history file program w.schedule) c (called w.thread w.followed.call)
-            (sym is ∙ w.history ∙ w.followed.begun.is w.before w.less) in
+            let ends = same_end before (source_history file program w.schedule) c (called w.thread w.call)
+            (sym is ∙ w.begun) in
             let thread : w.thread ≡ c.thread = ap (λ (e : Event). e.thread) (sym ends.1) in
             record {
               one = w.schedule;

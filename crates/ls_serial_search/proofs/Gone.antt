@@ -7,12 +7,11 @@ use Rattle.std.proofs.lemmas.Bool.{cases_lt}
 use Rattle.std.proofs.lemmas.List.Elements.{Contains-append_left, Contains-push, Contains-push_cases}
 use Rattle.ls_checked.specs.CheckedTree.{File}
 use Rattle.ls_checked.specs.CheckedProgram.{Program}
-use Rattle.ls_meaning.specs.Still.{IsStill}
-use Rattle.ls_meaning.specs.Runs.{source_history, source_run, step}
+use Rattle.ls_meaning.specs.Runs.{source_history}
 use Rattle.ls_serial.specs.Serial.{IsSerial}
 use Rattle.ls_serial.proofs.Lists.{contains_get, get_contains, get_within, is_get}
 use Rattle.ls_serial_search.specs.Following.{IsFollowed}
-use Rattle.ls_serial_search.specs.Happened.{EndsIn, StaysIn}
+use Rattle.ls_serial_search.specs.Happened.{EndsIn}
 use Rattle.ls_serial_search.specs.Searched.{AreSerial, IsSearched}
 use Rattle.ls_serial_search.specs.Told.{AreMore}
 
@@ -41,19 +40,10 @@ module _ (file : File) (program : Program) where
   pub followed_more : (a b : List (List ℕ)) (s : List ℕ) (t : ℕ) → AreMore file program a b →
       IsFollowed file program a s t →
       IsFollowed file program b s t
-  followed_more a b s t m f = record { call = f.call; steps = f.steps; begun = f.begun; last = by_last f.last }
-    where
-      by_last : IsStill (step file program (source_run file program (s ++ replicate f.steps t)) t).did
-          ⊎ Contains a (s ++ replicate (f.steps + 1) t) →
-          IsStill (step file program (source_run file program (s ++ replicate f.steps t)) t).did
-          ⊎ Contains b (s ++ replicate (f.steps + 1) t)
-      by_last (inl still) = inl still
-      by_last (inr there) = inr (there_more a b _ m there)
-
-  -- a thread that doesn't go on
-  pub stays_followed : (known : List (List ℕ)) (s : List ℕ) (t : ℕ) → StaysIn file program s t →
-      IsFollowed file program known s t
-  stays_followed known s t f = record { call = f.call; steps = f.steps; begun = f.begun; last = inl f.still }
+  followed_more a b s t m (inl still) = inl still
+  followed_more a b s t m (inr (inl never)) = inr (inl never)
+  followed_more a b s t m (inr (inr f)) =
+      inr (inr (record { call = f.call; steps = f.steps; begun = f.begun; there = there_more a b _ m f.there }))
 
   -- a call that ends
   pub ends_followed : (a b : List (List ℕ)) (s longer : List ℕ) (t n : ℕ) →
@@ -61,13 +51,13 @@ module _ (file : File) (program : Program) where
       longer ≡ s ++ replicate n t →
       b ≡ a ++ longer ∷ [] →
       IsFollowed file program b s t
-  ends_followed a b s longer t n f is more = record {
+  ends_followed a b s longer t n f is more = inr (inr (record {
     call = f.call;
     steps = f.before;
     begun = f.begun;
-    last = inr (subst (λ l. Contains b l) (is ∙ ap (λ k. s ++ replicate k t) f.is)
-        (subst (λ l. Contains l longer) (sym more) (Contains-push a longer)));
-  }
+    there = subst (λ l. Contains b l) (is ∙ ap (λ k. s ++ replicate k t) f.is)
+        (subst (λ l. Contains l longer) (sym more) (Contains-push a longer));
+  }))
 
   pub ends_more : (a b : List (List ℕ)) (s longer : List ℕ) (t n : ℕ) →
       EndsIn file program s t n →

@@ -12,4 +12,5 @@ pub mod Gone
 pub mod Collected
 pub mod Kept
 pub mod Stalls
-pub mod Stuck
+pub mod ComingBack
+pub mod NeverEnding

@@ -1,4 +1,4 @@
--- A thread that doesn't go on: no step of it changes anything.
+-- Calls that never end while no other thread goes on.
 use Rattle.std.proofs.Common.{◌≡◌, ◌⊎◌, inl, inr, ℕ, zero, suc, ◌+◌, ◌-◌, ◌<◌, ◌≤◌, List, [], ◌∷◌, ◌++◌, length}
 use Rattle.std.proofs.Common.{replicate, refl, sym, ap, ◌∙◌, subst, arith, append-nil}
 use Rattle.std.proofs.lemmas.Bool.{cases_lt}
@@ -10,9 +10,9 @@ use Rattle.ls_meaning.specs.declared.step.Did.{Did}
 use Rattle.ls_meaning.specs.declared.step.Did.TheVariants as did
 use Rattle.ls_meaning.specs.Still.{IsActing, IsStill}
 use Rattle.ls_meaning.specs.Runs.{source_history, source_run, step}
-use Rattle.ls_serial_search.specs.Following.{IsBegun, called, events_of}
-use Rattle.ls_serial_search.specs.Happened.{IsLast}
-use Rattle.ls_serial_search.specs.Waiting.{IsStuckAfter, NeverWaits}
+use Rattle.ls_serial_search.specs.Endless.{IsEndlessAfter}
+use Rattle.ls_serial_search.specs.Following.{IsBegun, NeverEnds, called, events_of}
+use Rattle.ls_serial_search.specs.Open.{HasEnded}
 use Rattle.ls_serial_search.proofs.Stepping.{acts_within, history_more, state_more, steps_more, still_stays}
 
 no_events : (t : ℕ) (d : Did) → IsStill d → events_of t d ≡ []
@@ -24,15 +24,15 @@ module _ (file : File) (program : Program) (schedule : List ℕ) (t : ℕ) where
   abbrev pub after : ℕ → List ℕ
   after j = schedule ++ replicate j t
 
-  suc_is : (j : ℕ) → suc j ≡ j + 1
+  pub suc_is : (j : ℕ) → suc j ≡ j + 1
   suc_is j = omega arith
 
-  state_next : (j : ℕ) → source_run file program (after (suc j)) ≡
+  pub state_next : (j : ℕ) → source_run file program (after (suc j)) ≡
       (step file program (source_run file program (after j)) t).after
   state_next j = ap (λ k. source_run file program (after k)) (suc_is j)
       ∙ ap (source_run file program) (sym (steps_more schedule t j)) ∙ state_more file program (after j) t
 
-  history_next : (j : ℕ) → source_history file program (after (suc j)) ≡
+  pub history_next : (j : ℕ) → source_history file program (after (suc j)) ≡
       source_history file program (after j) ++
       events_of t (step file program (source_run file program (after j)) t).did
   history_next j = ap (λ k. source_history file program (after k)) (suc_is j)
@@ -84,91 +84,69 @@ module _ (file : File) (program : Program) (schedule : List ℕ) (t : ℕ) where
   at_first : source_history file program (after 0) ≡ source_history file program schedule
   at_first = ap (source_history file program) (append-nil schedule)
 
-  -- a thread that doesn't act waits in no call
-  pub never_at_first : StillAt 0 → NeverWaits file program schedule t
-  never_at_first still steps c w =
-      let e : steps + 0 ≡ steps = omega arith in
-      let same = ap (λ n. length (source_history file program (after n))) (sym e) ∙
-      ap length (history_kept 0 steps still ∙ at_first) in
-      omega (arith, same, ap length w.begun, one_longer (source_history file program schedule) c)
-
-  -- nor does one that ends its call
-  never_past : (m : ℕ) →
-      length (source_history file program (after m)) ≡ length (source_history file program schedule) + 2 →
-      NeverWaits file program schedule t
-  never_past m long steps c w = by_place (cases_lt m steps)
-    where
-      short : length (source_history file program (after steps)) ≡ length (source_history file program schedule) + 1
-      short = ap length w.begun ∙ one_longer (source_history file program schedule) c
-
-      by_place : (m < steps) ⊎ (steps ≤ m) → ⊥
-      by_place (inl less) =
-          let e : (steps - m) + m ≡ steps = omega (arith, less) in
-          let more = no_shorter m (steps - m) in
-          omega (arith, more, ap (λ n. length (source_history file program (after n))) e, long, short)
-      by_place (inr past) =
-          let e : (m - steps) + steps ≡ m = omega (arith, past) in
-          let same = ap length (history_kept steps (m - steps) w.still) in
-          omega (arith, same, ap (λ n. length (source_history file program (after n))) e, long, short)
-
   -- the history within a call
-  begun_at : (call j : ℕ) → IsBegun file program schedule t call j → 1 ≤ j →
+  pub begun_at : (call j : ℕ) → IsBegun file program schedule t call j → 1 ≤ j →
       source_history file program (after j) ≡ source_history file program schedule ++ called t call ∷ []
   begun_at call zero b le = absurd (omega (arith, le))
   begun_at call (suc j) b le = ap (λ k. source_history file program (after k)) (suc_is j) ∙ b.is j (omega arith)
 
-  pub never_at_end : (call j : ℕ) (d : Did) → IsBegun file program schedule t call j → 1 ≤ j →
-      d ≡ (step file program (source_run file program (after j)) t).did → IsLast t call (events_of t d) →
-      NeverWaits file program schedule t
-  never_at_end call j d b le at last =
-      let g = source_history file program schedule in
-      let is : source_history file program (after (suc j)) ≡ (g ++ called t call ∷ []) ++ last.end ∷ [] =
-      history_next j ∙ ap (λ x. source_history file program (after j) ++ events_of t x) (sym at)
-      ∙ ap (λ h. h ++ events_of t d) (begun_at call j b le)
-      ∙ ap (λ es. (g ++ called t call ∷ []) ++ es) last.is in
-      never_past (suc j) (omega (
-        arith,
-        ap length is,
-        one_longer (g ++ called t call ∷ []) last.end,
-        one_longer g (called t call),
-      ))
-
-  -- a thread that waits is one that waits a step later
-  pub stuck_next : (call j : ℕ) (d : Did) → IsBegun file program schedule t call j → 1 ≤ j →
-      d ≡ (step file program (source_run file program (after j)) t).did → IsStill d →
-      IsStuckAfter file program schedule t (j + 1) (called t call)
-  stuck_next call j d b le at still =
-      let e : 1 + j ≡ j + 1 = omega arith in
-      let here : StillAt j = subst IsStill at still in
-      record {
-        begun = ap (λ k. source_history file program (after k)) (sym e) ∙ history_kept j 1 here ∙ begun_at call j b le;
-        still = subst (λ s. IsStill (step file program s t).did)
-            (sym (ap (λ k. source_run file program (after k)) (sym e) ∙ state_kept j 1 here)) here;
-      }
-
-  -- two ways to wait after one schedule have one history
-  pub one_history : (i j : ℕ) (c e : Event) → IsStuckAfter file program schedule t i c →
-      IsStuckAfter file program schedule t j e →
-      source_history file program schedule ++ c ∷ [] ≡ source_history file program schedule ++ e ∷ []
-  one_history i j c e v w = by_place (cases_lt i j)
+  -- where nothing more comes after some steps within a call, the call never ends
+  pub never_by : (call j : ℕ) → IsBegun file program schedule t call j →
+      ((k : ℕ) → source_history file program (after (k + j)) ≡
+      source_history file program schedule ++ called t call ∷ []) →
+      NeverEnds file program schedule t call
+  never_by call j b stays steps = record { is = λ i less. by_place i (cases_lt i j) }
     where
-      by_place : (i < j) ⊎ (j ≤ i) →
-          source_history file program schedule ++ c ∷ [] ≡ source_history file program schedule ++ e ∷ []
-      by_place (inl less) =
-          let n : (j - i) + i ≡ j = omega (arith, less) in
-          sym v.begun ∙ sym (history_kept i (j - i) v.still) ∙ ap (λ k. source_history file program (after k)) n ∙ w.begun
-      by_place (inr past) =
-          let n : (i - j) + j ≡ i = omega (arith, past) in
-          sym v.begun ∙ ap (λ k. source_history file program (after k)) (sym n) ∙ history_kept j (i - j) w.still ∙ w.begun
+      by_place : (i : ℕ) → (i < j) ⊎ (j ≤ i) →
+          source_history file program (after (i + 1)) ≡ source_history file program schedule ++ called t call ∷ []
+      by_place i (inl less) = b.is i less
+      by_place i (inr past) =
+          let e : i + 1 ≡ ((i + 1) - j) + j = omega (arith, past) in
+          ap (λ n. source_history file program (after n)) e ∙ stays ((i + 1) - j)
 
-  -- a thread that waits is there
-  pub stuck_within : (steps : ℕ) (c : Event) → IsStuckAfter file program schedule t steps c →
-      t < length program.threads
-  stuck_within steps c w = by_did (step file program (source_run file program (after 0)) t).did refl
+  -- a thread that waits within a call
+  pub still_never : (call j : ℕ) → IsBegun file program schedule t call j → 1 ≤ j → StillAt j →
+      NeverEnds file program schedule t call
+  still_never call j b le still = never_by call j b (λ k. history_kept j k still ∙ begun_at call j b le)
+
+  -- ---- a call that never ends
+
+  -- it isn't of a thread that doesn't act
+  pub never_called : (c : Event) → StillAt 0 → IsEndlessAfter file program schedule t c → ⊥
+  never_called c still w =
+      let e : (w.steps + 0) + 0 ≡ w.steps + 0 = omega arith in
+      let same = ap (λ n. length (source_history file program (after n))) (sym e) ∙
+      ap length (history_kept 0 (w.steps + 0) still ∙ at_first) in
+      omega (arith, same, ap length (w.never 0), one_longer (source_history file program schedule) c)
+
+  -- it isn't one that ends
+  pub never_ended : (c : Event) (n : ℕ) → HasEnded file program schedule t n →
+      IsEndlessAfter file program schedule t c →
+      ⊥
+  never_ended c n ended w =
+      let long = ap length ended.is ∙
+      length-append (source_history file program schedule) (called t ended.call ∷ ended.end ∷ []) in
+      omega (
+        arith,
+        no_shorter n w.steps,
+        long,
+        ap length (w.never n),
+        one_longer (source_history file program schedule) c,
+      )
+
+  -- two of them are one
+  pub one_history : (call : ℕ) (c : Event) → NeverEnds file program schedule t call →
+      IsEndlessAfter file program schedule t c →
+      source_history file program schedule ++ called t call ∷ [] ≡ source_history file program schedule ++ c ∷ []
+  one_history call c never w = sym ((never (w.steps + 1)).is w.steps (omega arith)) ∙ w.never 1
+
+  -- its thread is there
+  pub endless_within : (c : Event) → IsEndlessAfter file program schedule t c → t < length program.threads
+  endless_within c w = by_did (step file program (source_run file program (after 0)) t).did refl
     where
       by_did : (d : Did) → d ≡ (step file program (source_run file program (after 0)) t).did →
           t < length program.threads
       by_did (did.Acted a x) is = acts_within file program (source_run file program (after 0)) t
           (subst IsActing is tt)
-      by_did did.Waits is = absurd (never_at_first (subst IsStill is tt) steps c w)
-      by_did did.Idle is = absurd (never_at_first (subst IsStill is tt) steps c w)
+      by_did did.Waits is = absurd (never_called c (subst IsStill is tt) w)
+      by_did did.Idle is = absurd (never_called c (subst IsStill is tt) w)

@@ -1,5 +1,6 @@
 -- Which threads are between their calls, and what comes of a thread's next call while no other thread goes on.
-use Rattle.std.specs.Prelude.{◌≡◌, ◌⊎◌, ℕ, ◌+◌, ◌<◌, List, [], ◌∷◌, ◌++◌, Option, Some, None, Contains, replicate}
+pub use Rattle.ls_search_laws.specs.Stepping.{events_in, events_of}
+use Rattle.std.specs.Prelude.{◌≡◌, ◌⊎◌, ℕ, ◌+◌, ◌<◌, List, [], ◌∷◌, ◌++◌, Contains, replicate}
 use Rattle.ls_events.specs.declared.value.Value.{Value}
 use Rattle.ls_events.specs.declared.action.Action.{Action}
 use Rattle.ls_events.specs.declared.action.Action.TheVariants.{Call}
@@ -7,23 +8,9 @@ use Rattle.ls_events.specs.declared.event.Event.{Event}
 use Rattle.ls_events.specs.declared.event.Happening.TheVariants.{Called}
 use Rattle.ls_checked.specs.CheckedTree.{File}
 use Rattle.ls_checked.specs.CheckedProgram.{Program}
-use Rattle.ls_meaning.specs.declared.step.Did.{Did}
-use Rattle.ls_meaning.specs.declared.step.Did.TheVariants as did
 use Rattle.ls_meaning.specs.Still.{IsStill}
 use Rattle.ls_meaning.specs.Threads.{Next, Goes, Ended, Trapped, next}
-use Rattle.ls_meaning.specs.Runs.{State, answers_of, event_of, source_history, source_run, step}
-
--- ---- steps
-
-abbrev pub events_in : Option Event → List Event
-events_in None = []
-events_in (Some e) = e ∷ []
-
--- the events that a step adds to the history: one or none
-abbrev pub events_of : ℕ → Did → List Event
-events_of thread (did.Acted action answer) = events_in (event_of thread action)
-events_of thread did.Waits = []
-events_of thread did.Idle = []
+use Rattle.ls_meaning.specs.Runs.{State, answers_of, source_history, source_run, step}
 
 -- a call's first event
 abbrev pub called : ℕ → ℕ → Event
@@ -52,12 +39,21 @@ pub record IsBegun (file : File) (program : Program) (schedule : List ℕ) (thre
       source_history file program (schedule ++ replicate (j + 1) thread) ≡ source_history file program schedule ++
       called thread call ∷ []
 
--- Then the thread doesn't go on; or the call ends with one step more, and the schedule with these steps is one of those
--- that are known.
-pub record IsFollowed (file : File) (program : Program) (known : List (List ℕ)) (schedule : List ℕ) (thread : ℕ) :
-    Type 0 where
-  pub call : ℕ
-  pub steps : ℕ
-  pub begun : IsBegun file program schedule thread call steps
-  pub last : IsStill (step file program (source_run file program (schedule ++ replicate steps thread)) thread).did
-      ⊎ Contains known (schedule ++ replicate (steps + 1) thread)
+-- However many steps the thread makes, nothing more comes than that its next call begins. So alone the call never ends: its
+-- thread waits, or it turns for ever.
+abbrev pub NeverEnds : File → Program → List ℕ → ℕ → ℕ → Type 0
+NeverEnds file program schedule thread call = (steps : ℕ) → IsBegun file program schedule thread call steps
+
+-- the call ends with one step more, and the schedule with these steps is one of those that are known
+pub record EndsKnown (file : File) (program : Program) (known : List (List ℕ)) (schedule : List ℕ) (thread : ℕ) : Type 0
+  where
+    pub call : ℕ
+    pub steps : ℕ
+    pub begun : IsBegun file program schedule thread call steps
+    pub there : Contains known (schedule ++ replicate (steps + 1) thread)
+
+-- the thread doesn't act; or its next call never ends; or it ends, and that is known
+abbrev pub IsFollowed : File → Program → List (List ℕ) → List ℕ → ℕ → Type 0
+IsFollowed file program known schedule thread =
+    IsStill (step file program (source_run file program schedule) thread).did
+    ⊎ (((call : ℕ) × NeverEnds file program schedule thread call) ⊎ EndsKnown file program known schedule thread)

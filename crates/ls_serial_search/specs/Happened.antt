@@ -11,7 +11,7 @@ use Rattle.ls_serial_search.specs.declared.following.Happened.{Happened}
 use Rattle.ls_serial_search.specs.declared.following.Happened.TheVariants as happened
 use Rattle.ls_serial_search.specs.declared.following.Followed.{Followed}
 use Rattle.ls_serial_search.specs.declared.following.Followed.TheVariants as followed
-use Rattle.ls_serial_search.specs.Following.{IsBegun, called, events_of}
+use Rattle.ls_serial_search.specs.Following.{IsBegun, NeverEnds, called, events_of}
 use Rattle.ls_serial_search.specs.Open.{HasEnded, IsOpen}
 
 -- the event of a step is the end of a call
@@ -33,13 +33,6 @@ HasHappened thread did happened.GoesOn = IsActing did × (events_of thread did �
 HasHappened thread did (happened.Begins call) = events_of thread did ≡ called thread call ∷ []
 HasHappened thread did (happened.Ends call) = IsLast thread call (events_of thread did)
 
--- the call has begun, and the thread doesn't go on; or the thread doesn't call
-pub record StaysIn (file : File) (program : Program) (schedule : List ℕ) (thread : ℕ) : Type 0 where
-  pub call : ℕ
-  pub steps : ℕ
-  pub begun : IsBegun file program schedule thread call steps
-  pub still : IsStill (step file program (source_run file program (schedule ++ replicate steps thread)) thread).did
-
 -- with the last of so many steps the call ends
 pub record EndsIn (file : File) (program : Program) (schedule : List ℕ) (thread steps : ℕ) : Type 0 where
   pub call : ℕ
@@ -51,7 +44,9 @@ pub record EndsIn (file : File) (program : Program) (schedule : List ℕ) (threa
 
 -- what comes of the call within so many steps
 abbrev pub HasFollowed : File → Program → List ℕ → ℕ → ℕ → Followed → Type 0
-HasFollowed file program schedule thread most followed.Stays = StaysIn file program schedule thread
+HasFollowed file program schedule thread most followed.Stays =
+    IsStill (step file program (source_run file program schedule) thread).did
+HasFollowed file program schedule thread most (followed.Never call) = NeverEnds file program schedule thread call
 HasFollowed file program schedule thread most (followed.Ends steps) =
     EndsIn file program schedule thread steps × (steps ≤ most) × HasEnded file program schedule thread steps
 HasFollowed file program schedule thread most followed.GoesOn =

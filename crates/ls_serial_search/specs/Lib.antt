@@ -5,6 +5,7 @@ pub mod Open
 pub mod Laws
 pub mod Orders
 pub mod Happened
+pub mod Marks
 pub mod Told
 pub mod Histories
-pub mod Waiting
+pub mod Endless

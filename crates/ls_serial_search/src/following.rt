@@ -7,6 +7,7 @@ ghost use Rattle.ls_meaning.specs.Runs.{event_of};
 ghost use Rattle.ls_serial_search.specs.Following.{events_in};
 ghost use Rattle.ls_serial_search.specs.Happened.{EventsSay, HasFollowed, HasHappened};
 
+use crate::marks::Mark;
 use crate::playing::played;
 use ls_checked::program::Program;
 use ls_checked::tree::File;
@@ -29,8 +30,10 @@ pub(crate) enum Happened {
 /// What comes of a call.
 #[derive(Drop)]
 pub(crate) enum Followed {
-    /// There is none, or it waits for ever.
+    /// There is none.
     Stays,
+    /// This one never ends: its thread waits, or it comes back to where it was.
+    Never(usize),
     /// It ends with the last of so many steps.
     Ends(usize),
     /// It doesn't end within the bound.
@@ -68,7 +71,15 @@ pub(crate) fn what_happened(thread: usize, did: &Did) -> Happened
     }
 }
 
+/// Whether it is marked where a run stands after so many steps of a call.
+fn is_marked(steps: usize) -> bool {
+    steps >= 64 && steps.is_power_of_two()
+}
+
 /// Follows a thread's next call after a schedule, for at most so many steps. The only refusal is that memory ran out.
+///
+/// It is marked where the run stands after the first step, and after each power of two from 64 on. If the run comes back
+/// there, the call never ends, since no other thread goes on.
 pub(crate) fn follow(
     alloc: Global,
     task: &Task,
@@ -87,11 +98,19 @@ pub(crate) fn follow(
         Happened::GoesOn => return Ok(Followed::GoesOn),
         Happened::Ends(_) => return Ok(Followed::GoesOn),
     };
+    let mut mark = Mark::of(alloc, &run)?;
     for steps in 1..most {
         let did = run.step(alloc, thread as usize)?;
         match what_happened(thread as usize, &did) {
-            Happened::GoesOn => {}
-            Happened::Stays => return Ok(Followed::Stays),
+            Happened::GoesOn => {
+                if mark.is_at(&run) {
+                    return Ok(Followed::Never(call));
+                }
+                if is_marked(steps) {
+                    mark = Mark::of(alloc, &run)?;
+                }
+            }
+            Happened::Stays => return Ok(Followed::Never(call)),
             Happened::Begins(_) => return Ok(Followed::GoesOn),
             Happened::Ends(ended) => {
                 if ended == call {

@@ -53,14 +53,6 @@ fn has_beginning(histories: &[Vec<Event>], first: &[Event]) -> bool
     false
 }
 
-/// The same events.
-pub(crate) fn copied(alloc: Global, events: &[Event]) -> Result<Vec<Event>, AllocError>
-    ensures { IfOk result (λ v. v.items ≡ events.now) }
-{
-    let copy = events.iter().copied().collect(alloc)?;
-    Ok(copy)
-}
-
 /// Adds the history of a schedule, if none of the others begins with it. The only refusal is that memory ran out.
 fn keep(
     alloc: Global,
@@ -73,11 +65,10 @@ fn keep(
         (source_history (plain_file file.now) (plain_program program.now) schedule.now)) }
 {
     let run = played(alloc, file, program, schedule)?;
-    let events = run.history();
-    if has_beginning(histories.as_slice(), events) {
+    let history = run.into_history();
+    if has_beginning(histories.as_slice(), history.as_slice()) {
         return Ok(());
     }
-    let history = copied(alloc, events)?;
     histories.push(history)?;
     Ok(())
 }

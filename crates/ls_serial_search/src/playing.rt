@@ -4,13 +4,13 @@ ghost use Rattle.std.specs.Prelude.{◌≡◌, ◌++◌, ◌+◌, ◌≤◌, IfO
 ghost use Rattle.ls_events.specs.Limits.{most_steps};
 ghost use Rattle.ls_checked.specs.Plain.{plain_file};
 ghost use Rattle.ls_checked.specs.PlainProgram.{plain_program};
-ghost use Rattle.ls_source.specs.Shown.{progress_of};
+ghost use Rattle.ls_source.specs.Stands.{StandsFor};
 ghost use Rattle.ls_serial_search.specs.Orders.{progress_at};
 
 use ls_checked::program::Program;
 use ls_checked::tree::File;
 use ls_events::schedule::Schedule;
-use ls_source::run::SourceRun;
+use ls_source::playing::Playing;
 use std::alloc::{AllocError, Global};
 
 /// The run of a program of a file after a schedule. The only refusal is that memory ran out.
@@ -19,11 +19,11 @@ pub(crate) fn played<'a>(
     file: &'a File,
     program: &'a Program,
     schedule: &Schedule,
-) -> Result<SourceRun<'a>, AllocError>
+) -> Result<Playing<'a>, AllocError>
     ensures { IfOk result
-        (λ r. progress_of r ≡ progress_at (plain_file file.now) (plain_program program.now) schedule.now) }
+        (λ r. StandsFor r (progress_at (plain_file file.now) (plain_program program.now) schedule.now)) }
 {
-    let mut run = SourceRun::new(alloc, file, program)?;
+    let mut run = Playing::new(alloc, file, program)?;
     let steps = schedule.steps();
     for thread in steps {
         let _did = run.step(alloc, *thread as usize)?;

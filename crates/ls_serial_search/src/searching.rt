@@ -67,6 +67,7 @@ fn follow_thread(
     let most = least(task.most_steps, MOST_STEPS - schedule.len());
     let steps = match follow(alloc, task, schedule, thread, most)? {
         Followed::Stays => return Ok(true),
+        Followed::Never(_) => return Ok(true),
         Followed::Ends(steps) => steps,
         Followed::GoesOn => return Ok(false),
     };

@@ -91,8 +91,8 @@ fn runs_of(
     let mut at = schedules.len();
     while at > 0 {
         at -= 1;
-        let run = played(alloc, file, program, &schedules[at])?;
-        runs.add(alloc, run.history())?;
+        let history = played(alloc, file, program, &schedules[at])?.into_history();
+        runs.add(alloc, history.as_slice())?;
     }
     Ok(runs)
 }

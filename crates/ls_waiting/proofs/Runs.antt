@@ -1,7 +1,7 @@
 -- Runs to a call.
 use Rattle.std.proofs.Common.{◌≡◌, ◌∙◌, List, [], ◌∷◌, ◌++◌, refl, sym, ap, subst}
 use Rattle.ls_events.specs.declared.event.Event.{Event}
-use Rattle.ls_waiting.specs.Laws.{AmongWaitsSo, WaitsSoIsAmong}
+use Rattle.ls_waiting.specs.Laws.{AmongNeverEnds, NeverEndsIsAmong}
 use Rattle.ls_waiting.specs.Waits.{ExplainsAlone}
 
 not_empty : (h : List Event) (e : Event) → [] ≡ h ++ e ∷ [] → ⊥
@@ -16,24 +16,24 @@ same_end (x ∷ g) [] c e is = absurd (not_empty g c (cc))
 same_end (x ∷ g) (y ∷ h) c e is =
     let r = same_end g h c e (cc) in (cc, r.1)
 
-pub among : AmongWaitsSo
+pub among : AmongNeverEnds
 among file program runs h c are one =
-    let stuck = are one.run one.there in
-    let same = same_end stuck.before one.to.before stuck.call c (sym stuck.is ∙ one.to.is) in
+    let endless = are one.run one.there in
+    let same = same_end endless.before one.to.before endless.call c (sym endless.is ∙ one.to.is) in
     record {
       run = one.run;
-      stuck = stuck;
+      endless = endless;
       call = same.1;
       alone = subst (λ (g : List Event). ExplainsAlone g h) (sym same.0) one.to.alone;
     }
 
-pub all : WaitsSoIsAmong
+pub all : NeverEndsIsAmong
 all file program runs h c tell w = record {
   run = w.run;
-  there = tell w.run w.stuck;
+  there = tell w.run w.endless;
   to = record {
-    before = w.stuck.before;
-    is = w.stuck.is ∙ ap (λ e. w.stuck.before ++ e ∷ []) w.call;
+    before = w.endless.before;
+    is = w.endless.is ∙ ap (λ e. w.endless.before ++ e ∷ []) w.call;
     alone = w.alone;
   };
 }

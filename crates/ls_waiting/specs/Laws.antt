@@ -6,27 +6,27 @@ use Rattle.ls_checked.specs.CheckedProgram.{Program}
 use Rattle.ls_meaning.specs.declared.step.Did.TheVariants as did
 use Rattle.ls_meaning.specs.Runs.{source_history, source_run, step}
 use Rattle.ls_meaning.specs.Still.{IsOver}
-use Rattle.ls_serial_search.specs.Waiting.{AreStuckRuns, IsStuckRun, TellStuckRuns}
+use Rattle.ls_serial_search.specs.Endless.{AreEndlessRuns, IsEndlessRun, TellEndlessRuns}
 use Rattle.ls_waiting.specs.Waits.{ExplainsAlone, IsPending, IsRunAmong}
 
--- In calls that run one at a time, and explain what has ended in h, this call comes next, and it waits.
-pub record WaitsSo (file : File) (program : Program) (h : List Event) (c : Event) : Type 0 where
+-- In calls that run one at a time, and explain what has ended in h, this call comes next, and alone it never ends.
+pub record NeverEndsSo (file : File) (program : Program) (h : List Event) (c : Event) : Type 0 where
   pub run : List Event
-  pub stuck : IsStuckRun file program run
-  pub call : stuck.call ≡ c
-  pub alone : ExplainsAlone stuck.before h
+  pub endless : IsEndlessRun file program run
+  pub call : endless.call ≡ c
+  pub alone : ExplainsAlone endless.before h
 
--- After the schedule no thread acts, and this call waits, as it does in no calls that run one at a time.
+-- After the schedule no thread acts, and this call waits. In no calls that run one at a time does it never end so.
 pub record WaitsForEver (file : File) (program : Program) (schedule : List ℕ) (c : Event) : Type 0 where
   pub over : IsOver file program (source_run file program schedule)
   pub pending : IsPending (source_history file program schedule) c
-  pub alone : WaitsSo file program (source_history file program schedule) c → ⊥
+  pub alone : NeverEndsSo file program (source_history file program schedule) c → ⊥
 
--- each call that waits where no thread acts waits so in calls that run one at a time
+-- each call that waits where no thread acts never ends in calls that run one at a time
 abbrev pub NoneWaitsForEver : File → Program → Type 0
 NoneWaitsForEver file program =
     (schedule : List ℕ) (c : Event) → IsOver file program (source_run file program schedule) →
-    IsPending (source_history file program schedule) c → WaitsSo file program (source_history file program schedule) c
+    IsPending (source_history file program schedule) c → NeverEndsSo file program (source_history file program schedule) c
 
 -- ---- threads that wait where no thread acts
 
@@ -49,14 +49,14 @@ NoWaitNoneForEver = (file : File) (program : Program) → NoThreadWaits file pro
 
 -- ---- what runs tell
 
--- of the runs in which a thread waits, one that is to a call says that the call waits so
-abbrev pub AmongWaitsSo : Type 0
-AmongWaitsSo =
+-- of the runs up to a call that never ends, one that is to a call says that the call never ends so
+abbrev pub AmongNeverEnds : Type 0
+AmongNeverEnds =
     (file : File) (program : Program) (runs : List (List Event)) (h : List Event) (c : Event) →
-    AreStuckRuns file program runs → IsRunAmong runs h c → WaitsSo file program h c
+    AreEndlessRuns file program runs → IsRunAmong runs h c → NeverEndsSo file program h c
 
--- if they are all, each call that waits so is the last of one
-abbrev pub WaitsSoIsAmong : Type 0
-WaitsSoIsAmong =
+-- if they are all, each call that never ends so is the last of one
+abbrev pub NeverEndsIsAmong : Type 0
+NeverEndsIsAmong =
     (file : File) (program : Program) (runs : List (List Event)) (h : List Event) (c : Event) →
-    TellStuckRuns file program runs → WaitsSo file program h c → IsRunAmong runs h c
+    TellEndlessRuns file program runs → NeverEndsSo file program h c → IsRunAmong runs h c

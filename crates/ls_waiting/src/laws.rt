@@ -1,12 +1,12 @@
 // The laws, each as the contract of a function that computes nothing.
 
-ghost use Rattle.ls_waiting.specs.Laws.{AmongWaitsSo, NoWaitNoneForEver, PendingWaits, WaitsSoIsAmong};
+ghost use Rattle.ls_waiting.specs.Laws.{AmongNeverEnds, NoWaitNoneForEver, PendingWaits, NeverEndsIsAmong};
 
 /// If one of some runs in which a thread waits is to a call, then the call waits so. If the runs are all, no other call
 /// does.
 pub fn runs_decide()
-    ensures among { AmongWaitsSo }
-    ensures all { WaitsSoIsAmong }
+    ensures among { AmongNeverEnds }
+    ensures all { NeverEndsIsAmong }
 {}
 
 /// Where no thread acts, the thread of a pending call waits. So if no thread waits where none acts, no call waits for

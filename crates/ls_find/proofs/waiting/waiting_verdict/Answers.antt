@@ -5,7 +5,7 @@ use Rattle.ls_checked.specs.CheckedProgram.{Program}
 use Rattle.ls_checked.specs.Plain.{plain_file}
 use Rattle.ls_checked.specs.PlainProgram.{plain_program}
 use Rattle.ls_serial_search.specs.Histories.{lists_of}
-use Rattle.ls_serial_search.specs.Waiting.{AreStuckRuns, TellStuckRuns}
+use Rattle.ls_serial_search.specs.Endless.{AreEndlessRuns, TellEndlessRuns}
 use Rattle.ls_translation.specs.Texts.{file_of, program_of}
 use Rattle.ls_types.specs.declared.checked.Checked.{Checked}
 use Rattle.ls_find.specs.Verdicts.{AllExcused, WaitsAt}
@@ -23,10 +23,10 @@ returns-in-None c =
     let file : File = file_of c.args.image.now in
     let program : Program = program_of c.args.image.now in
     let runs = lists_of c.in_ok-stuck.stuck.runs.items in
-    let of_program = subst (λ p. AreStuckRuns (plain_file c.file.result.now) (plain_program p) runs) c.program.ensures
+    let of_program = subst (λ p. AreEndlessRuns (plain_file c.file.result.now) (plain_program p) runs) c.program.ensures
     c.in_ok-stuck.ensures.stuck in
-    let of_file = subst (λ f. AreStuckRuns (plain_file f) program runs) c.file.ensures of_program in
-    let are = subst (λ (k : Checked). AreStuckRuns (plain_file k.file) program runs) c.checked.ensures of_file in
+    let of_file = subst (λ f. AreEndlessRuns (plain_file f) program runs) c.file.ensures of_program in
+    let are = subst (λ (k : Checked). AreEndlessRuns (plain_file k.file) program runs) c.checked.ensures of_file in
     none_waits file program c.args.rows.now runs c.runs_decide.ensures.among c.requires.whole are
     (subst (λ vs. AllExcused (lists_of vs) c.args.rows.now) c.as_slice.ensures.value c.in-None.ensures.none)
 
@@ -36,10 +36,10 @@ returns c =
     let program : Program = program_of c.args.image.now in
     let runs = lists_of c.in_ok-stuck.stuck.runs.items in
     let told = c.in_ok-stuck.ensures.all c.if-not-stuck.false in
-    let of_program = subst (λ p. TellStuckRuns (plain_file c.file.result.now) (plain_program p) runs) c.program.ensures
+    let of_program = subst (λ p. TellEndlessRuns (plain_file c.file.result.now) (plain_program p) runs) c.program.ensures
     told in
-    let of_file = subst (λ f. TellStuckRuns (plain_file f) program runs) c.file.ensures of_program in
-    let tell = subst (λ (k : Checked). TellStuckRuns (plain_file k.file) program runs) c.checked.ensures of_file in
+    let of_file = subst (λ f. TellEndlessRuns (plain_file f) program runs) c.file.ensures of_program in
+    let tell = subst (λ (k : Checked). TellEndlessRuns (plain_file k.file) program runs) c.checked.ensures of_file in
     let waits = subst (λ vs. WaitsAt (lists_of vs) c.args.rows.now c.in-Some.at) c.as_slice.ensures.value
     c.in-Some.ensures.some in
     IfOk-weaker c.bad_row.result _ _

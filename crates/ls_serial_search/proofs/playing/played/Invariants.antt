@@ -1,10 +1,9 @@
-use Rattle.std.proofs.Common.{◌≡◌, take}
+use Rattle.std.proofs.Common.{take}
 use Rattle.ls_checked.specs.Plain.{plain_file}
 use Rattle.ls_checked.specs.PlainProgram.{plain_program}
-use Rattle.ls_source.specs.Shown.{progress_of}
-use Rattle.ls_serial_search.specs.Orders.{progress_at}
+use Rattle.ls_serial_search.proofs.Along.{StandsAt}
 use Rattle.ls_serial_search.proofs.playing.played.Given as goal
 
 abbrev pub invariant-loop-thread : goal.invariant-loop-thread
 invariant-loop-thread l =
-    progress_of l.run ≡ progress_at (plain_file l.file) (plain_program l.program) (take l.thread-index l.steps)
+    StandsAt (plain_file l.file) (plain_program l.program) l.run (take l.thread-index l.steps)

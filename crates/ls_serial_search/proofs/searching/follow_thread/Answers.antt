@@ -27,6 +27,10 @@ pub returns-in-GoesOn-clause-tree : goal.returns-in-GoesOn-clause-tree
 returns-in-GoesOn-clause-tree c = λ place at tree. tree_same (plain_file c.args.task.now.file.now)
     (plain_program c.args.task.now.program.now) c.args.known.now.items place c.args.thread tree
 
+pub returns-in-Never-clause-tree : goal.returns-in-Never-clause-tree
+returns-in-Never-clause-tree c = λ place at tree. tree_same (plain_file c.args.task.now.file.now)
+    (plain_program c.args.task.now.program.now) c.args.known.now.items place c.args.thread tree
+
 pub returns-in-Stays-clause-tree : goal.returns-in-Stays-clause-tree
 returns-in-Stays-clause-tree c = λ place at tree. tree_same (plain_file c.args.task.now.file.now)
     (plain_program c.args.task.now.program.now) c.args.known.now.items place c.args.thread tree

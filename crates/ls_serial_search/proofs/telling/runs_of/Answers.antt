@@ -3,8 +3,8 @@ use Rattle.ls_checked.specs.CheckedTree.{File}
 use Rattle.ls_checked.specs.CheckedProgram.{Program}
 use Rattle.ls_checked.specs.Plain.{plain_file}
 use Rattle.ls_checked.specs.PlainProgram.{plain_program}
-use Rattle.ls_source.specs.Progress.{Progress}
 use Rattle.ls_serial_search.specs.Told.{AreRunsOf}
+use Rattle.ls_serial_search.proofs.Along.{history_is}
 use Rattle.ls_serial_search.proofs.Collected.{all_of, runs_more, runs_none}
 use Rattle.ls_serial_search.proofs.telling.runs_of.Goals as goal
 
@@ -27,9 +27,10 @@ loop-at-preserved c =
     record {
       within = omega (arith, c.loop-at-test.true, c.loop-at.invariant.within);
       are = runs_more file program c.loop-at.runs c.add.new.self c.args.schedules.now (c.loop-at.at - 1)
-          c.index-schedules-at.result c.history.result.now
+          c.index-schedules-at.result c.as_slice.result.now
           (omega (arith, c.loop-at-test.true, c.loop-at.invariant.within)) c.index-schedules-at.is
-          (c.history.ensures ∙ ap (λ (r : Progress). r.history) c.in_ok-run.ensures)
+          (c.as_slice.ensures.value ∙ c.into_history-history.ensures ∙
+          history_is file program c.index-schedules-at.result _ c.in_ok-played.ensures)
           (subst (λ n. AreRunsOf file program (drop n c.args.schedules.now) c.loop-at.runs) more
           c.loop-at.invariant.are) c.in_ok-add.ensures.added;
     }

@@ -4,15 +4,15 @@ use Rattle.ls_checked.specs.PlainProgram.{plain_program}
 use Rattle.ls_meaning.specs.Runs.{source_history}
 use Rattle.ls_serial.specs.Serial.{IsSerial}
 use Rattle.ls_serial_search.specs.Histories.{lists_of}
-use Rattle.ls_serial_search.specs.Waiting.{AreStuckRuns, HaveTried}
-use Rattle.ls_serial_search.proofs.Stuck.{AreKept}
-use Rattle.ls_serial_search.proofs.waiting.try_threads.Given as goal
+use Rattle.ls_serial_search.specs.Endless.{AreEndlessRuns, HaveTried}
+use Rattle.ls_serial_search.proofs.NeverEnding.{AreKept}
+use Rattle.ls_serial_search.proofs.endless.try_threads.Given as goal
 
 abbrev pub invariant-loop-thread : goal.invariant-loop-thread
 invariant-loop-thread l = record {
-  stuck : IsSerial (source_history (plain_file l.task.file.now) (plain_program l.task.program.now) l.schedule) →
-      AreStuckRuns (plain_file l.task.file.now) (plain_program l.task.program.now) (lists_of l.fn.runs.items) →
-      AreStuckRuns (plain_file l.task.file.now) (plain_program l.task.program.now) (lists_of l.runs.items);
+  endless : IsSerial (source_history (plain_file l.task.file.now) (plain_program l.task.program.now) l.schedule) →
+      AreEndlessRuns (plain_file l.task.file.now) (plain_program l.task.program.now) (lists_of l.fn.runs.items) →
+      AreEndlessRuns (plain_file l.task.file.now) (plain_program l.task.program.now) (lists_of l.runs.items);
   kept : AreKept (lists_of l.fn.runs.items) (lists_of l.runs.items);
   tried : l.all ≡ true →
       HaveTried (plain_file l.task.file.now) (plain_program l.task.program.now) (lists_of l.runs.items) l.schedule

@@ -2,13 +2,13 @@ use Rattle.std.proofs.Common.{◌≡◌, true}
 use Rattle.ls_checked.specs.Plain.{plain_file}
 use Rattle.ls_checked.specs.PlainProgram.{plain_program}
 use Rattle.ls_serial_search.specs.Histories.{lists_of}
-use Rattle.ls_serial_search.specs.Waiting.{AreStuckRuns}
-use Rattle.ls_serial_search.proofs.Stuck.{AreTried}
-use Rattle.ls_serial_search.proofs.waiting.stuck_runs.Given as goal
+use Rattle.ls_serial_search.specs.Endless.{AreEndlessRuns}
+use Rattle.ls_serial_search.proofs.NeverEnding.{AreTried}
+use Rattle.ls_serial_search.proofs.endless.endless_runs.Given as goal
 
 abbrev pub invariant-loop-at : goal.invariant-loop-at
 invariant-loop-at l = record {
-  stuck : AreStuckRuns (plain_file l.file) (plain_program l.program) (lists_of l.runs.items);
+  endless : AreEndlessRuns (plain_file l.file) (plain_program l.program) (lists_of l.runs.items);
   known : l.complete ≡ true → l.known.complete ≡ true;
   tried : l.complete ≡ true →
       AreTried (plain_file l.file) (plain_program l.program) l.known.schedules.items (lists_of l.runs.items) l.at;

@@ -6,8 +6,8 @@ use Rattle.ls_checked.specs.Plain.{plain_file}
 use Rattle.ls_checked.specs.PlainProgram.{plain_program, plain_thread}
 use Rattle.ls_serial.proofs.Lists.{get_contains, is_get}
 use Rattle.ls_serial_search.specs.Histories.{lists_of}
-use Rattle.ls_serial_search.proofs.Stuck.{schedules_more, tell_stuck}
-use Rattle.ls_serial_search.proofs.waiting.stuck_runs.Goals as goal
+use Rattle.ls_serial_search.proofs.NeverEnding.{schedules_more, tell_endless}
+use Rattle.ls_serial_search.proofs.endless.endless_runs.Goals as goal
 
 pub loop-at-preserved : goal.loop-at-preserved
 loop-at-preserved c =
@@ -17,9 +17,9 @@ loop-at-preserved c =
     let at : slice_get known c.loop-at.at ≡ Some c.index.result.now =
     is_get known c.loop-at.at c.index.result.now (omega (arith, c.loop-at-test.true, c.len-at-end.ensures)) ∙ ap Some (sym c.index.ensures) in
     record {
-      stuck = c.in_ok-tried.ensures.stuck
+      endless = c.in_ok-tried.ensures.endless
           (c.in_ok-known.ensures.serial c.index.result.now (get_contains known c.loop-at.at c.index.result.now at))
-          c.loop-at.invariant.stuck;
+          c.loop-at.invariant.endless;
       known = λ all. c.loop-at.invariant.known (c.both-complete.ensures.hold all).0;
       tried = λ all. schedules_more file program known c.loop-at.at c.index.result.now (lists_of c.loop-at.runs.items)
           (lists_of c.try_threads.new.runs.items) c.in_ok-tried.ensures.kept at
@@ -32,7 +32,7 @@ pub returns-clause-all : goal.returns-clause-all
 returns-clause-all c = λ all.
     let file : File = plain_file c.args.file.now in
     let program : Program = plain_program c.args.program.now in
-    tell_stuck file program c.in_ok-known.known.schedules.items (lists_of c.loop-at.runs.items) c.loop-at.at
+    tell_endless file program c.in_ok-known.known.schedules.items (lists_of c.loop-at.runs.items) c.loop-at.at
     (c.in_ok-known.ensures.complete (c.loop-at.invariant.known all))
     (omega (arith, c.loop-at-test.false, c.len-at-end.ensures))
     (c.loop-at.invariant.tried all)

@@ -1,0 +1,69 @@
+use Rattle.std.proofs.Common.{◌≡◌, ◌∙◌, ◌∷◌, ◌++◌, [], List, Contains, ap, subst, sym}
+use Rattle.std.proofs.lemmas.List.Elements.{Contains-append_left}
+use Rattle.ls_checked.specs.CheckedTree.{File}
+use Rattle.ls_checked.specs.CheckedProgram.{Program}
+use Rattle.ls_checked.specs.Plain.{plain_file}
+use Rattle.ls_checked.specs.PlainProgram.{plain_program}
+use Rattle.ls_events.specs.declared.event.Event.{Event}
+use Rattle.ls_meaning.specs.Runs.{source_history}
+use Rattle.ls_serial_search.specs.Following.{called}
+use Rattle.ls_serial_search.specs.Happened.{HasFollowed}
+use Rattle.ls_serial_search.specs.Histories.{lists_of}
+use Rattle.ls_serial_search.specs.Endless.{AreEndlessRuns, HasTried}
+use Rattle.ls_serial_search.proofs.Kept.{lists_pushed}
+use Rattle.ls_serial_search.proofs.NeverEnding.{endless_pushed, tried_ended, tried_idle, tried_pushed}
+use Rattle.ls_serial_search.proofs.endless.try_thread.Goals as goal
+
+pub returns-in_ok-push-in-Never-clause-endless : goal.returns-in_ok-push-in-Never-clause-endless
+returns-in_ok-push-in-Never-clause-endless c =
+    let file : File = plain_file c.args.task.now.file.now in
+    let program : Program = plain_program c.args.task.now.program.now in
+    let never = subst (HasFollowed file program c.args.schedule.now c.args.thread c.args.task.now.most_steps)
+    c.in-Never.is c.in_ok-call.ensures in
+    let new = ap lists_of c.in_ok-push-in-Never.ensures.items ∙
+    lists_pushed c.args.runs.now.items c.in_ok-run-in-Never.run'
+    (source_history file program c.args.schedule.now ++ called c.args.thread c.in-Never.call ∷ [])
+    c.in_ok-run-in-Never.ensures in
+    λ serial are. subst (AreEndlessRuns file program) (sym new)
+    (endless_pushed file program c.args.schedule.now c.args.thread c.in-Never.call (lists_of c.args.runs.now.items)
+    never serial are)
+
+pub returns-in_ok-push-in-Never-clause-kept : goal.returns-in_ok-push-in-Never-clause-kept
+returns-in_ok-push-in-Never-clause-kept c =
+    let file : File = plain_file c.args.task.now.file.now in
+    let program : Program = plain_program c.args.task.now.program.now in
+    let begun = source_history file program c.args.schedule.now ++ called c.args.thread c.in-Never.call ∷ [] in
+    let new = ap lists_of c.in_ok-push-in-Never.ensures.items ∙
+    lists_pushed c.args.runs.now.items c.in_ok-run-in-Never.run' begun c.in_ok-run-in-Never.ensures in
+    λ run there. subst (λ (l : List (List Event)). Contains l run) (sym new)
+    (Contains-append_left (lists_of c.args.runs.now.items) (begun ∷ []) run there)
+
+pub returns-in_ok-push-in-Never-clause-tried : goal.returns-in_ok-push-in-Never-clause-tried
+returns-in_ok-push-in-Never-clause-tried c =
+    let file : File = plain_file c.args.task.now.file.now in
+    let program : Program = plain_program c.args.task.now.program.now in
+    let never = subst (HasFollowed file program c.args.schedule.now c.args.thread c.args.task.now.most_steps)
+    c.in-Never.is c.in_ok-call.ensures in
+    let new = ap lists_of c.in_ok-push-in-Never.ensures.items ∙
+    lists_pushed c.args.runs.now.items c.in_ok-run-in-Never.run'
+    (source_history file program c.args.schedule.now ++ called c.args.thread c.in-Never.call ∷ [])
+    c.in_ok-run-in-Never.ensures in
+    λ up. subst (λ (l : List (List Event)). HasTried file program l c.args.schedule.now c.args.thread) (sym new)
+    (tried_pushed file program c.args.schedule.now c.args.thread c.in-Never.call (lists_of c.args.runs.now.items) never)
+
+pub returns-in-Stays-clause-tried : goal.returns-in-Stays-clause-tried
+returns-in-Stays-clause-tried c =
+    let file : File = plain_file c.args.task.now.file.now in
+    let program : Program = plain_program c.args.task.now.program.now in
+    λ up. tried_idle file program c.args.schedule.now c.args.thread (lists_of c.args.runs.now.items)
+    (subst (HasFollowed file program c.args.schedule.now c.args.thread c.args.task.now.most_steps)
+    c.in-Stays.is c.in_ok-call.ensures)
+
+pub returns-in-Ends-clause-tried : goal.returns-in-Ends-clause-tried
+returns-in-Ends-clause-tried c =
+    let file : File = plain_file c.args.task.now.file.now in
+    let program : Program = plain_program c.args.task.now.program.now in
+    λ up. tried_ended file program c.args.schedule.now c.args.thread c.in-Ends.field-0
+    (lists_of c.args.runs.now.items)
+    (subst (HasFollowed file program c.args.schedule.now c.args.thread c.args.task.now.most_steps)
+    c.in-Ends.is c.in_ok-call.ensures).2
