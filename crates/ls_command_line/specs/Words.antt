@@ -168,7 +168,7 @@ find_line =
     (with_rule
     (with_rule
     (with_rule numbers_line (flag_rule (codes "no-waiting")))
-    (flag_rule (codes "turning")))
+    (flag_rule (codes "no-turning")))
     (flag_rule (codes "set")))
     (flag_rule (codes "check")))
     (flag_rule (codes "progress"))
@@ -288,7 +288,7 @@ asked_find rows = record {
   to = number_of (codes "to") 1000000 rows;
   print = number_asked (codes "print") rows;
   waiting = not (flag_of (codes "no-waiting") rows);
-  turning = flag_of (codes "turning") rows;
+  turning = not (flag_of (codes "no-turning") rows);
   set = flag_of (codes "set") rows;
   check = flag_of (codes "check") rows;
   progress = flag_of (codes "progress") rows;

@@ -76,7 +76,7 @@ fn bounds_command<'a>(alloc: Global) -> Result<Command<'a>, AllocError>
     let command = plain_command(
         alloc,
         "find",
-        "Finds the first small program of a class with a history that isn't linearizable, or threads that wait for ever",
+        "Finds the first small program of a class that isn't linearizable, or whose threads wait or turn for ever",
         "Standard input is a class text. As a second part, after a line %%, it may have a menu in place of the class's \
          methods. A line of it has calls that stand together, as lock(#); unlock(#), where # is the thread's number:\n  \
          printf 'class C { int n; int next() { n = n + 1; return n; } }' | listset find",
@@ -165,7 +165,11 @@ pub(crate) fn find_command<'a>(alloc: Global) -> Result<Command<'a>, AllocError>
         "looks for no threads that wait for ever",
     );
     let command = with_option(command, waiting);
-    let turning = flag_option(alloc, "turning", "looks for threads that turn for ever too");
+    let turning = flag_option(
+        alloc,
+        "no-turning",
+        "looks for no threads that turn for ever",
+    );
     let command = with_option(command, turning);
     let set = flag_option(
         alloc,

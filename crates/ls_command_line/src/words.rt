@@ -341,7 +341,7 @@ fn asked_find(options: &ArgMatches<'_>) -> Seeking
         to: number(options, "to", LAST_PROGRAM),
         print: number_asked(options, "print"),
         waiting: !flag(options, "no-waiting"),
-        turning: flag(options, "turning"),
+        turning: !flag(options, "no-turning"),
         set: flag(options, "set"),
         check: flag(options, "check"),
         progress: flag(options, "progress"),

@@ -71,7 +71,7 @@ module _ (file : File) (program : Program) (code : Code) (cells k : ℕ) where
 -- ---- the fault of a setup that goes on
 
 pub not_both : (b : Bool) → b ≡ true → b ≡ false → ⊥
-not_both b yes no = cc
+not_both b h g = cc
 
 -- some states may be kept
 pub some_states : (states : ℕ) → ¬ AreBadStates states → 1 ≤ states

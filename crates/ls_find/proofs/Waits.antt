@@ -22,8 +22,8 @@ use Rattle.ls_find.proofs.Shown.{got_there}
 some_is : {X : Type 0} {x y : X} → Some x ≡ Some y → x ≡ y
 some_is e = cc
 
-pub none_stuck : (file : File) (program : Program) → AreEndlessRuns file program []
-none_stuck file program run there = absurd (omega (arith, there.1))
+pub none_endless : (file : File) (program : Program) → AreEndlessRuns file program []
+none_endless file program run there = absurd (omega (arith, there.1))
 
 -- if each call that is pending where a row ends is the last of a run in which it waits, none waits for ever
 pub none_waits : (file : File) (program : Program) (rows : List Told) (runs : List (List Event)) → AmongNeverEnds →

@@ -2,6 +2,7 @@
 use Rattle.std.specs.Prelude.{◌≡◌, ℕ, true, List, Contains, Some, slice_get}
 use Rattle.ls_checked.specs.CheckedTree.{File}
 use Rattle.ls_checked.specs.CheckedProgram.{Program}
+use Rattle.ls_endless_calls.specs.Turning.{NoneTurnsUnexcused}
 use Rattle.ls_explore.specs.Rows.{Told}
 use Rattle.ls_explore_verdicts.specs.Verdicts.{HasLegalOrder}
 use Rattle.ls_find.specs.Verdicts.{IsBad, IsGood}
@@ -11,7 +12,6 @@ use Rattle.ls_find.specs.declared.sought.Sought.{Sought}
 use Rattle.ls_find.specs.declared.verdict.Verdict.{Verdict}
 use Rattle.ls_find.specs.declared.verdict.Verdict.TheVariants as verdicts
 use Rattle.ls_meaning.specs.Runs.{source_history}
-use Rattle.ls_spinning.specs.Turning.{NeverTurns}
 use Rattle.ls_text_laws.specs.Histories.{IsReadable}
 use Rattle.ls_verdicts.specs.Verdicts.{IsHistoryOf, IsVerdict}
 use Rattle.ls_verdicts.specs.declared.verdicts.Verdict.TheVariants.{Illegal, Legal}
@@ -20,8 +20,8 @@ use Rattle.ls_verdicts.specs.declared.verdicts.Verdict.TheVariants.{Illegal, Leg
 abbrev pub AllLegal : File → Program → Type 0
 AllLegal file program = (schedule : List ℕ) → HasLegalOrder program (source_history file program schedule)
 
--- all histories are linearizable; no thread waits for ever, if waiting is looked for; and all histories are legal, if those
--- of a set are looked for
+-- all histories are linearizable; no thread waits for ever, if waiting is looked for; and all histories are legal, if
+-- those of a set are looked for
 pub record EndsWell (sought : Sought) (file : File) (program : Program) : Type 0 where
   pub good : IsGood sought.waiting file program
   pub legal : sought.set ≡ true → AllLegal file program
@@ -31,14 +31,14 @@ IsEndVerdict sought file program verdicts.Good = EndsWell sought file program
 IsEndVerdict sought file program verdicts.Unknown = Unit {0}
 IsEndVerdict sought file program (verdicts.Bad reason schedule) = IsBad reason file program schedule
 
--- and no threads turn for ever, if these are looked for
+-- and no threads turn for ever in calls that end where calls run one at a time, if these are looked for
 pub record IsGoodFor (sought : Sought) (file : File) (program : Program) : Type 0 where
   pub ends : EndsWell sought file program
-  pub turns : sought.turning ≡ true → NeverTurns file program
+  pub turns : sought.turning ≡ true → NoneTurnsUnexcused file program
 
 -- no threads do, or they do after the schedule that is shown
 abbrev pub IsTurningVerdict : File → Program → Verdict → Type 0
-IsTurningVerdict file program verdicts.Good = NeverTurns file program
+IsTurningVerdict file program verdicts.Good = NoneTurnsUnexcused file program
 IsTurningVerdict file program verdicts.Unknown = Unit {0}
 IsTurningVerdict file program (verdicts.Bad reason schedule) = IsBad reason file program schedule
 

@@ -4,6 +4,7 @@ use Rattle.ls_checked.specs.CheckedTree.{File}
 use Rattle.ls_checked.specs.CheckedProgram.{Program}
 use Rattle.ls_events.specs.declared.event.Event.{Event}
 use Rattle.ls_meaning.specs.Runs.{source_history}
+use Rattle.ls_endless_calls.specs.Turning.{HasTurning}
 use Rattle.ls_explore.specs.Rows.{IsEnd, Told}
 use Rattle.ls_explore_images.specs.Tellings.{schedule_of}
 use Rattle.ls_find.specs.declared.verdict.Reason.{Reason}
@@ -11,7 +12,6 @@ use Rattle.ls_find.specs.declared.verdict.Reason.TheVariants as reasons
 use Rattle.ls_find.specs.declared.verdict.Verdict.{Verdict}
 use Rattle.ls_find.specs.declared.verdict.Verdict.TheVariants as verdicts
 pub use Rattle.ls_source_judge.specs.Judged.{AllLinearizable, IsNotLinearizable}
-use Rattle.ls_spinning.specs.Turning.{TurnsForEver}
 use Rattle.ls_waiting.specs.Laws.{NoneWaitsForEver, WaitsForEver}
 use Rattle.ls_waiting.specs.Waits.{AreExcused, IsUnexcused}
 use Rattle.ls_verdicts.specs.Verdicts as sets
@@ -35,7 +35,7 @@ abbrev pub IsBad : Reason → File → Program → List ℕ → Type 0
 IsBad reasons.NotLinearizable file program schedule = IsNotLinearizable file program schedule
 IsBad reasons.Waits file program schedule = HasWaiting file program schedule
 IsBad reasons.Illegal file program schedule = IsIllegal file program schedule
-IsBad reasons.Turns file program schedule = TurnsForEver file program schedule
+IsBad reasons.Turns file program schedule = HasTurning file program schedule
 
 abbrev pub IsVerdict : Bool → File → Program → Verdict → Type 0
 IsVerdict waiting file program verdicts.Good = IsGood waiting file program

@@ -32,8 +32,6 @@ pub enum Why {
 #[derive(Drop)]
 pub struct Explorer<'a> {
     pub classes: &'a str,
-    /// How many cells the machine has.
-    pub cells: usize,
     /// How many states of a program are kept at the most.
     pub states: usize,
     /// What is looked for.
@@ -44,7 +42,6 @@ pub struct Explorer<'a> {
 fn judged(
     alloc: Global,
     image: &Image,
-    cells: usize,
     states: usize,
     sought: Sought,
 ) -> Result<Judgement<Why>, AllocError>
@@ -52,7 +49,7 @@ fn judged(
     ensures { (classes program : List ℕ) → Compiles classes program image.now →
         IfOk result (IsJudgement (IsSound sought classes program) (IsCut classes program) (IsWhy classes program)) }
 {
-    match sought_verdict(alloc, image, cells, states, sought)? {
+    match sought_verdict(alloc, image, states, sought)? {
         Verdict::Good => Ok(Judgement::Good),
         Verdict::Unknown => Ok(Judgement::Cut),
         Verdict::Bad(reason, steps) => {
@@ -78,7 +75,7 @@ impl<'a> Judge for Explorer<'a> {
     fn judge(&self, alloc: Global, program: &str) -> Result<Judgement<Why>, AllocError> {
         source_is_readable();
         match compile(alloc, self.classes, program) {
-            Ok(image) => judged(alloc, &image, self.cells, self.states, self.sought),
+            Ok(image) => judged(alloc, &image, self.states, self.sought),
             Err(fault) => Ok(Judgement::Halt(Why::NotCompiled(fault))),
         }
     }

@@ -9,7 +9,7 @@ ghost use Rattle.ls_translation.specs.Texts.{file_of, program_of};
 use crate::verdict::{Reason, Verdict, bad_row};
 use ls_checked::program::Program;
 use ls_explore::{Nobody, Row};
-use ls_explore_images::{ExploreFault, explore_image};
+use ls_explore_images::{ExploreFault, explore_source};
 use ls_explore_verdicts::laws::every_schedule_is_legal;
 use ls_image::image::Image;
 use ls_verdicts::{Verdict as SetVerdict, verdict_on};
@@ -71,15 +71,14 @@ fn whole_legality(
 pub(crate) fn set_verdict(
     alloc: Global,
     image: &Image,
-    cells: usize,
     states: usize,
 ) -> Result<Verdict, AllocError>
     requires { AllNamed (file_of image.now) (program_of image.now) }
     ensures { IfOk result (IsSetVerdict (file_of image.now) (program_of image.now)) }
 {
-    match explore_image(alloc, image, cells, states, &mut Nobody) {
+    match explore_source(alloc, image, states, &mut Nobody) {
         Ok(found) => {
-            if !found.complete || !found.roomy {
+            if !found.complete {
                 return Ok(Verdict::Unknown);
             }
             whole_legality(alloc, image, found.setup, found.rows.as_slice())

@@ -6,16 +6,16 @@ ghost use Rattle.ls_translation.specs.Texts.{file_of, program_of};
 
 use crate::legal::set_verdict;
 use crate::verdict::{Reason, Verdict, verdict_on};
+use ls_endless_calls::{Endless, find_endless};
 use ls_image::image::Image;
-use ls_spinning::{Turning, find_turning};
 use std::alloc::{AllocError, Global};
 
 /// What is looked for in programs, besides a history that isn't linearizable.
 #[derive(Copy)]
 pub struct Sought {
-    /// Whether threads that wait for ever are looked for.
+    /// Whether threads are looked for that wait for ever in calls that end where calls run one at a time.
     pub waiting: bool,
-    /// Whether threads that turn for ever are looked for.
+    /// Whether threads are looked for that turn for ever in such calls.
     pub turning: bool,
     /// Whether histories are looked for that are illegal as those of a set.
     pub set: bool,
@@ -27,22 +27,21 @@ impl Clone for Sought {
     }
 }
 
-/// Says of the program of an image what `verdict_on` does; and if all is well and those of a set are looked for, whether
-/// each history is legal.
+/// Says of the program of an image what `verdict_on` does; and if all is well and those of a set are looked for,
+/// whether each history is legal.
 fn end_verdict(
     alloc: Global,
     image: &Image,
-    cells: usize,
     states: usize,
     sought: Sought,
 ) -> Result<Verdict, AllocError>
     requires { AllNamed (file_of image.now) (program_of image.now) }
     ensures { IfOk result (IsEndVerdict sought (file_of image.now) (program_of image.now)) }
 {
-    match verdict_on(alloc, image, cells, states, sought.waiting)? {
+    match verdict_on(alloc, image, states, sought.waiting)? {
         Verdict::Good => {
             if sought.set {
-                return set_verdict(alloc, image, cells, states);
+                return set_verdict(alloc, image, states);
             }
             Ok(Verdict::Good)
         }
@@ -51,32 +50,34 @@ fn end_verdict(
     }
 }
 
-/// Whether threads of the program of an image can turn for ever.
+/// Whether threads of the program of an image can turn for ever in calls that end where calls run one at a time.
 fn turning_verdict(alloc: Global, image: &Image, states: usize) -> Result<Verdict, AllocError>
     ensures { IfOk result (IsTurningVerdict (file_of image.now) (program_of image.now)) }
 {
-    match find_turning(alloc, image.checked().file(), image.program(), states)? {
-        Turning::Never => Ok(Verdict::Good),
-        Turning::Unknown => Ok(Verdict::Unknown),
-        Turning::After(schedule) => Ok(Verdict::Bad(Reason::Turns, schedule)),
+    if states == 0 {
+        return Ok(Verdict::Unknown);
+    }
+    match find_endless(alloc, image.checked().file(), image.program(), states)? {
+        Endless::Never => Ok(Verdict::Good),
+        Endless::Unknown => Ok(Verdict::Unknown),
+        Endless::After(schedule) => Ok(Verdict::Bad(Reason::Turns, schedule)),
     }
 }
 
 /// Says of the program of an image what `verdict_on` does. If all is well, it says of what else is looked for whether
-/// each history is legal as one of a set, and whether threads can turn for ever.
+/// each history is legal as one of a set, and whether threads can turn for ever in calls that end alone.
 ///
 /// The only refusal is that memory ran out.
 pub fn sought_verdict(
     alloc: Global,
     image: &Image,
-    cells: usize,
     states: usize,
     sought: Sought,
 ) -> Result<Verdict, AllocError>
     requires { AllNamed (file_of image.now) (program_of image.now) }
     ensures { IfOk result (IsVerdictFor sought (file_of image.now) (program_of image.now)) }
 {
-    match end_verdict(alloc, image, cells, states, sought)? {
+    match end_verdict(alloc, image, states, sought)? {
         Verdict::Good => {
             if sought.turning {
                 return turning_verdict(alloc, image, states);

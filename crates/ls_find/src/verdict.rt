@@ -9,7 +9,7 @@ use crate::states::verdict_by_states;
 use crate::waiting::waiting_verdict;
 use ls_events::schedule::{MOST_STEPS, Schedule};
 use ls_explore::{Nobody, Row};
-use ls_explore_images::{ExploreFault, explore_image};
+use ls_explore_images::{ExploreFault, explore_source};
 use ls_explore_linearizable::explained_rows;
 use ls_explore_linearizable::laws::none_is_unexplained;
 use ls_image::image::Image;
@@ -20,11 +20,11 @@ use std::alloc::{AllocError, Global};
 pub enum Reason {
     /// Its history isn't linearizable.
     NotLinearizable,
-    /// After it a thread waits for ever.
+    /// After it a thread waits for ever in a call that ends where calls run one at a time.
     Waits,
     /// Its history is one of a set, and no order of it is legal.
     Illegal,
-    /// After it threads turn for ever.
+    /// After it threads turn for ever in such a call.
     Turns,
 }
 
@@ -110,19 +110,18 @@ fn whole_verdict(
     }
 }
 
-/// Explores the program of an image on so many cells, and keeps at most so many states of the machine.
+/// Explores the program of an image by the histories of its source, and keeps at most so many states.
 fn explored_verdict(
     alloc: Global,
     image: &Image,
-    cells: usize,
     states: usize,
     waiting: bool,
 ) -> Result<Verdict, AllocError>
     ensures { IfOk result (IsVerdict waiting (file_of image.now) (program_of image.now)) }
 {
-    match explore_image(alloc, image, cells, states, &mut Nobody) {
+    match explore_source(alloc, image, states, &mut Nobody) {
         Ok(found) => {
-            if !found.complete || !found.roomy {
+            if !found.complete {
                 return Ok(Verdict::Unknown);
             }
             whole_verdict(alloc, image, found.setup, found.rows.as_slice(), waiting)
@@ -132,17 +131,16 @@ fn explored_verdict(
     }
 }
 
-/// Says of the program of an image whether the history of each schedule is linearizable; and if that is asked for, whether
-/// no thread waits for ever. If not, it shows a schedule. The states of the source are searched first. If they don't say
-/// that all is well, the machine is explored on so many cells. Of each at most so many states are kept. Unknown comes if
-/// neither decides: if more states are needed, or more cells, or the setup is too long. It also comes if a thread waits
-/// for ever, and too many calls that run one at a time may wait so.
+/// Says of the program of an image whether the history of each schedule is linearizable; and if that is asked for,
+/// whether no thread waits for ever. If not, it shows a schedule. The states of the source are searched first. If they
+/// don't say that all is well, they are kept once more, each with its history. Of each at most so many states are
+/// kept. Unknown comes if neither decides: if more states are needed, or the setup is too long. It also comes if a
+/// thread waits for ever, and it isn't known of too many calls whether they end where calls run one at a time.
 ///
 /// The only refusal is that memory ran out.
 pub fn verdict_on(
     alloc: Global,
     image: &Image,
-    cells: usize,
     states: usize,
     waiting: bool,
 ) -> Result<Verdict, AllocError>
@@ -152,7 +150,7 @@ pub fn verdict_on(
     if let Verdict::Good = searched {
         return Ok(searched);
     }
-    match explored_verdict(alloc, image, cells, states, waiting)? {
+    match explored_verdict(alloc, image, states, waiting)? {
         Verdict::Unknown => Ok(searched),
         Verdict::Good => Ok(Verdict::Good),
         Verdict::Bad(reason, schedule) => Ok(Verdict::Bad(reason, schedule)),

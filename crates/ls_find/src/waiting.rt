@@ -13,8 +13,8 @@ use crate::verdict::{Reason, Verdict, bad_row};
 use ls_events::event::Event;
 use ls_explore::{Ending, Row};
 use ls_image::image::Image;
-use ls_serial_search::telling::Bounds;
 use ls_serial_search::endless::endless_runs;
+use ls_serial_search::telling::Bounds;
 use ls_waiting::first_unexcused;
 use ls_waiting::laws::runs_decide;
 use std::alloc::{AllocError, Global};
@@ -99,11 +99,11 @@ pub(crate) fn waiting_verdict(
         steps: MOST_STEPS_ALONE,
         orders: MOST_ORDERS,
     };
-    let stuck = endless_runs(alloc, image.checked().file(), image.program(), &bounds)?;
-    match first_waiting(stuck.runs.as_slice(), rows) {
+    let endless = endless_runs(alloc, image.checked().file(), image.program(), &bounds)?;
+    match first_waiting(endless.runs.as_slice(), rows) {
         None => Ok(Verdict::Good),
         Some(at) => {
-            if !stuck.complete || !is_over(rows, at) {
+            if !endless.complete || !is_over(rows, at) {
                 return Ok(Verdict::Unknown);
             }
             bad_row(alloc, Reason::Waits, setup, rows, at)

@@ -22,9 +22,6 @@ use ls_find_reports::{Figures, Shown, figures_of, print_found, print_none};
 use std::alloc::{AllocError, Global};
 use std::thread::Threads;
 
-/// How many cells the machine has on which programs are explored.
-const CELLS: usize = 65_536;
-
 /// The numbers of the programs that are looked through, and what is looked for.
 #[derive(Copy)]
 pub struct Range {
@@ -128,7 +125,6 @@ fn found<W: Watch>(
     let numbers = Numbers { from, to };
     let explorer = Explorer {
         classes,
-        cells: CELLS,
         states: range.states,
         sought: range.sought,
     };
@@ -137,12 +133,12 @@ fn found<W: Watch>(
 }
 
 /// The first program of a class text, by numbers of a range, that has a history that isn't linearizable; or, if these
-/// are looked for, threads that wait for ever, or a history that is illegal as one of a set. Its number and the reason,
-/// how the programs before it were passed, its text, and as another part the schedule. Or that there is none. A program
-/// that isn't explored whole is counted as cut.
+/// are looked for, threads that wait or turn for ever, or a history that is illegal as one of a set. Its number and
+/// the reason, how the programs before it were passed, its text, and as another part the schedule. Or that there is
+/// none. A program that isn't explored whole is counted as cut.
 ///
-/// Refused with 61 as `explore` is; else as `programs_of` is; else as `check_entries` is, if a menu is given; else with 70
-/// if no program has the first number, or the last number comes before it; else as `compile` is for a program.
+/// Refused with 61 as `explore` is; else as `programs_of` is; else as `check_entries` is, if a menu is given; else
+/// with 70 if no program has the first number, or the last number comes before it; else as `compile` is for a program.
 ///
 /// Programs are explored side by side. The answer is the one of a single thread.
 pub fn find<W: Watch>(
@@ -167,7 +163,8 @@ pub fn find<W: Watch>(
 
 /// The text of the program of a number, from 1, of a class text.
 ///
-/// Refused as `programs_of` is; else as `check_entries` is, if a menu is given; else with 70 if no program has the number.
+/// Refused as `programs_of` is; else as `check_entries` is, if a menu is given; else with 70 if no program has the
+/// number.
 pub fn print_program(
     alloc: Global,
     choosing: Choosing,

@@ -117,7 +117,7 @@ module _ (file : File) (program : Program) where
   -- ---- all of them
 
   -- schedules that lead to one state, with one history, do so with more steps
-  same_after : (one other : List ℕ) (t : ℕ) → source_run file program one ≡ source_run file program other →
+  pub same_after : (one other : List ℕ) (t : ℕ) → source_run file program one ≡ source_run file program other →
       source_history file program one ≡ source_history file program other →
       (n : ℕ) →
       (source_run file program (one ++ replicate n t) ≡ source_run file program (other ++ replicate n t))

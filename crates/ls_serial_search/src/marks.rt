@@ -18,10 +18,7 @@ pub(crate) struct Mark<'a> {
 }
 
 /// Threads that still have to do the same. The only refusal is that memory ran out.
-fn copy_threads<'a>(
-    alloc: Global,
-    threads: &[Thread<'a>],
-) -> Result<Vec<Thread<'a>>, AllocError>
+fn copy_threads<'a>(alloc: Global, threads: &[Thread<'a>]) -> Result<Vec<Thread<'a>>, AllocError>
     ensures { IfOk result (λ v. map thread_of v.items ≡ map thread_of threads.now) }
 {
     let mut copies = Vec::new(alloc);
@@ -62,6 +59,7 @@ impl<'a> Mark<'a> {
     pub(crate) fn is_at(&self, run: &Playing<'a>) -> bool
         ensures { IsTrue result → IsMarkOf self.now run.now }
     {
-        are_same_threads(&self.threads, &run.threads) && is_same_store(&self.store, &run.stage.store)
+        are_same_threads(&self.threads, &run.threads)
+            && is_same_store(&self.store, &run.stage.store)
     }
 }

@@ -66,14 +66,14 @@ begins_so f g h (r, e) (q, d) = (r ++ q, sym (append_assoc f r q) ∙ ap (λ l. 
 steps_more : (n m : ℕ) → replicate {A = ℕ} (n + m) 0 ≡ replicate n 0 ++ replicate m 0
 steps_more n m = sym (replicate-append-replicate n m 0)
 
-abbrev First : Option (List Event)
+abbrev pub First : Option (List Event)
 First = Some []
 
 -- a place, where no path is told of
 abbrev nowhere : Option ℕ
 nowhere = Some 0
 
-abbrev Next : Option (List Event) → Event → Option (List Event)
+abbrev pub Next : Option (List Event) → Event → Option (List Event)
 Next = nameless_next one_more
 
 module _ (file : File) (program : Program) (k : ℕ) (up : SetsUp file program k) (t : Table)
@@ -84,22 +84,22 @@ module _ (file : File) (program : Program) (k : ℕ) (up : SetsUp file program k
     (seen : List Seen)
     (expanded : AreExpanded First Next file program (pairs_at First t (map Some histories) nodes)
     (length program.threads) seen)
-    (all : length seen ≡ length nodes) (rows : List Row) (told : TellListed histories nodes seen rows) where
-  abbrev pairs : List (Noticed (Option (List Event)))
+    (all : length seen ≡ length nodes) where
+  abbrev pub pairs : List (Noticed (Option (List Event)))
   pairs = pairs_at First t (map Some histories) nodes
 
   abbrev root : Noticed (Option (List Event))
   root = noticed_of First Next file program (replicate k 0)
 
   -- the state of a pair
-  record Found (p : Noticed (Option (List Event))) : Type 0 where
-    at : ℕ
-    node : Node
-    node_is : slice_get nodes at ≡ Some node
-    pair_is : slice_get pairs at ≡ Some p
-    noted : (h : List Event) → slice_get histories node.place.noted ≡ Some h → p.noted ≡ Some h
+  pub record Found (p : Noticed (Option (List Event))) : Type 0 where
+    pub at : ℕ
+    pub node : Node
+    pub node_is : slice_get nodes at ≡ Some node
+    pub pair_is : slice_get pairs at ≡ Some p
+    pub noted : (h : List Event) → slice_get histories node.place.noted ≡ Some h → p.noted ≡ Some h
 
-  found : (p : Noticed (Option (List Event))) → Contains pairs p → Found p
+  pub found : (p : Noticed (Option (List Event))) → Contains pairs p → Found p
   found p c =
       let p_is : slice_get pairs c.0 ≡ Some p = slice_get-get_or pairs c.0 p c.1 ∙ ap Some c.2 in
       let n = map_from (λ (m : Node). noticed_at First t (map Some histories) m.place) nodes c.0 p p_is in
@@ -156,96 +156,100 @@ module _ (file : File) (program : Program) (k : ℕ) (up : SetsUp file program k
     free = tt;
   }
 
-  is_search : IsSearch First Next at_once IsRenaming (λ m n. m ≡ n) file program k pairs
+  pub is_search : IsSearch First Next at_once IsRenaming (λ m n. m ≡ n) file program k pairs
   is_search = searched (λ (h : List Event). h) [] one_more (λ h. false) file program k nowhere nowhere up closes
 
   -- what is noted of a schedule is its history
-  of_schedule : (schedule : List ℕ) (h : List Event) →
+  pub of_schedule : (schedule : List ℕ) (h : List Event) →
       (noticed_of First Next file program schedule).noted ≡ Some h →
       h ≡ source_history file program schedule
   of_schedule schedule h e =
       sym (noted_is one_more [] h (source_history file program schedule) e)
       ∙ folded [] (source_history file program schedule)
 
-  -- where a pair is noted as a schedule, the schedule's history begins a row's
-  begun_pair : (p : Noticed (Option (List Event))) → Contains pairs p → (schedule : List ℕ) →
-      p.noted ≡ (noticed_of First Next file program schedule).noted →
-      IsBegun rows (source_history file program schedule)
-  begun_pair p c schedule same =
-      let f = found p c in
-      let b : IsBegunBy histories nodes seen rows f.node = told.covers f.at f.node f.node_is in
-      record {
-        row = b.row;
-        there = b.there;
-        begins = subst (λ h. IsBeginning h b.row.history.items)
-            (of_schedule schedule b.history (sym same ∙ f.noted b.history b.is)) b.begins;
-      }
-
   root_there : Contains pairs root
   root_there = (0, below pairs 0 root begins, get_or_from_slice_get pairs 0 root root begins)
 
-  begun_before : (schedule : List ℕ) → IsBefore file program k schedule →
-      IsBegun rows (source_history file program schedule)
-  begun_before schedule b =
-      let is : k ≡ b.count + (k - b.count) = omega (arith, b.fewer) in
-      let whole : IsBeginning (source_history file program (replicate b.count 0))
-      (source_history file program (replicate k 0)) =
-      subst (λ ts. IsBeginning (source_history file program (replicate b.count 0)) (source_history file program ts))
-      (sym (ap (λ n. replicate n 0) is ∙ steps_more b.count (k - b.count)))
-      (goes_on_from file program (replicate b.count 0) (replicate (k - b.count) 0)) in
-      let r : IsBegun rows (source_history file program (replicate k 0)) =
-      begun_pair root root_there (replicate k 0) refl in
-      record {
-        row = r.row;
-        there = r.there;
-        begins = subst (λ h. IsBeginning h r.row.history.items) (sym b.history)
-            (begins_so (source_history file program (replicate b.count 0)) (source_history file program (replicate k 0))
-            r.row.history.items whole r.begins);
-      }
+  -- ---- what rows tell
 
-  pub begun : (schedule : List ℕ) → IsBegun rows (source_history file program schedule)
-  begun schedule =
-      by_case (finds_all First Next at_once IsRenaming (λ m n. m ≡ n) file program k pairs is_search schedule)
-    where
-      by_case : IsFound at_once IsRenaming (λ m n. m ≡ n) file pairs
-          (noticed_of First Next file program schedule) ⊎ IsBefore file program k schedule →
-          IsBegun rows (source_history file program schedule)
-      by_case (inl f) = begun_pair f.pair f.there schedule f.alike
-      by_case (inr b) = begun_before schedule b
+  module _ (rows : List Row) (told : TellListed histories nodes seen rows) where
+    -- where a pair is noted as a schedule, the schedule's history begins a row's
+    begun_pair : (p : Noticed (Option (List Event))) → Contains pairs p → (schedule : List ℕ) →
+        p.noted ≡ (noticed_of First Next file program schedule).noted →
+        IsBegun rows (source_history file program schedule)
+    begun_pair p c schedule same =
+        let f = found p c in
+        let b : IsBegunBy histories nodes seen rows f.node = told.covers f.at f.node f.node_is in
+        record {
+          row = b.row;
+          there = b.there;
+          begins = subst (λ h. IsBeginning h b.row.history.items)
+              (of_schedule schedule b.history (sym same ∙ f.noted b.history b.is)) b.begins;
+        }
 
-  acting_still : (d : Did) → IsActing d → IsStill d → ⊥
-  acting_still (did.Acted action answer) acts still = still
-  acting_still did.Waits acts still = acts
-  acting_still did.Idle acts still = acts
+    begun_before : (schedule : List ℕ) → IsBefore file program k schedule →
+        IsBegun rows (source_history file program schedule)
+    begun_before schedule b =
+        let is : k ≡ b.count + (k - b.count) = omega (arith, b.fewer) in
+        let whole : IsBeginning (source_history file program (replicate b.count 0))
+        (source_history file program (replicate k 0)) =
+        subst (λ ts. IsBeginning (source_history file program (replicate b.count 0)) (source_history file program ts))
+        (sym (ap (λ n. replicate n 0) is ∙ steps_more b.count (k - b.count)))
+        (goes_on_from file program (replicate b.count 0) (replicate (k - b.count) 0)) in
+        let r : IsBegun rows (source_history file program (replicate k 0)) =
+        begun_pair root root_there (replicate k 0) refl in
+        record {
+          row = r.row;
+          there = r.there;
+          begins = subst (λ h. IsBeginning h r.row.history.items) (sym b.history)
+              (begins_so (source_history file program (replicate b.count 0))
+              (source_history file program (replicate k 0))
+              r.row.history.items whole r.begins);
+        }
 
-  pub ended : (schedule : List ℕ) → IsOver file program (source_run file program schedule) →
-      HasEnd rows (source_history file program schedule)
-  ended schedule over =
-      by_end (finds_ends First Next at_once IsRenaming (λ m n. m ≡ n) file program k pairs is_search schedule over)
-    where
-      by_acts : (p : Noticed (Option (List Event))) (s : Seen) →
-          IsExpanded First Next file program pairs (length program.threads) p s →
-          ((u : ℕ) → IsStill (stride file p.configuration u).did) →
-          (s.acts ≡ true) ⊎ (s.acts ≡ false) →
-          s.acts ≡ false
-      by_acts p s h still (inl is_so) =
-          let u = h.acting is_so in absurd (acting_still (stride file p.configuration u.0).did u.2 (still u.0))
-      by_acts p s h still (inr isnt) = isnt
+    pub begun : (schedule : List ℕ) → IsBegun rows (source_history file program schedule)
+    begun schedule =
+        by_case (finds_all First Next at_once IsRenaming (λ m n. m ≡ n) file program k pairs is_search schedule)
+      where
+        by_case : IsFound at_once IsRenaming (λ m n. m ≡ n) file pairs
+            (noticed_of First Next file program schedule) ⊎ IsBefore file program k schedule →
+            IsBegun rows (source_history file program schedule)
+        by_case (inl f) = begun_pair f.pair f.there schedule f.alike
+        by_case (inr b) = begun_before schedule b
 
-      by_end : IsEndFound First Next at_once IsRenaming (λ m n. m ≡ n) file program pairs schedule →
-          HasEnd rows (source_history file program schedule)
-      by_end end =
-          let p : Noticed (Option (List Event)) = end.found.pair in
-          let f = found p end.found.there in
-          let s = there seen f.at (let b = below nodes f.at f.node f.node_is in omega (arith, b, all)) in
-          let h : IsExpanded First Next file program pairs (length program.threads) p s.0 =
-          expanded f.at p s.0 f.pair_is s.1 in
-          let still : s.0.acts ≡ false = by_acts p s.0 h end.over (cases_Bool s.0.acts) in
-          let e : HasEndOf histories nodes seen rows f.node = told.ended f.at f.node s.0 f.node_is s.1 still in
-          record {
-            row = e.row;
-            there = e.there;
-            same = of_schedule schedule e.row.history.items
-                (sym end.found.alike ∙ f.noted e.row.history.items e.history);
-            ends = e.ends;
-          }
+    acting_still : (d : Did) → IsActing d → IsStill d → ⊥
+    acting_still (did.Acted action answer) acts still = still
+    acting_still did.Waits acts still = acts
+    acting_still did.Idle acts still = acts
+
+    pub ended : (schedule : List ℕ) → IsOver file program (source_run file program schedule) →
+        HasEnd rows (source_history file program schedule)
+    ended schedule over =
+        by_end (finds_ends First Next at_once IsRenaming (λ m n. m ≡ n) file program k pairs is_search schedule over)
+      where
+        by_acts : (p : Noticed (Option (List Event))) (s : Seen) →
+            IsExpanded First Next file program pairs (length program.threads) p s →
+            ((u : ℕ) → IsStill (stride file p.configuration u).did) →
+            (s.acts ≡ true) ⊎ (s.acts ≡ false) →
+            s.acts ≡ false
+        by_acts p s h still (inl is_so) =
+            let u = h.acting is_so in absurd (acting_still (stride file p.configuration u.0).did u.2 (still u.0))
+        by_acts p s h still (inr isnt) = isnt
+
+        by_end : IsEndFound First Next at_once IsRenaming (λ m n. m ≡ n) file program pairs schedule →
+            HasEnd rows (source_history file program schedule)
+        by_end end =
+            let p : Noticed (Option (List Event)) = end.found.pair in
+            let f = found p end.found.there in
+            let s = there seen f.at (let b = below nodes f.at f.node f.node_is in omega (arith, b, all)) in
+            let h : IsExpanded First Next file program pairs (length program.threads) p s.0 =
+            expanded f.at p s.0 f.pair_is s.1 in
+            let still : s.0.acts ≡ false = by_acts p s.0 h end.over (cases_Bool s.0.acts) in
+            let e : HasEndOf histories nodes seen rows f.node = told.ended f.at f.node s.0 f.node_is s.1 still in
+            record {
+              row = e.row;
+              there = e.there;
+              same = of_schedule schedule e.row.history.items
+                  (sym end.found.alike ∙ f.noted e.row.history.items e.history);
+              ends = e.ends;
+            }

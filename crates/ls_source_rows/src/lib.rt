@@ -1,7 +1,7 @@
 //! The histories of all schedules of a program, each with a schedule, by the states of the source.
 #![tactic(auto)]
 
-mod observing;
+pub mod observing;
 mod rows;
 mod sorting;
 mod telling;

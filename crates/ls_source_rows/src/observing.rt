@@ -14,7 +14,7 @@ use std::alloc::{AllocError, Global};
 
 /// An observer that notes the whole history. None is bad.
 #[derive(Drop)]
-pub(crate) struct Histories;
+pub struct Histories;
 
 /// A number for each kind of exception.
 fn number_of_kind(kind: Kind) -> u64 {

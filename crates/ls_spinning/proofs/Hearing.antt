@@ -31,6 +31,7 @@ use Rattle.ls_spinning.specs.declared.graph.Edge.{Edge}
 use Rattle.ls_spinning.specs.declared.graph.Seen.{Seen}
 use Rattle.ls_spinning.specs.Heard.{EachIsHeard, HeardAlong}
 use Rattle.ls_spinning.specs.Quiet.{AreEdges, AreExpanded, Closes, HasAhead, HasOther, IsEdge}
+use Rattle.ls_spinning.specs.Sounding.{Sounds}
 use Rattle.ls_spinning.specs.Turning.{NeverTurns, TurnsForEver}
 use Rattle.ls_spinning.proofs.Growing.{some_is}
 use Rattle.ls_spinning.proofs.Staying.{acts_there, run_after, sees_at}
@@ -52,14 +53,9 @@ not_acting did.Waits still acts = absurd acts
 not_acting did.Idle still acts = absurd acts
 
 module _ (file : File) where
-  -- some of these steps has an event
-  abbrev Sounds : List ℕ → Configuration → Type 0
-  Sounds [] c = ⊥
-  Sounds (u ∷ path) c = (events_of u (stride file c u).did ≡ [] → ⊥) ⊎ Sounds path (stride file c u).after
-
-  sounds_other : (names : ℕ → ℕ) → IsRenaming names → (path : List ℕ) (c d : Configuration) → IsRenamed names c d →
-      Sounds path c →
-      Sounds path d
+  pub sounds_other : (names : ℕ → ℕ) → IsRenaming names → (path : List ℕ) (c d : Configuration) → IsRenamed names c d →
+      Sounds file path c →
+      Sounds file path d
   sounds_other names is [] c d same h = absurd h
   sounds_other names is (u ∷ path) c d same (inl loud) = inl (λ none.
       loud (none_before (renamed_event names) (events_of u (stride file c u).did)
@@ -70,16 +66,16 @@ module _ (file : File) where
       (stride_other file names is c d same u).after h)
 
   -- so it is of what steps at once lead to the configuration
-  sounds_ahead : (ts path : List ℕ) (c last : Configuration) → LeadsTo at_once file c ts last → Sounds path last →
-      Sounds (ts ++ path) c
-  sounds_ahead [] path c last leads h = subst (Sounds path) (sym leads) h
+  sounds_ahead : (ts path : List ℕ) (c last : Configuration) → LeadsTo at_once file c ts last → Sounds file path last →
+      Sounds file (ts ++ path) c
+  sounds_ahead [] path c last leads h = subst (Sounds file path) (sym leads) h
   sounds_ahead (t ∷ ts) path c last leads h = inr (sounds_ahead ts path (stride file c t).after last leads.1 h)
 
   module _ (list : List Configuration) (threads most : ℕ) (seen : List Seen) (edges : List Edge)
       (sees : AreExpanded file list threads most seen) (led : AreEdges file list edges) where
     sounds_at : (path : List ℕ) (at : ℕ) (c : Configuration) → slice_get list at ≡ Some c →
         HeardAlong seen edges at path →
-        (steps : List ℕ) × Sounds steps c
+        (steps : List ℕ) × Sounds file steps c
     sounds_at [] at c here (s, s_here, loud) =
         let u = (sees at c s here s_here).sounding loud in
         (u.0 ∷ [], inl u.1)
@@ -89,7 +85,8 @@ module _ (file : File) where
         let from : is.from ≡ c = some_is (sym is.here ∙ ap (slice_get list) from_is ∙ here) in
         let after : Configuration = (stride file is.from is.thread).after in (
           is.thread ∷ (replicate is.steps is.thread ++ so.0),
-          inr (subst (λ (k : Configuration). Sounds (replicate is.steps is.thread ++ so.0) (stride file k is.thread).after)
+          inr (subst (λ (k : Configuration). Sounds file (replicate is.steps is.thread ++ so.0)
+              (stride file k is.thread).after)
               from
               (sounds_ahead (replicate is.steps is.thread) so.0 after is.ahead.last is.ahead.leads
               (sounds_other is.ahead.other.names is.ahead.other.renaming so.0 is.to is.ahead.last is.ahead.other.same
@@ -97,10 +94,10 @@ module _ (file : File) where
         )
 
 module _ (file : File) (program : Program) where
-  abbrev run_at : List ℕ → Configuration
+  abbrev pub run_at : List ℕ → Configuration
   run_at schedule = configuration_of file program (source_run file program schedule)
 
-  not_silent : (path schedule : List ℕ) → Sounds file path (run_at schedule) →
+  pub not_silent : (path schedule : List ℕ) → Sounds file path (run_at schedule) →
       ((more : List ℕ) →
       source_history file program (schedule ++ more) ≡ source_history file program schedule) →
       ⊥
@@ -122,7 +119,7 @@ module _ (file : File) (program : Program) where
       ∙ sym (silent (u ∷ [])))
 
   -- steps at once are steps of the run
-  ahead_run : (ts schedule : List ℕ) (last : Configuration) → LeadsTo at_once file (run_at schedule) ts last →
+  pub ahead_run : (ts schedule : List ℕ) (last : Configuration) → LeadsTo at_once file (run_at schedule) ts last →
       run_at (schedule ++ ts) ≡ last
   ahead_run [] schedule last leads = ap run_at (append-nil schedule) ∙ leads
   ahead_run (t ∷ ts) schedule last leads =
@@ -131,7 +128,7 @@ module _ (file : File) (program : Program) where
       (subst (λ (k : Configuration). LeadsTo at_once file k ts last) (run_after file program schedule t) leads.1)
 
   -- what is longer turns too
-  turns_later : (schedule ts : List ℕ) → TurnsForEver file program schedule → TurnsForEver file program (schedule ++ ts)
+  pub turns_later : (schedule ts : List ℕ) → TurnsForEver file program schedule → TurnsForEver file program (schedule ++ ts)
   turns_later schedule ts h = record {
     acts = λ more.
         subst (λ (l : List ℕ). (t : ℕ) × IsActing (step file program (source_run file program l) t).did)

@@ -3,3 +3,4 @@ pub mod Told
 pub mod Heard
 pub mod Quiet
 pub mod Spots
+pub mod Sounding

@@ -17,6 +17,8 @@ use crate::graph::{Graph, Ground, Seen};
 use crate::spots::{Spot, Spots};
 use ls_checked::program::Program;
 use ls_checked::tree::File;
+use ls_events::schedule::Schedule;
+use ls_renaming::constants::file_has_constants;
 use ls_renumbering::renumbering::Renumbering;
 use ls_run_search::numbering::{Numbered, number};
 use ls_search::places::Place;
@@ -137,4 +139,23 @@ pub(crate) fn are_turning(
         return Ok(false);
     }
     Ok(turn_all(&led.graph.seen))
+}
+
+/// Whether threads turn for ever after a schedule. True only where they do. It is false also where more states would be
+/// needed than this limit, and where a constant of the file names an object, which none does of a file that was read. A
+/// refusal is that memory ran out, or that a store or a work has no number left.
+pub fn turns_after(
+    alloc: Global,
+    file: &File,
+    program: &Program,
+    schedule: &Schedule,
+    limit: usize,
+) -> Result<bool, AllocError>
+    ensures { IfOk result (λ b. IsTrue b →
+        TurnsForEver (plain_file file.now) (plain_program program.now) schedule.now) }
+{
+    if !file_has_constants(file) {
+        return Ok(false);
+    }
+    are_turning(alloc, file, program, schedule.steps(), limit)
 }

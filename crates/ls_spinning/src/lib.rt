@@ -9,4 +9,5 @@ mod leading;
 mod reaching;
 mod spots;
 
+pub use confirming::turns_after;
 pub use finding::{Turning, find_turning};

@@ -1,4 +1,4 @@
-//! Which calls wait in a history so that none waits so in calls that run one at a time.
+//! Which pending calls of a history end in calls that run one at a time.
 #![tactic(auto)]
 
 mod explaining;

@@ -1,4 +1,4 @@
-// Which calls of a history wait as they do in no calls that run one at a time.
+// Which pending calls of a history are the last of no run of calls one at a time.
 
 ghost use Rattle.std.specs.Prelude.{◌<◌, Decides, IfNone, IfSome, MatchBool, length};
 ghost use Rattle.ls_serial.specs.Serial.{IsEndOf};

@@ -9,22 +9,22 @@ use Rattle.ls_serial_search.specs.Endless.{AreEndlessRuns, TellEndlessRuns}
 use Rattle.ls_translation.specs.Texts.{file_of, program_of}
 use Rattle.ls_types.specs.declared.checked.Checked.{Checked}
 use Rattle.ls_find.specs.Verdicts.{AllExcused, WaitsAt}
-use Rattle.ls_find.proofs.Waits.{none_stuck, none_waits, one_waits}
+use Rattle.ls_find.proofs.Waits.{none_endless, none_waits, one_waits}
 use Rattle.ls_find.proofs.waiting.waiting_verdict.Goals as goal
 
 pub returns-then-is_quiet : goal.returns-then-is_quiet
 returns-then-is_quiet c =
     none_waits (file_of c.args.image.now) (program_of c.args.image.now) c.args.rows.now [] c.runs_decide.ensures.among
-    c.requires.whole (none_stuck (file_of c.args.image.now) (program_of c.args.image.now))
+    c.requires.whole (none_endless (file_of c.args.image.now) (program_of c.args.image.now))
     (c.is_quiet.ensures c.if-is_quiet.true)
 
 pub returns-in-None : goal.returns-in-None
 returns-in-None c =
     let file : File = file_of c.args.image.now in
     let program : Program = program_of c.args.image.now in
-    let runs = lists_of c.in_ok-stuck.stuck.runs.items in
+    let runs = lists_of c.in_ok-endless.endless.runs.items in
     let of_program = subst (λ p. AreEndlessRuns (plain_file c.file.result.now) (plain_program p) runs) c.program.ensures
-    c.in_ok-stuck.ensures.stuck in
+    c.in_ok-endless.ensures.endless in
     let of_file = subst (λ f. AreEndlessRuns (plain_file f) program runs) c.file.ensures of_program in
     let are = subst (λ (k : Checked). AreEndlessRuns (plain_file k.file) program runs) c.checked.ensures of_file in
     none_waits file program c.args.rows.now runs c.runs_decide.ensures.among c.requires.whole are
@@ -34,10 +34,10 @@ pub returns : goal.returns
 returns c =
     let file : File = file_of c.args.image.now in
     let program : Program = program_of c.args.image.now in
-    let runs = lists_of c.in_ok-stuck.stuck.runs.items in
-    let told = c.in_ok-stuck.ensures.all c.if-not-stuck.false in
-    let of_program = subst (λ p. TellEndlessRuns (plain_file c.file.result.now) (plain_program p) runs) c.program.ensures
-    told in
+    let runs = lists_of c.in_ok-endless.endless.runs.items in
+    let told = c.in_ok-endless.ensures.all c.if-not-endless.false in
+    let of_program = subst (λ p. TellEndlessRuns (plain_file c.file.result.now) (plain_program p) runs)
+    c.program.ensures told in
     let of_file = subst (λ f. TellEndlessRuns (plain_file f) program runs) c.file.ensures of_program in
     let tell = subst (λ (k : Checked). TellEndlessRuns (plain_file k.file) program runs) c.checked.ensures of_file in
     let waits = subst (λ vs. WaitsAt (lists_of vs) c.args.rows.now c.in-Some.at) c.as_slice.ensures.value

@@ -135,7 +135,7 @@ loop-steps-preserved c =
           c.loop-steps.steps did c.loop-steps.auto.steps c.loop-steps.invariant.begun
           c.in-GoesOn-what_happened.ensures.1;
       marked = elim c.if-is_marked.branch [
-        then-is_marked+in_ok-mark-in-GoesOn-what_happened w ↦
+        | then-is_marked+in_ok-mark-in-GoesOn-what_happened w ↦
             subst is_marked (sym w.mark-is) (mark_here file program c.args.schedule.now c.args.thread _ _
             (c.loop-steps.steps + 1) (omega arith) w.in_ok-mark-in-GoesOn-what_happened.ensures at)
         | else-is_marked w ↦

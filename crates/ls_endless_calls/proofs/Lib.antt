@@ -1,0 +1,5 @@
+pub mod Ahead
+pub mod Breaks
+pub mod Excused
+pub mod Fine
+pub mod Left
