@@ -8,7 +8,7 @@ use Rattle.ls_verdicts.specs.Outcomes.{verdict_of}
 use Rattle.ls_verdicts.specs.Verdicts.{IsVerdictOn}
 
 -- if no order is legal from an event on, none is legal of all events
-pub hopeless_is_illegal : (events : List Event) (at : ℕ) → IsHopeless events at → NoneIsLegal events
+hopeless_is_illegal : (events : List Event) (at : ℕ) → IsHopeless events at → NoneIsLegal events
 hopeless_is_illegal events at h = subst NoneIsLegal (take_all (length events) events (le_of_eq refl))
     (h.with_it (length events) h.within)
 
