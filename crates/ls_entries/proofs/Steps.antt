@@ -1,6 +1,10 @@
--- What holds below a number, one more.
+-- What holds below a number, one more, and of the first entry that isn't calls.
 use Rattle.std.proofs.Common.{◌≡◌, ◌⊎◌, ◌+◌, ◌<◌, ◌≤◌, inl, inr, ℕ, List, length, Some, None, arith, subst, sym, ◌∙◌}
 use Rattle.std.specs.Prelude.{slice_get}
+use Rattle.ls_entries.specs.Entries.{AreCalls, HasNoCall, IsNoCall, Text}
+use Rattle.ls_entries.specs.declared.fault.EntryFault.{EntryFault}
+use Rattle.ls_entries.specs.declared.fault.EntryFault.TheVariants as faults
+use Rattle.ls_menus.specs.Written.{Entry, entries}
 use Rattle.std.proofs.lemmas.Bool.{cases_lt}
 use Rattle.std.proofs.lemmas.Option.{slice_get_past}
 
@@ -36,3 +40,17 @@ all_items P xs i all before k y e = by_place (cases_lt k i)
     by_place (inr past) =
         let over : length xs ≤ k = omega (arith, all) in
         absurd (none_is (sym (slice_get_past xs k over) ∙ e))
+
+-- entries before one are calls, and that one isn't
+pub no_call : (classes making : Text) (threads : ℕ) (menu : Text) (i : ℕ) (e : Entry) → slice_get (entries menu) i ≡ Some e →
+    ((k : ℕ) → k < i → (y : Entry) → slice_get (entries menu) k ≡ Some y → AreCalls classes making threads y) →
+    (f : EntryFault) → (f ≡ faults.Memory) ⊎ IsNoCall classes making threads e f →
+    (f ≡ faults.Memory) ⊎ HasNoCall classes making threads menu f
+no_call classes making threads menu i e here before f (inl memory) = inl memory
+no_call classes making threads menu i e here before f (inr bad) = inr (record {
+  place = i;
+  entry = e;
+  here = here;
+  before = λ k y less at. before k less y at;
+  bad = bad;
+})

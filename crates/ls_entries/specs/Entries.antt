@@ -1,5 +1,5 @@
 -- Whether the entries of a menu that is written by hand are calls of a class.
-use Rattle.std.specs.Prelude.{◌≡◌, ◌<◌, ℕ, Contains, Err, List, Some, slice_get}
+use Rattle.std.specs.Prelude.{◌≡◌, ◌<◌, ℕ, Err, List, Some, slice_get}
 use Rattle.ls_compiler.specs.Answers.{CompilesTo}
 use Rattle.ls_compiler.specs.declared.fault.CompileFault.{CompileFault}
 use Rattle.ls_compiler.specs.declared.fault.CompileFault.TheVariants as stage
@@ -7,7 +7,6 @@ use Rattle.ls_families.specs.Texts.{alone_text}
 use Rattle.ls_image.specs.Images.{Compiles}
 use Rattle.ls_image.specs.declared.image.Image.{Image}
 use Rattle.ls_menus.specs.Written.{Entry, entries}
-use Rattle.ls_types.specs.declared.fault.ProgramFault.{ProgramFault}
 use Rattle.ls_types.specs.declared.fault.ProgramFault.TheVariants as program
 use Rattle.ls_entries.specs.declared.fault.EntryFault.{EntryFault}
 use Rattle.ls_entries.specs.declared.fault.EntryFault.TheVariants as faults
@@ -35,10 +34,11 @@ abbrev pub AreCalls : Text → Text → ℕ → Entry → Type 0
 AreCalls classes making threads e =
     (i : ℕ) → i < threads → (image : Image) × Compiles classes (program_of_entry making i e) image
 
--- for one of them it doesn't
+-- for the first so many threads it compiles, and for the next it doesn't
 pub record IsNoCall (classes making : Text) (threads : ℕ) (e : Entry) (f : EntryFault) : Type 0 where
   pub thread : ℕ
   pub within : thread < threads
+  pub before : AreCalls classes making thread e
   pub fault : CompileFault
   pub refused : CompilesTo classes (program_of_entry making thread e) (Err fault)
   pub is : f ≡ fault_of e.at fault
@@ -48,8 +48,10 @@ abbrev pub AllAreCalls : Text → Text → ℕ → Text → Type 0
 AllAreCalls classes making threads menu =
     (k : ℕ) (e : Entry) → slice_get (entries menu) k ≡ Some e → AreCalls classes making threads e
 
--- one isn't
+-- the entries before one are, and that one isn't
 pub record HasNoCall (classes making : Text) (threads : ℕ) (menu : Text) (f : EntryFault) : Type 0 where
+  pub place : ℕ
   pub entry : Entry
-  pub has : Contains (entries menu) entry
+  pub here : slice_get (entries menu) place ≡ Some entry
+  pub before : (k : ℕ) (e : Entry) → k < place → slice_get (entries menu) k ≡ Some e → AreCalls classes making threads e
   pub bad : IsNoCall classes making threads entry f

@@ -2,7 +2,8 @@
 use Rattle.std.proofs.Common.{◌≡◌, ◌&&◌, ◌<◌, ◌≤◌, ◌⊎◌, inl, inr, ℕ, zero, suc, Bool, true, false}
 use Rattle.std.proofs.Common.{List, [], ◌∷◌, Option}
 use Rattle.std.proofs.Common.{Ok, Err, refl, sym, subst, arith}
-use Rattle.std.specs.Prelude.{All, IsErrOf, IsSorted, slice_index_or, length}
+use Rattle.std.proofs.lemmas.List.{get_or-map, length-map}
+use Rattle.std.specs.Prelude.{All, Contains, IsErrOf, IsSorted, slice_index_or, length}
 use Rattle.ls_meaning.specs.Runs.{source_history}
 use Rattle.ls_checked.specs.CheckedTree.{File}
 use Rattle.ls_checked.specs.PlainProgram.{plain_program}
@@ -19,6 +20,7 @@ use Rattle.ls_text_laws.specs.Histories.{IsReadable}
 use Rattle.ls_translation.specs.declared.fault.TranslationFault.{TranslationFault}
 use Rattle.ls_translation.specs.declared.fault.TranslationFault.TheVariants as translation
 use Rattle.ls_verdicts.specs.Verdicts.{IsHistoryOf}
+use Rattle.ls_labels.specs.Names.{Names}
 use Rattle.ls_faults.specs.Faults.{lifted_explore, lifted_translation}
 use Rattle.ls_faults.specs.Given.{GivesText}
 use Rattle.ls_commands.specs.Compiled.{names_of_image}
@@ -29,7 +31,7 @@ use Rattle.ls_explore_commands.specs.Explored.{RowTooLong, Tells, names_in}
 use Rattle.ls_explore_reports.specs.Judged.{AreHistories, IsJudged, IsToldBelow, IsToldLinear, Judged, rows_of}
 use Rattle.ls_explore_reports.specs.Laws.{LinearityIsMeant, NoneIllegal, NoneIsNotLinearizable}
 use Rattle.ls_explore_reports.specs.Long.{HasLong}
-use Rattle.ls_explore_reports.specs.Printing.{explored_text}
+use Rattle.ls_explore_reports.specs.Cuts.{IsExploredText, IsSo}
 use Rattle.ls_explore_commands.specs.Readable.{SourceRunsAreReadable}
 
 -- what the rows tell, with the verdicts on them
@@ -99,6 +101,30 @@ below_so i file program orders judged of_file of_program below =
     subst (λ (p : CodeProgram). All (IsToldBelow orders (file_of i) (plain_program p)) judged) of_program
     (subst (λ f. All (IsToldBelow orders f (plain_program program)) judged) of_file below)
 
+-- each row's history is that of its schedule, whose steps act, and has its verdict
+pub rows_so : (i : Image) (k : ℕ) (rows : List Told) (judged : List Judged) →
+    rows_of judged ≡ rows →
+    TellTruth (file_of i) (program_of i) k rows →
+    All (IsJudged (program_of i)) judged →
+    All (IsSo (file_of i) (program_of i) k) judged
+rows_so i k rows judged e truth verdicts = λ n d lt.
+    let j : Judged = slice_index_or judged n d in
+    let so : TellTruth (file_of i) (program_of i) k (rows_of judged) =
+    subst (TellTruth (file_of i) (program_of i) k) (sym e) truth in
+    let few : n < length (rows_of judged) = omega (arith, lt, length-map judged (λ (x : Judged). x.row)) in
+    let there : Contains (rows_of judged) j.row = (n, few, get_or-map (λ (x : Judged). x.row) judged n d j.row lt) in
+    record { history = so.told j.row there; acts = so.acts j.row there; verdict = verdicts n d lt }
+
+-- the same, of the file and the program of an image
+pub so_here : (i : Image) (k : ℕ) (names : Names) (slice judged : List Judged) →
+    names ≡ names_in i →
+    slice ≡ judged →
+    All (IsSo (file_of i) (program_of i) k) judged →
+    All (IsSo names.file names.program k) slice
+so_here i k names slice judged of_names of_slice so =
+    subst (λ (ns : Names). All (IsSo ns.file ns.program k) slice) (sym of_names)
+    (subst (λ js. All (IsSo (file_of i) (program_of i) k) js) (sym of_slice) so)
+
 any_default : (xs : List Told) (n : ℕ) (d e : Told) → n < length xs → slice_index_or xs n d ≡ slice_index_or xs n e
 any_default [] n d e h = absurd (omega arith)
 any_default (x ∷ xs) zero d e h = refl
@@ -147,6 +173,5 @@ module _ (i : Image) (e : Exploring) where
   pub explore_tells : (k : ℕ) (judged : List Judged) (kept : ℕ) (complete roomy : Bool) (t : Text) →
       AreGoodFor (code_of_image i) e.cells e.states →
       IsExploration i e.cells e.states e.order k judged kept complete roomy →
-      t ≡ explored_text (names_in i) (names_of_image i) k judged kept complete roomy e → Explored i e (Ok t)
-  explore_tells k judged kept complete roomy t good is said = subst (λ x. Explored i e (Ok x)) (sym said)
-      (Tells k judged kept complete roomy good is)
+      IsExploredText (names_in i) (names_of_image i) k judged kept complete roomy e t → Explored i e (Ok t)
+  explore_tells k judged kept complete roomy t good is said = Tells k judged kept complete roomy t good is said

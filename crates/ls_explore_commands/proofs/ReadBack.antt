@@ -1,10 +1,10 @@
 -- Schedules each of whose steps acts.
 use Rattle.std.proofs.Common.{◌≡◌, ◌<◌, ◌≤◌, ◌∙◌, ◌⊎◌, inl, inr, ℕ, suc, zero, List, [], ◌∷◌, length, map, refl, sym, ap, subst}
-use Rattle.std.proofs.Common.{arith, Bool, true, false, None, slice_get}
+use Rattle.std.proofs.Common.{arith, Bool, true, false, None, slice_get, Contains, take}
 use Rattle.std.specs.Prelude.{All, if◌then◌else◌}
 use Rattle.std.proofs.lemmas.Bool.{cases_lt}
 use Rattle.std.proofs.lemmas.List.{length-map}
-use Rattle.std.proofs.lemmas.List.Elements.{All-cons, All-nil}
+use Rattle.std.proofs.lemmas.List.Elements.{All-cons, All-nil, All-take}
 use Rattle.ls_events.specs.declared.value.Value.{Value}
 use Rattle.ls_checked.specs.CheckedTree.{File}
 use Rattle.ls_checked.specs.CheckedProgram.{Program}
@@ -12,14 +12,16 @@ use Rattle.ls_checked.specs.PlainProgram.{plain_thread}
 use Rattle.ls_meaning.specs.Steps.{Entry, Stepped, Same, Moved, Acted, after, trace, traced}
 use Rattle.ls_meaning.specs.Threads.{all_calls, calls_in, next}
 use Rattle.ls_meaning.specs.Runs.{State, answers_of, has_started, idle, source_step, start, step_of, stepped}
+use Rattle.ls_explore.specs.Rows.{Told}
 use Rattle.ls_image.specs.Images.{checked_of, program_of_image}
+use Rattle.ls_image.specs.declared.image.Image.{Image}
 use Rattle.ls_types.specs.CheckedFile.{outcome_of}
 use Rattle.ls_translation.specs.Texts.{file_of, program_of}
-use Rattle.ls_schedule.specs.Reading.{thread_name}
+use Rattle.ls_schedule.specs.Reading.{thread_name, thread_names}
 use Rattle.ls_text_laws.specs.Schedules.{SchedulesReadBack}
 use Rattle.ls_explore.specs.Rows.{ActAll}
-use Rattle.ls_explore_images.specs.Tellings.{schedule_of}
-use Rattle.ls_explore_commands.specs.Laws.{RowsReadBack}
+use Rattle.ls_explore_images.specs.Tellings.{TellTruth, schedule_of}
+use Rattle.ls_explore_commands.specs.Laws.{BeginningsReadBack, RowsReadBack}
 
 none_there : {A : Type 0} (xs : List A) (n : ℕ) → length xs ≤ n → slice_get xs n ≡ None
 none_there [] n h = refl
@@ -82,14 +84,26 @@ module _ (file : File) (program : Program) where
   there (t ∷ ts) s h = there_more (does s t) s t ts (λ z e. there ts z e) refl h
       (cases_lt t (length program.threads))
 
-pub rows_read_back : SchedulesReadBack → RowsReadBack
-rows_read_back reads classes program i k rows r compiles truth within few =
+-- each step of a row's schedule is one of a thread that exists
+steps_there : (i : Image) (k : ℕ) (rows : List Told) (r : Told) → TellTruth (file_of i) (program_of i) k rows →
+    Contains rows r → All (λ t. t < length (thread_names (program_of_image i))) (schedule_of k r)
+steps_there i k rows r truth within =
     let acts : ActAll (file_of i) (program_of i) (schedule_of k r) = truth.acts r within in
     let count = length-map (program_of_image i).threads.items thread_name
     ∙ sym (length-map (program_of_image i).threads.items plain_thread) in
+    subst (λ n. All (λ t. t < n) (schedule_of k r)) (sym count)
+    (there (file_of i) (program_of i) (schedule_of k r) (start (program_of i)) acts)
+
+pub rows_read_back : SchedulesReadBack → RowsReadBack
+rows_read_back reads classes program i k rows r compiles truth within few =
     reads (outcome_of (checked_of i)) program (program_of_image i) (schedule_of k r) compiles.reads
+    (record { there = steps_there i k rows r truth within; short = few })
+
+pub beginnings_read_back : SchedulesReadBack → BeginningsReadBack
+beginnings_read_back reads classes program i k rows r n compiles truth within few =
+    reads (outcome_of (checked_of i)) program (program_of_image i) (take n (schedule_of k r)) compiles.reads
     (record {
-      there = subst (λ n. All (λ t. t < n) (schedule_of k r)) (sym count)
-          (there (file_of i) (program_of i) (schedule_of k r) (start (program_of i)) acts);
+      there = All-take (λ t. t < length (thread_names (program_of_image i))) n (schedule_of k r)
+          (steps_there i k rows r truth within);
       short = few;
     })

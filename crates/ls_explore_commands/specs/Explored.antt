@@ -21,11 +21,11 @@ use Rattle.ls_labels.specs.Names.{Names}
 use Rattle.ls_faults.specs.declared.fault.ToolFault.{ToolFault}
 use Rattle.ls_faults.specs.declared.fault.ToolFault.TheVariants as faults
 use Rattle.ls_commands.specs.Compiled.{AnswersOn, names_of_image}
+use Rattle.ls_explore_reports.specs.Cuts.{IsExploredText}
 use Rattle.ls_explore_reports.specs.declared.printing.Exploring.{Exploring}
 use Rattle.ls_explore_reports.specs.Judged.{AreMeant, IsJudged, IsToldBelow, IsToldLinear, Judged, are_decided}
 use Rattle.ls_explore_reports.specs.Judged.{are_known, count_illegal, count_not_linearizable, rows_of}
 use Rattle.ls_explore_reports.specs.Long.{HasLong}
-use Rattle.ls_explore_reports.specs.Printing.{explored_text}
 use Rattle.ls_explore_commands.specs.Finding.{AreGoodFor, HasGoodCells, TellBy}
 
 -- the names of an image's classes and of what they declare, its file and its program
@@ -65,10 +65,10 @@ pub record IsExploration (i : Image) (count : Option ℕ) (limit : ℕ) (orders 
 
 -- the text of an exploration; or why there is none
 pub data Explored (i : Image) (e : Exploring) : Result Text ToolFault → Type 0 where
-  Tells : (k : ℕ) (judged : List Judged) (kept : ℕ) (complete roomy : Bool) →
+  Tells : (k : ℕ) (judged : List Judged) (kept : ℕ) (complete roomy : Bool) (text : Text) →
       AreGoodFor (code_of_image i) e.cells e.states →
       IsExploration i e.cells e.states e.order k judged kept complete roomy →
-      Explored i e (Ok (explored_text (names_in i) (names_of_image i) k judged kept complete roomy e))
+      IsExploredText (names_in i) (names_of_image i) k judged kept complete roomy e text → Explored i e (Ok text)
   NoCells : (cells : ℕ) → e.cells ≡ Some cells → AreBadCells (code_of_image i).names cells →
       Explored i e (Err faults.BadCells)
   NoStates : HasGoodCells (code_of_image i) e.cells →

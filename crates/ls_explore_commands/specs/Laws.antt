@@ -1,6 +1,6 @@
 -- What rows tell.
 use Rattle.ls_events.specs.Limits.{most_steps}
-use Rattle.std.specs.Prelude.{◌≡◌, ◌≤◌, ℕ, List, length, Ok, Contains}
+use Rattle.std.specs.Prelude.{◌≡◌, ◌≤◌, ℕ, List, length, take, Ok, Contains}
 use Rattle.ls_image.specs.Images.{Compiles}
 use Rattle.ls_image.specs.declared.image.Image.{Image}
 use Rattle.ls_translation.specs.Texts.{file_of, program_of}
@@ -17,3 +17,11 @@ RowsReadBack =
     (classes program : Text) (i : Image) (k : ℕ) (rows : List Told) (r : Told) → Compiles classes program i →
     TellTruth (file_of i) (program_of i) k rows → Contains rows r → length (schedule_of k r) ≤ most_steps →
     steps_of (names_of_image i) (schedule_text (names_of_image i) (schedule_of k r)) ≡ Ok (schedule_of k r)
+
+-- so does what is printed of so many steps of it
+abbrev pub BeginningsReadBack : Type 0
+BeginningsReadBack =
+    (classes program : Text) (i : Image) (k : ℕ) (rows : List Told) (r : Told) (n : ℕ) → Compiles classes program i →
+    TellTruth (file_of i) (program_of i) k rows → Contains rows r → length (take n (schedule_of k r)) ≤ most_steps →
+    steps_of (names_of_image i) (schedule_text (names_of_image i) (take n (schedule_of k r)))
+    ≡ Ok (take n (schedule_of k r))

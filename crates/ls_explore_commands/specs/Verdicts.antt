@@ -11,27 +11,30 @@ use Rattle.ls_report.specs.Events.{Text}
 use Rattle.ls_faults.specs.declared.fault.ToolFault.{ToolFault}
 use Rattle.ls_faults.specs.declared.fault.ToolFault.TheVariants as faults
 use Rattle.ls_commands.specs.Compiled.{AnswersOn, names_of_image}
-use Rattle.ls_fewest_switches.specs.Switches.{HasFewest}
+use Rattle.ls_fewest_switches.specs.Switches.{HasFewest, HasFewestStuck}
+use Rattle.ls_search_laws.specs.Stepping.{SetsUp}
 use Rattle.ls_serial_search.specs.Told.{IsDoubt, usual}
 use Rattle.ls_serial_search.specs.declared.telling.Doubt.{Doubt}
-use Rattle.ls_source_judge.specs.Judged.{AllLinearizable, IsNotLinearizable}
+use Rattle.ls_source_judge.specs.Judged.{AllLinearizable, IsNotLinearizable, IsSimplestBad}
 use Rattle.ls_spinning.specs.Turning.{NeverTurns, TurnsForEver}
 use Rattle.ls_state_space.specs.Verdicts.{AreReached, LeavesStuck, NeverStuck}
 use Rattle.ls_explore_commands.specs.Explored.{names_in}
 use Rattle.ls_explore_commands.specs.Reports.{bad_text, doubtful_text, free_text, stuck_and_doubtful_text, stuck_text}
 use Rattle.ls_explore_commands.specs.Reports.{turning_text, unsure_text}
 
--- At most so many states were kept; and if these aren't all, so many. After the setup there are as many schedules: each
--- goes on from an earlier one by steps of a thread that acts there, and no two from the same one by the same thread.
+-- At most so many states were kept; and if these aren't all, so many. After steps of the setup, each of which acts, there
+-- are as many schedules: each goes on from an earlier one by steps of a thread that acts there, and no two from the same
+-- one by the same thread.
 pub record IsExtent (file : File) (program : Program) (limit states : ℕ) (complete : Bool) : Type 0 where
   pub within : states ≤ limit
   pub cut : complete ≡ false → states ≡ limit
   pub setup : ℕ
+  pub up : SetsUp file program setup
   pub reached : AreReached file program setup states
 
 -- The text of a verdict, or why there is none. If all states were kept, it is said of each schedule, of any length. If the
--- context switches of a run are printed, no schedule with its history has fewer; and of runs after which threads wait, none
--- after which they wait.
+-- context switches of a run are printed, no schedule that is wrong so has fewer, of any length. Of a history of which it
+-- isn't known whether it is linearizable, no schedule with this history has fewer.
 pub data Decided (i : Image) (limit : ℕ) : Result Text ToolFault → Type 0 where
   NoStates : AreBadStates limit → Decided i limit (Err (faults.Explore explore.BadStates))
   -- the history of this schedule isn't linearizable
@@ -39,7 +42,7 @@ pub data Decided (i : Image) (limit : ℕ) : Result Text ToolFault → Type 0 wh
       ¬ AreBadStates limit →
       IsExtent (file_of i) (program_of i) limit states complete →
       IsNotLinearizable (file_of i) (program_of i) schedule →
-      (fewest ≡ true → HasFewest false (file_of i) (program_of i) schedule) →
+      (fewest ≡ true → IsSimplestBad (file_of i) (program_of i) schedule) →
       Decided i limit (Ok (bad_text fewest (names_in i) (names_of_image i) schedule states complete))
   -- no serial history that was found explains it, and some may not have been found, for this reason
   IsDoubtful : (doubt : Doubt) (schedule : List ℕ) (fewest : Bool) (states : ℕ) (complete : Bool) →
@@ -56,7 +59,7 @@ pub data Decided (i : Image) (limit : ℕ) : Result Text ToolFault → Type 0 wh
       IsExtent (file_of i) (program_of i) limit states complete →
       LeavesStuck (file_of i) (program_of i) stuck →
       IsDoubt (file_of i) (program_of i) usual doubt →
-      (stuck_fewest ≡ true → HasFewest true (file_of i) (program_of i) stuck) →
+      (stuck_fewest ≡ true → HasFewestStuck (file_of i) (program_of i) stuck) →
       (fewest ≡ true → HasFewest false (file_of i) (program_of i) schedule) →
       Decided i limit (Ok (stuck_and_doubtful_text stuck stuck_fewest doubt fewest (names_in i) (names_of_image i)
       schedule states complete))
@@ -65,7 +68,7 @@ pub data Decided (i : Image) (limit : ℕ) : Result Text ToolFault → Type 0 wh
       ¬ AreBadStates limit →
       IsExtent (file_of i) (program_of i) limit states complete →
       LeavesStuck (file_of i) (program_of i) schedule →
-      (fewest ≡ true → HasFewest true (file_of i) (program_of i) schedule) →
+      (fewest ≡ true → HasFewestStuck (file_of i) (program_of i) schedule) →
       (complete ≡ true → AllLinearizable (file_of i) (program_of i)) →
       Decided i limit (Ok (stuck_text fewest (names_in i) (names_of_image i) schedule states complete))
   -- after this schedule some thread always acts, and no event comes any more

@@ -1,14 +1,14 @@
 // What `explore --verdict` says.
 
 ghost use Rattle.std.specs.Prelude.{◌≡◌, ◌++◌, ◌∷◌, [], ◌↔◌, ◌⊎◌, ℕ, IfErr, IfNone, IfOk, IfSome, IsTrue, OnOk, replicate};
-ghost use Rattle.std.specs.Prelude.{true};
+ghost use Rattle.std.specs.Prelude.{false, true};
 ghost use Rattle.ls_explore_images.specs.Faults.{AreBadStates};
 ghost use Rattle.ls_faults.specs.Given.{GivesText};
 ghost use Rattle.ls_explore_commands.specs.Verdicts.{Decided, IsExtent, VerdictsTo};
-ghost use Rattle.ls_fewest_switches.specs.Switches.{EndsSo, HasFewest};
+ghost use Rattle.ls_fewest_switches.specs.Switches.{HasFewest, HasFewestStuck};
 ghost use Rattle.ls_meaning.specs.Runs.{source_history};
 ghost use Rattle.ls_serial_search.specs.Told.{IsDoubt, usual};
-ghost use Rattle.ls_source_judge.specs.Judged.{AllLinearizable, IsNotLinearizable};
+ghost use Rattle.ls_source_judge.specs.Judged.{AllLinearizable, IsNotLinearizable, IsSimplestBad};
 ghost use Rattle.ls_spinning.specs.Told.{IsTurning};
 ghost use Rattle.ls_spinning.specs.Turning.{NeverTurns, TurnsForEver};
 ghost use Rattle.ls_state_space.specs.Verdicts.{LeavesStuck, NeverStuck};
@@ -24,16 +24,16 @@ use ls_compiler::compile::compile;
 use ls_events::schedule::{MOST_STEPS, Schedule};
 use ls_explore_images::{ExploreFault, MOST_STATES};
 use ls_faults::fault::ToolFault;
-use ls_fewest_switches::{SimpleRun, simplest};
+use ls_fewest_switches::{SimpleRun, Target, simplest, simplest_stuck};
 use ls_image::image::Image;
 use ls_serial_search::telling::Doubt;
-use ls_source_judge::{Judged, judge_schedules};
+use ls_source_judge::{Judged, judge_schedules, simplest_unexplained};
 use ls_spinning::{Turning, find_turning};
 use ls_translation::fault::TranslationFault;
 use std::alloc::{AllocError, Global};
 
-/// The most states of a search along one history, for each number of changes of thread.
-const MOST_ALONG: usize = 1_000_000;
+/// The most states of a search for a run with the fewest context switches, for each number of changes of thread.
+const MOST_OF_CHANGES: usize = 1_000_000;
 
 /// Whether no states may be kept, or too many.
 fn are_bad_states(states: usize) -> bool
@@ -69,27 +69,68 @@ fn schedule_of(alloc: Global, setup: usize, path: &[u8]) -> Result<Schedule, Tra
     Ok(schedule)
 }
 
-/// A run with the history of a path after so many steps of the setup, and the fewest context switches. With `stuck` no
-/// thread acts after it and one waits, where that is so after the path.
-fn run_of(
+/// A run with the history of a path after so many steps of the setup, and the fewest context switches.
+fn run_along(
     alloc: Global,
     image: &Image,
     setup: usize,
     path: &[u8],
-    stuck: bool,
 ) -> Result<SimpleRun, TranslationFault>
     ensures history { IfOk result (λ r. source_history (file_of image.now) (program_of image.now) r.schedule ≡
         source_history (file_of image.now) (program_of image.now) (replicate setup 0 ++ path.now)) }
-    ensures ends { IfOk result (λ r.
-        EndsSo stuck (file_of image.now) (program_of image.now) (replicate setup 0 ++ path.now) →
-        EndsSo stuck (file_of image.now) (program_of image.now) r.schedule) }
     ensures fewest { IfOk result (λ r. r.fewest ≡ true →
-        HasFewest stuck (file_of image.now) (program_of image.now) r.schedule) }
+        HasFewest false (file_of image.now) (program_of image.now) r.schedule) }
     ensures only { IfErr result (λ e. (e ≡ Memory) ⊎ (e ≡ ResultTooLong)) }
 {
     let found = schedule_of(alloc, setup, path)?;
     let file = image.checked().file();
-    let run = simplest(alloc, file, image.program(), stuck, &found, MOST_ALONG)?;
+    let target = Target {
+        stuck: false,
+        limit: MOST_OF_CHANGES,
+    };
+    let run = simplest(alloc, file, image.program(), target, &found)?;
+    Ok(run)
+}
+
+/// A run whose history isn't linearizable, if that of a path after so many steps of the setup isn't, with the fewest context
+/// switches.
+fn bad_run(
+    alloc: Global,
+    image: &Image,
+    setup: usize,
+    path: &[u8],
+) -> Result<SimpleRun, TranslationFault>
+    ensures bad { IfOk result (λ r.
+        IsNotLinearizable (file_of image.now) (program_of image.now) (replicate setup 0 ++ path.now) →
+        IsNotLinearizable (file_of image.now) (program_of image.now) r.schedule) }
+    ensures fewest { IfOk result (λ r. r.fewest ≡ true →
+        IsSimplestBad (file_of image.now) (program_of image.now) r.schedule) }
+    ensures only { IfErr result (λ e. (e ≡ Memory) ⊎ (e ≡ ResultTooLong)) }
+{
+    let found = schedule_of(alloc, setup, path)?;
+    let file = image.checked().file();
+    let run = simplest_unexplained(alloc, file, image.program(), &found, MOST_OF_CHANGES)?;
+    Ok(run)
+}
+
+/// A run after which no thread acts and one waits, if that is so after a path after so many steps of the setup, with the
+/// fewest context switches.
+fn stuck_run(
+    alloc: Global,
+    image: &Image,
+    setup: usize,
+    path: &[u8],
+) -> Result<SimpleRun, TranslationFault>
+    ensures stuck { IfOk result (λ r.
+        LeavesStuck (file_of image.now) (program_of image.now) (replicate setup 0 ++ path.now) →
+        LeavesStuck (file_of image.now) (program_of image.now) r.schedule) }
+    ensures fewest { IfOk result (λ r. r.fewest ≡ true →
+        HasFewestStuck (file_of image.now) (program_of image.now) r.schedule) }
+    ensures only { IfErr result (λ e. (e ≡ Memory) ⊎ (e ≡ ResultTooLong)) }
+{
+    let found = schedule_of(alloc, setup, path)?;
+    let file = image.checked().file();
+    let run = simplest_stuck(alloc, file, image.program(), &found, MOST_OF_CHANGES)?;
     Ok(run)
 }
 
@@ -116,7 +157,7 @@ fn bad_answer(
         IsNotLinearizable (file_of image.now) (program_of image.now) (replicate judged.now.setup 0 ++ path.now) →
         GivesText (Decided image.now limit) result }
 {
-    let run = run_of(alloc, image, judged.setup, path, false)?;
+    let run = bad_run(alloc, image, judged.setup, path)?;
     let text = print_bad(alloc, names_in(image), &run, extent_of(judged))?;
     Ok(text)
 }
@@ -135,7 +176,7 @@ fn doubtful_answer(
         (IsTrue judged.now.complete → NeverStuck (file_of image.now) (program_of image.now)) →
         GivesText (Decided image.now limit) result }
 {
-    let run = run_of(alloc, image, judged.setup, path, false)?;
+    let run = run_along(alloc, image, judged.setup, path)?;
     let text = print_doubtful(alloc, names_in(image), doubt, &run, extent_of(judged))?;
     Ok(text)
 }
@@ -155,8 +196,8 @@ fn stuck_and_doubtful_answer(
         IsDoubt (file_of image.now) (program_of image.now) usual doubt →
         GivesText (Decided image.now limit) result }
 {
-    let first = run_of(alloc, image, judged.setup, stuck, true)?;
-    let run = run_of(alloc, image, judged.setup, path, false)?;
+    let first = stuck_run(alloc, image, judged.setup, stuck)?;
+    let run = run_along(alloc, image, judged.setup, path)?;
     let extent = extent_of(judged);
     let text = print_stuck_and_doubtful(alloc, names_in(image), &first, &run, doubt, extent)?;
     Ok(text)
@@ -175,7 +216,7 @@ fn stuck_answer(
         (IsTrue judged.now.complete → AllLinearizable (file_of image.now) (program_of image.now)) →
         GivesText (Decided image.now limit) result }
 {
-    let run = run_of(alloc, image, judged.setup, path, true)?;
+    let run = stuck_run(alloc, image, judged.setup, path)?;
     let text = print_stuck(alloc, names_in(image), &run, extent_of(judged))?;
     Ok(text)
 }

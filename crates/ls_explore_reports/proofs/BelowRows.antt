@@ -10,7 +10,10 @@ use Rattle.ls_serial_orders.specs.Telling.{Tells}
 use Rattle.ls_serial_orders.specs.declared.finding.Known.{Known}
 use Rattle.ls_serial_orders.proofs.TellingLemmas.{known_tells}
 use Rattle.ls_verdicts.specs.Verdicts.{IsHistoryOf}
-use Rattle.ls_explore_reports.specs.Below.{IsBelow, IsFor}
+use Rattle.ls_explore_reports.specs.Below.{HasNames, IsBelow, IsFor}
+
+pub names_of_history : (program : Program) (run : List RunEvent) → IsHistoryOf program run → HasNames program run
+names_of_history program run h = (h.0, h.1.is_named)
 
 module _ (known : Option Known) (orders : Bool) (file : File) (program : Program) where
   -- the runs that are there are those of the program
@@ -28,14 +31,14 @@ module _ (known : Option Known) (orders : Bool) (file : File) (program : Program
       known ≡ Some k →
       ((events : List Event) → AreNamed (program_of k) run events → Tells (file_of k) (program_of k) run events text) →
       IsFor orders file program known →
-      IsHistoryOf program run →
+      HasNames program run →
       IsBelow orders file program run text
   some_below run k text is told for named =
       let f = some_for k is for in
       subst (λ (b : Bool). IsBelow b file program run text) (sym f.0) (
         named.0,
-        named.1.is_named,
-        known_tells file program k run text f.1 told named.0 named.1.is_named,
+        named.1,
+        known_tells file program k run text f.1 told named.0 named.1,
       )
 
   -- where there are none, nothing does

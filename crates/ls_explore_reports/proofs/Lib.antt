@@ -4,3 +4,4 @@ pub mod Undoubted
 pub mod Others
 pub mod Known
 pub mod Meant
+pub mod CutRows

@@ -9,6 +9,10 @@ use Rattle.ls_serial_orders.specs.Named.{AreNamed}
 use Rattle.ls_serial_orders.specs.Telling.{Tells}
 use Rattle.ls_serial_orders.specs.declared.finding.Known.{Known}
 
+-- each event has its call's names
+abbrev pub HasNames : Program → List RunEvent → Type 0
+HasNames program run = (events : List Event) × AreNamed program run events
+
 -- where orders are asked for, what the command `order` tells of the history; else nothing
 abbrev pub IsBelow : Bool → File → Program → List RunEvent → Text → Type 0
 IsBelow false file program run text = text ≡ []

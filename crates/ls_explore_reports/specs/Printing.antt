@@ -116,7 +116,3 @@ last_text states judged complete roomy =
 
 abbrev pub rows_text : Names → List Text → ℕ → List Judged → Text
 rows_text names threads k judged = flat_map (row_text names threads k) judged
-
-abbrev pub explored_text : Names → List Text → ℕ → List Judged → ℕ → Bool → Bool → Exploring → Text
-explored_text names threads k judged states complete roomy e =
-    rows_text names threads k (shown e judged) ++ last_text states judged complete roomy

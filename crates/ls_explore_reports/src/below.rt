@@ -5,12 +5,11 @@ ghost use Rattle.ls_checked.specs.CheckedTree.{File as FileValue};
 ghost use Rattle.ls_checked.specs.CheckedProgram.{Program as ProgramValue};
 ghost use Rattle.ls_checked.specs.Plain.{plain_file};
 ghost use Rattle.ls_checked.specs.PlainProgram.{plain_program};
-ghost use Rattle.ls_explore_reports.specs.Below.{IsBelow, IsFor};
-ghost use Rattle.ls_verdicts.specs.Verdicts.{IsHistoryOf};
+ghost use Rattle.ls_explore_reports.specs.Below.{HasNames, IsBelow, IsFor};
 
 use ls_checked::program::Program;
 use ls_checked::tree::File;
-use ls_explore::Row;
+use ls_events::event::Event;
 use ls_serial_orders::{Known, known_of, tell_known};
 use std::alloc::{AllocError, Global};
 
@@ -30,20 +29,20 @@ pub(crate) fn known_if<'a>(
     Ok(Some(known))
 }
 
-/// What stands below a row.
+/// What stands below a row of a history.
 pub(crate) fn below(
     alloc: Global,
     known: &Option<Known<'_>>,
-    row: &Row,
+    history: &[Event],
 ) -> Result<String, AllocError>
     requires { (orders : Bool) × (file : FileValue) × (program : ProgramValue) × IsFor orders file program known.now }
     ensures { IfOk result (λ text. (orders : Bool) (file : FileValue) (program : ProgramValue) →
-        IsFor orders file program known.now → IsHistoryOf program row.now.history →
-        IsBelow orders file program row.now.history (string_bytes text)) }
+        IsFor orders file program known.now → HasNames program history.now →
+        IsBelow orders file program history.now (string_bytes text)) }
 {
     let Some(known) = known else {
         return Ok(String::new(alloc));
     };
-    let text = tell_known(alloc, known, row.history())?;
+    let text = tell_known(alloc, known, history)?;
     Ok(text)
 }

@@ -7,7 +7,7 @@ ghost use Rattle.ls_labels.specs.Names.{names_of};
 ghost use Rattle.ls_schedule.specs.Reading.{thread_name, thread_names};
 ghost use Rattle.ls_state.specs.Scene.{scene_of};
 ghost use Rattle.ls_state.specs.Seen.{IsOwn, names_in, scene_seen};
-ghost use Rattle.ls_explore_reports.specs.Printing.{counts_text, end_text, ending_text, explored_text, illegal_text};
+ghost use Rattle.ls_explore_reports.specs.Printing.{counts_text, end_text, ending_text, illegal_text};
 ghost use Rattle.ls_explore_reports.specs.Printing.{is_shown, is_wrong, last_text, linear_part, linear_text};
 ghost use Rattle.ls_explore_reports.specs.Printing.{beside_part, linearity_part, over_text, row_text, rows_text, set_part};
 ghost use Rattle.ls_explore_reports.specs.Printing.{shown, verdict_part};
@@ -23,7 +23,6 @@ use crate::judging::{
 use ls_checked::program::ThreadProgram;
 use ls_events::schedule::{MOST_STEPS, Schedule};
 use ls_explore::{Ending, Row};
-use ls_explore_images::ImageExploration;
 use ls_labels::names::Names;
 use ls_labels::threads::push_wait;
 use ls_meaning::step::Asked;
@@ -71,7 +70,11 @@ fn push_step(schedule: &mut Schedule, thread: u8) -> Result<(), TranslationFault
 }
 
 /// The schedule of a row: so many steps of the setup, and then one of each thread of its path.
-fn schedule_of(alloc: Global, setup: usize, row: &Row) -> Result<Schedule, TranslationFault>
+pub(crate) fn schedule_of(
+    alloc: Global,
+    setup: usize,
+    row: &Row,
+) -> Result<Schedule, TranslationFault>
     ensures steps { IfOk result (λ s. s ≡ schedule_of setup row.now) }
     ensures only { IfErr result (λ e. (e ≡ Memory) ⊎ (e ≡ ResultTooLong)) }
     ensures long { IsErrOf result ResultTooLong → most_steps < length (schedule_of setup row.now) }
@@ -242,7 +245,7 @@ fn push_verdict(out: &mut String, verdict: Verdict, linearity: Linearity) -> Res
 }
 
 /// A row: how it ends and the verdict, its schedule, its history's lines, what stands below it, an empty line.
-fn push_row(
+pub(crate) fn push_row(
     alloc: Global,
     out: &mut String,
     names: Names<'_>,
@@ -293,7 +296,7 @@ fn is_shown(illegal: bool, judged: &JudgedRow<'_>) -> bool
 }
 
 /// The rows that are printed, one after another.
-fn push_rows(
+pub(crate) fn push_rows(
     alloc: Global,
     out: &mut String,
     names: Names<'_>,
@@ -365,7 +368,7 @@ fn end_words(complete: bool, roomy: bool) -> &'static str
 
 /// The last line: how many states were kept, how many histories there are, how many of them have no legal order or are
 /// not linearizable, and whether they are complete.
-fn push_last(
+pub(crate) fn push_last(
     out: &mut String,
     states: usize,
     judged: &[JudgedRow<'_>],
@@ -378,26 +381,4 @@ fn push_last(
     push_illegal(out, are_decided(judged), count_illegal(judged))?;
     push_linear(out, are_known(judged), count_not_linearizable(judged))?;
     out.push_str(end_words(complete, roomy))
-}
-
-/// The text of an exploration, each of whose rows has its verdict.
-///
-/// Refused where memory runs out, and where a row's schedule has over 1,000,000 steps.
-pub fn print_exploration(
-    alloc: Global,
-    names: Names<'_>,
-    found: &ImageExploration,
-    judged: &[JudgedRow<'_>],
-    exploring: Exploring,
-) -> Result<String, TranslationFault>
-    ensures text { IfOk result (λ text. string_bytes text ≡
-        explored_text (names_of names.entry) (thread_names names.entry.program.now) found.now.setup judged.now
-        found.now.states found.now.complete found.now.roomy exploring) }
-    ensures only { IfErr result (λ e. (e ≡ Memory) ⊎ (e ≡ ResultTooLong)) }
-    ensures long { IsErrOf result ResultTooLong → HasLong found.now.setup (rows_of judged.now) }
-{
-    let mut out = String::new(alloc);
-    push_rows(alloc, &mut out, names, found.setup, judged, exploring)?;
-    push_last(&mut out, found.states, judged, found.complete, found.roomy)?;
-    Ok(out)
 }

@@ -65,7 +65,7 @@ one_shape menu s some =
       omega arith,
     ))
 
-shape_is : (menu : ℕ) (s : Shape) (p : Plan) → In (plans_of menu s) p → p.shape ≡ s
+pub shape_is : (menu : ℕ) (s : Shape) (p : Plan) → In (plans_of menu s) p → p.shape ≡ s
 shape_is menu s p h =
     let from = from_map (plan_of menu s) (range_with_len 0 (menu ^ calls_of s)) p h in
     sym (ap (λ (q : Plan). q.shape) from.2)

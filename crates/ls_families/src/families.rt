@@ -44,6 +44,16 @@ impl<'a> Plan<'a> {
     {
         self.calls.as_slice()
     }
+
+    /// A program of the same shape with these calls.
+    pub(crate) fn with_calls(&self, calls: Vec<u64>) -> Plan<'a>
+        ensures { result ≡ record { shape = self.now.shape; calls = calls.items } }
+    {
+        Plan {
+            shape: self.shape,
+            calls,
+        }
+    }
 }
 
 /// The program of a shape that has a number.

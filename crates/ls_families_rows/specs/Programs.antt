@@ -1,7 +1,7 @@
 -- Programs by their numbers, doubles and texts. Numbers and counts were made by a generator that was written apart.
 use Rattle.std.specs.Prelude.{◌≡◌, ℕ, true, false, List, [], ◌∷◌, Some, None, codes, slice_get}
 use Rattle.ls_families.specs.Families.{Plan, count_of, family_of, plans}
-use Rattle.ls_families.specs.Doubles.{is_double, is_exchanged}
+use Rattle.ls_families.specs.Doubles.{is_double, is_exchanged, other_of}
 use Rattle.ls_families.specs.Texts.{alone_text, plan_text}
 use Rattle.ls_families_rows.specs.Shapes.{most, shape}
 
@@ -43,6 +43,15 @@ Doubles =
     × (is_exchanged (plan 0 (1 ∷ 2 ∷ []) (2 ∷ 1 ∷ 1 ∷ [])) ≡ false)
     × (is_exchanged (plan 0 (2 ∷ 2 ∷ []) (1 ∷ 2 ∷ 1 ∷ 1 ∷ [])) ≡ true)
     × (is_exchanged (plan 0 (1 ∷ 1 ∷ 1 ∷ []) (1 ∷ 3 ∷ 2 ∷ [])) ≡ true)
+
+-- the first two such threads exchanged, and nothing else; these rows were written by hand
+abbrev pub Others : Type 0
+Others =
+    (other_of (plan 0 (1 ∷ 1 ∷ []) (2 ∷ 1 ∷ [])) ≡ plan 0 (1 ∷ 1 ∷ []) (1 ∷ 2 ∷ []))
+    × (other_of (plan 1 (2 ∷ 2 ∷ []) (3 ∷ 1 ∷ 2 ∷ 1 ∷ 1 ∷ [])) ≡ plan 1 (2 ∷ 2 ∷ []) (3 ∷ 1 ∷ 1 ∷ 1 ∷ 2 ∷ []))
+    × (other_of (plan 0 (1 ∷ 1 ∷ 1 ∷ []) (1 ∷ 3 ∷ 2 ∷ [])) ≡ plan 0 (1 ∷ 1 ∷ 1 ∷ []) (1 ∷ 2 ∷ 3 ∷ []))
+    × (other_of (plan 0 (1 ∷ 1 ∷ 1 ∷ []) (3 ∷ 2 ∷ 1 ∷ [])) ≡ plan 0 (1 ∷ 1 ∷ 1 ∷ []) (2 ∷ 3 ∷ 1 ∷ []))
+    × (other_of (plan 0 (1 ∷ 2 ∷ []) (2 ∷ 1 ∷ 1 ∷ [])) ≡ plan 0 (1 ∷ 2 ∷ []) (2 ∷ 1 ∷ 1 ∷ []))
 
 -- a menu with a number has no doubles
 abbrev pub Numbered : Type 0

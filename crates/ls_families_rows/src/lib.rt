@@ -2,7 +2,7 @@
 //! compute them. They stand above ls_families, so that a new one is no change of that crate.
 #![tactic(auto)]
 
-ghost use Rattle.ls_families_rows.specs.Programs.{ByNumber, Counts, Doubles, NoneAfter, Numbered, Texts};
+ghost use Rattle.ls_families_rows.specs.Programs.{ByNumber, Counts, Doubles, NoneAfter, Numbered, Others, Texts};
 ghost use Rattle.ls_families_rows.specs.Shapes.{OneCallEach, ThreeThreads, TwoThreads};
 
 /// The shapes within bounds.
@@ -18,6 +18,7 @@ pub fn programs()
     ensures none_after { NoneAfter }
     ensures counts { Counts }
     ensures doubles { Doubles }
+    ensures others { Others }
     ensures numbered { Numbered }
     ensures texts { Texts }
 {}

@@ -1,6 +1,6 @@
 -- What is said of one program.
-use Rattle.std.specs.Prelude.{◌≡◌, ℕ, List, false, string_bytes, true}
-use Rattle.ls_families.specs.Doubles.{is_double}
+use Rattle.std.specs.Prelude.{◌≡◌, ℕ, List, string_bytes, true}
+use Rattle.ls_families.specs.Doubles.{is_double, other_of}
 use Rattle.ls_families.specs.Families.{Family, Plan}
 use Rattle.ls_families.specs.Texts.{plan_text}
 use Rattle.ls_family_search.specs.declared.judging.Halted.{Halted}
@@ -29,15 +29,19 @@ IsJudgement IsGood IsCut Halts judgements.Good = IsGood
 IsJudgement IsGood IsCut Halts judgements.Cut = IsCut
 IsJudgement IsGood IsCut Halts (judgements.Halt h) = Halts h
 
--- a program that the search passes: it is a double, or the judge says so of its text
+-- a double that is good if the program is that stands before it, with two threads exchanged
+pub record Follows (p : Programs) (IsGood : Text → Type 0) (plan : Plan) : Type 0 where
+  pub double : is_double p.calls plan ≡ true
+  pub good : IsGood (text_of p (other_of plan)) → IsGood (text_of p plan)
+
+-- a program that the search passes: it is such a double, or the judge says so of its text
 abbrev pub IsPassed : Programs → (Text → Type 0) → (Text → Type 0) → Plan → Passed → Type 0
-IsPassed p IsGood IsCut plan passed.Double = is_double p.calls plan ≡ true
+IsPassed p IsGood IsCut plan passed.Double = Follows p IsGood plan
 IsPassed p IsGood IsCut plan passed.Good = IsGood (text_of p plan)
 IsPassed p IsGood IsCut plan passed.Cut = IsCut (text_of p plan)
 
 -- a program with which it ends
 pub record IsHalted {H : Type 0} (p : Programs) (Halts : Text → H → Type 0) (plan : Plan) (h : Halted H) : Type 0 where
-  pub single : is_double p.calls plan ≡ false
   pub text : string_bytes h.program ≡ text_of p plan
   pub halts : Halts (text_of p plan) h.halt
 

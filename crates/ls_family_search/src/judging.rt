@@ -1,6 +1,6 @@
 // What is said of one program.
 
-ghost use Rattle.std.specs.Prelude.{ℕ, IfOk, List};
+ghost use Rattle.std.specs.Prelude.{◌≡◌, ℕ, IfOk, List, true};
 ghost use Rattle.ls_family_search.specs.Judged.{IsJudgement};
 
 use std::alloc::{AllocError, Global};
@@ -32,12 +32,16 @@ pub trait Judge {
     fn judge(&self, alloc: Global, program: &str) -> Result<Judgement<Self::Why>, AllocError>
         ensures { IfOk result (IsJudgement (IsGood self.now program.now) (IsCut self.now program.now)
             (Halts self.now program.now)) };
+
+    /// Whether it is plain that a program is good if another is. The only refusal is that memory ran out.
+    fn follows(&self, alloc: Global, program: &str, other: &str) -> Result<bool, AllocError>
+        ensures { IfOk result (λ plain. plain ≡ true → IsGood self.now other.now → IsGood self.now program.now) };
 }
 
 /// How the search passes a program.
 #[derive(Copy)]
 pub enum Passed {
-    /// It is one that stands before it, with threads exchanged, and isn't judged.
+    /// It is one that stands before it, with two threads exchanged. It is good if that one is, and isn't judged.
     Double,
     Good,
     Cut,

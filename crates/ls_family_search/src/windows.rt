@@ -1,18 +1,38 @@
 // Windows of numbers, whose programs are judged side by side.
 
-ghost use Rattle.std.specs.Prelude.{◌≤◌, ◌-◌, IfOk};
+ghost use Rattle.std.specs.Prelude.{◌≡◌, ◌≤◌, ◌-◌, IfOk, true};
 ghost use Rattle.std.specs.List.{AllZip, range_with_len};
-ghost use Rattle.ls_family_search.specs.Judged.{IsOutcome};
+ghost use Rattle.ls_family_search.specs.Judged.{Follows, IsOutcome, text_of};
 ghost use Rattle.ls_family_search.specs.Windows.{IsJoined, IsOutcomeAt};
 
 use crate::judging::{Halted, Judge, Judgement, Outcome, Passed};
 use crate::programs::Programs;
-use ls_families::{Plan, is_double, print_plan};
+use ls_families::{Plan, is_double, other_of, print_plan};
 use rayon::prelude::*;
 use std::alloc::{AllocError, Global};
 use std::thread::Threads;
 
-/// Whether the search goes on after a program: it does so without a judgement if that is a double.
+/// Whether a program of this text is a double that is good if the program is that stands before it.
+fn follows<J: Judge>(
+    judge: &J,
+    alloc: Global,
+    programs: &Programs<'_>,
+    plan: &Plan<'_>,
+    program: &str,
+) -> Result<bool, AllocError>
+    requires { program.now ≡ text_of programs.now plan.now }
+    ensures { IfOk result (λ does. does ≡ true → Follows programs.now (J.IsGood judge.now) plan.now) }
+{
+    if !is_double(programs.calls(), plan) {
+        return Ok(false);
+    }
+    let other = other_of(alloc, plan)?;
+    let before = print_plan(alloc, programs.making(), programs.calls(), &other)?;
+    judge.follows(alloc, program, before.as_str())
+}
+
+/// Whether the search goes on after a program. It does so without a judgement if that is a double that is good if the
+/// program is that stands before it.
 fn outcome_of<J: Judge>(
     judge: &J,
     alloc: Global,
@@ -22,10 +42,10 @@ fn outcome_of<J: Judge>(
     ensures { IfOk result (IsOutcome programs.now (J.IsGood judge.now) (J.IsCut judge.now) (J.Halts judge.now)
         plan.now) }
 {
-    if is_double(programs.calls(), plan) {
+    let program = print_plan(alloc, programs.making(), programs.calls(), plan)?;
+    if follows(judge, alloc, programs, plan, program.as_str())? {
         return Ok(Outcome::Passes(Passed::Double));
     }
-    let program = print_plan(alloc, programs.making(), programs.calls(), plan)?;
     match judge.judge(alloc, program.as_str())? {
         Judgement::Good => Ok(Outcome::Passes(Passed::Good)),
         Judgement::Cut => Ok(Outcome::Passes(Passed::Cut)),

@@ -7,3 +7,4 @@ pub mod Ending
 pub mod Roots
 pub mod Reaching
 pub mod Running
+pub mod Left

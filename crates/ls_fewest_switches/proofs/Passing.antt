@@ -1,5 +1,5 @@
 -- States that are looked at, one after another.
-use Rattle.std.proofs.Common.{◌≡◌, ◌⊎◌, inl, inr, ℕ, ◌+◌, ◌<◌, ◌≤◌, ◌||◌, Bool, true, false, List, [], length, drop}
+use Rattle.std.proofs.Common.{◌≡◌, ◌⊎◌, inl, inr, ℕ, ◌+◌, ◌<◌, ◌≤◌, ◌||◌, Bool, true, false, List, length}
 use Rattle.std.proofs.Common.{Option, Some, refl, sym, ap, ◌∙◌, subst, arith}
 use Rattle.std.specs.Prelude.{IfSome, slice_get}
 use Rattle.std.proofs.lemmas.Bool.{cases_lt}
@@ -20,9 +20,9 @@ use Rattle.ls_search.specs.Searched.{acts_of, seen_with, waits_of}
 use Rattle.ls_search.proofs.Pairs.{map_there}
 use Rattle.ls_search.proofs.Strides.{missing_stride}
 use Rattle.ls_fewest_switches.specs.declared.spots.Spot.{Spot}
-use Rattle.ls_fewest_switches.specs.Reached.{ArePassed, EndsAt, HasReached, IsExpanded, IsFollowed}
+use Rattle.ls_fewest_switches.specs.Reached.{ArePassed, EndsAt, HasReached, IsExpanded, IsFollowed, NeverBad}
 use Rattle.ls_fewest_switches.specs.Reached.{IsLooked, IsPassed, Reached, after_step}
-use Rattle.ls_fewest_switches.specs.Spots.{AreSpots, IsSpot, reached_at, reached_of}
+use Rattle.ls_fewest_switches.specs.Spots.{AreSpots, IsSpot, noted_at, reached_at, reached_of}
 use Rattle.ls_fewest_switches.proofs.Growing.{same_there, some_is}
 
 acting_not : (d e : Did) → d ≡ e → IsStill e → IsActing d → ⊥
@@ -59,25 +59,29 @@ no_yes e f = cc
 pub of_some : {A : Type 0} (P : A → Type 0) (o : Option A) (a : A) → o ≡ Some a → IfSome o P → P a
 of_some P o a is h = subst (λ x. IfSome x P) is h
 
-module _ (file : File) (history : List Event) (most : ℕ) where
-  has_still : (old new : List Reached) (r : Reached) → Keeps old new → HasReached old r → HasReached new r
+module _ {S : Type 0} (next : S → Event → S) (is_bad : S → Bool) (file : File) (most : ℕ) where
+  has_still : (old new : List (Reached S)) (r : Reached S) → Keeps old new → HasReached old r → HasReached new r
   has_still old new r keeps h = record {
     at = h.at;
     one = h.one;
     here = keeps h.at h.one h.here;
     configuration = h.configuration;
-    done = h.done;
+    noted = h.noted;
     last = h.last;
     few = h.few;
   }
 
-  follows_still : (old new : List Reached) (p : Reached) (u : ℕ) → Keeps old new →
-      IsFollowed file history most old p u → IsFollowed file history most new p u
-  follows_still old new p u keeps h acts rest left few =
-      has_still old new (after_step file p u) keeps (h acts rest left few)
+  follows_still : (old new : List (Reached S)) (p : Reached S) (u : ℕ) → Keeps old new →
+      IsFollowed next is_bad file most old p u → IsFollowed next is_bad file most new p u
+  follows_still old new p u keeps h acts few = by (h acts few)
+    where
+      by : HasReached old (after_step next file p u) ⊎ NeverBad next is_bad (after_step next file p u).noted →
+          HasReached new (after_step next file p u) ⊎ NeverBad next is_bad (after_step next file p u).noted
+      by (inl has) = inl (has_still old new (after_step next file p u) keeps has)
+      by (inr never) = inr never
 
-  pub expanded_still : (old new : List Reached) (threads : ℕ) (p : Reached) (seen : Seen) → Keeps old new →
-      IsExpanded file history most old threads p seen → IsExpanded file history most new threads p seen
+  pub expanded_still : (old new : List (Reached S)) (threads : ℕ) (p : Reached S) (seen : Seen) → Keeps old new →
+      IsExpanded next is_bad file most old threads p seen → IsExpanded next is_bad file most new threads p seen
   expanded_still old new threads p seen keeps h = record {
     follows = λ u within. follows_still old new p u keeps (h.follows u within);
     acting = h.acting;
@@ -85,8 +89,8 @@ module _ (file : File) (history : List Event) (most : ℕ) where
   }
 
   -- no thread yet
-  pub expanded_none : (list : List Reached) (p : Reached) (seen : Seen) → seen.acts ≡ false →
-      IsExpanded file history most list 0 p seen
+  pub expanded_none : (list : List (Reached S)) (p : Reached S) (seen : Seen) → seen.acts ≡ false →
+      IsExpanded next is_bad file most list 0 p seen
   expanded_none list p seen acts = record {
     follows = λ u within. absurd (omega arith);
     acting = λ true_is. absurd (no_yes acts true_is);
@@ -94,30 +98,30 @@ module _ (file : File) (history : List Event) (most : ℕ) where
   }
 
   -- one thread more
-  module _ (list : List Reached) (threads : ℕ) (p : Reached) (seen : Seen)
-      (h : IsExpanded file history most list threads p seen) where
-    follows_more : (l : Looked) → IsLooked file history most list p threads l → (u : ℕ) → u < threads + 1 →
-        IsFollowed file history most list p u
+  module _ (list : List (Reached S)) (threads : ℕ) (p : Reached S) (seen : Seen)
+      (h : IsExpanded next is_bad file most list threads p seen) where
+    follows_more : (l : Looked) → IsLooked next is_bad file most list p threads l → (u : ℕ) → u < threads + 1 →
+        IsFollowed next is_bad file most list p u
     follows_more l is u within = by_thread (cases_lt u threads)
       where
-        here : (l : Looked) → IsLooked file history most list p threads l → IsFollowed file history most list p threads
-        here looked.Idle e = λ acts rest left few.
+        here : (l : Looked) → IsLooked next is_bad file most list p threads l → IsFollowed next is_bad file most list p threads
+        here looked.Idle e = λ acts few.
             absurd (acting_not (stride file p.configuration threads).did did.Idle e tt acts)
-        here looked.Waits e = λ acts rest left few.
+        here looked.Waits e = λ acts few.
             absurd (acting_not (stride file p.configuration threads).did did.Waits e tt acts)
         here looked.Acts e = e.follows
 
-        by_thread : (u < threads) ⊎ (threads ≤ u) → IsFollowed file history most list p u
+        by_thread : (u < threads) ⊎ (threads ≤ u) → IsFollowed next is_bad file most list p u
         by_thread (inl less) = h.follows u less
         by_thread (inr past) =
             let same : threads ≡ u = omega arith in
-            subst (λ (v : ℕ). IsFollowed file history most list p v) same (here l is)
+            subst (λ (v : ℕ). IsFollowed next is_bad file most list p v) same (here l is)
 
-    acting_more : (l : Looked) → IsLooked file history most list p threads l → (seen.acts || acts_of l) ≡ true →
+    acting_more : (l : Looked) → IsLooked next is_bad file most list p threads l → (seen.acts || acts_of l) ≡ true →
         (u : ℕ) × IsActing (stride file p.configuration u).did
     acting_more l is true_is = by_case l is (or_true seen.acts (acts_of l) true_is)
       where
-        by_case : (l : Looked) → IsLooked file history most list p threads l →
+        by_case : (l : Looked) → IsLooked next is_bad file most list p threads l →
             (seen.acts ≡ true) ⊎ (acts_of l ≡ true) →
             (u : ℕ) × IsActing (stride file p.configuration u).did
         by_case l is (inl old) = h.acting old
@@ -125,14 +129,14 @@ module _ (file : File) (history : List Event) (most : ℕ) where
         by_case looked.Waits is (inr e) = cc
         by_case looked.Acts is (inr e) = (threads, is.acts)
 
-    free_more : (l : Looked) → IsLooked file history most list p threads l → (seen.waits || waits_of l) ≡ false →
+    free_more : (l : Looked) → IsLooked next is_bad file most list p threads l → (seen.waits || waits_of l) ≡ false →
         (u : ℕ) → u < threads + 1 → (stride file p.configuration u).did ≡ did.Waits → ⊥
     free_more l is false_is u within e = by_thread (cases_lt u threads)
       where
         both : (seen.waits ≡ false) × (waits_of l ≡ false)
         both = or_false seen.waits (waits_of l) false_is
 
-        here : (l : Looked) → IsLooked file history most list p threads l → waits_of l ≡ false →
+        here : (l : Looked) → IsLooked next is_bad file most list p threads l → waits_of l ≡ false →
             (stride file p.configuration threads).did ≡ did.Waits → ⊥
         here looked.Idle is a w = waits_not_idle (stride file p.configuration threads).did is w
         here looked.Waits is a w = cc
@@ -144,8 +148,8 @@ module _ (file : File) (history : List Event) (most : ℕ) where
             let same : threads ≡ u = omega arith in
             here l is both.1 (ap (λ (v : ℕ). (stride file p.configuration v).did) same ∙ e)
 
-    pub expanded_more : (l : Looked) → IsLooked file history most list p threads l →
-        IsExpanded file history most list (threads + 1) p (seen_with seen l)
+    pub expanded_more : (l : Looked) → IsLooked next is_bad file most list p threads l →
+        IsExpanded next is_bad file most list (threads + 1) p (seen_with seen l)
     expanded_more l is = record {
       follows = follows_more l is;
       acting = acting_more l is;
@@ -153,37 +157,39 @@ module _ (file : File) (history : List Event) (most : ℕ) where
     }
 
   -- one thread more was looked at
-  pub here_more : (other : File) → other ≡ file → (old new : List Reached) → Keeps old new → (at threads : ℕ)
-      (p : Reached) (seen seen' : Seen) (o : Option Looked) (l : Looked) →
-      IsExpanded file history most old threads p seen →
+  pub here_more : (other : File) → other ≡ file → (old new : List (Reached S)) → Keeps old new → (at threads : ℕ)
+      (p : Reached S) (seen seen' : Seen) (o : Option Looked) (l : Looked) →
+      IsExpanded next is_bad file most old threads p seen →
       o ≡ Some l →
-      IfSome o (λ k. (q : Reached) → slice_get old at ≡ Some q → IsLooked other history most new q threads k) →
+      IfSome o (λ k. (q : Reached S) → slice_get old at ≡ Some q → IsLooked next is_bad other most new q threads k) →
       slice_get old at ≡ Some p →
       seen' ≡ seen_with seen l →
-      IsExpanded file history most new (threads + 1) p seen'
+      IsExpanded next is_bad file most new (threads + 1) p seen'
   here_more other other_is old new keeps at threads p seen seen' o l h is looked here with_more =
-      let so : IsLooked other history most new p threads l =
-      of_some (λ k. (q : Reached) → slice_get old at ≡ Some q → IsLooked other history most new q threads k) o l is
+      let so : IsLooked next is_bad other most new p threads l =
+      of_some (λ k. (q : Reached S) → slice_get old at ≡ Some q → IsLooked next is_bad other most new q threads k) o l is
       looked p here in
-      subst (IsExpanded file history most new (threads + 1) p) (sym with_more)
+      subst (IsExpanded next is_bad file most new (threads + 1) p) (sym with_more)
       (expanded_more new threads p seen (expanded_still old new threads p seen keeps h) l
-      (subst (λ (f : File). IsLooked f history most new p threads l) other_is so))
+      (subst (λ (f : File). IsLooked next is_bad f most new p threads l) other_is so))
 
   -- a state that no thread leads from to another, and that is no end
-  module _ (t : Table) (file_is : t.file ≡ file) (threads : ℕ) (s : Spot) (is : IsSpot t threads s) (stuck : Bool)
-      (list : List Reached) (seen : Seen) (h : IsExpanded file history most list threads (reached_at t s) seen)
-      (ends_not : drop s.place.noted history ≡ [] → (stuck ≡ true) × ((seen.waits ≡ false) ⊎ (seen.acts ≡ true))) where
+  module _ (first : S) (t : Table) (file_is : t.file ≡ file) (states : List S) (threads : ℕ) (s : Spot)
+      (is : IsSpot t states threads s) (stuck : Bool) (list : List (Reached S)) (seen : Seen)
+      (h : IsExpanded next is_bad file most list threads (reached_at first t states s) seen)
+      (ends_not : is_bad (noted_at first states s) ≡ true →
+      (stuck ≡ true) × ((seen.waits ≡ false) ⊎ (seen.acts ≡ true))) where
     missing : (u : ℕ) → threads ≤ u → (stride file (configuration_of t s.place) u).did ≡ did.Idle
     missing u past =
         ap (λ (z : Stride). z.did) (missing_stride file t s.place.store s.place.works.items u
         (slice_get_past s.place.works.items u (omega (arith, past, is.width))))
 
-    follows_all : (u : ℕ) → IsFollowed file history most list (reached_at t s) u
+    follows_all : (u : ℕ) → IsFollowed next is_bad file most list (reached_at first t states s) u
     follows_all u = by_thread (cases_lt u threads)
       where
-        by_thread : (u < threads) ⊎ (threads ≤ u) → IsFollowed file history most list (reached_at t s) u
+        by_thread : (u < threads) ⊎ (threads ≤ u) → IsFollowed next is_bad file most list (reached_at first t states s) u
         by_thread (inl less) = h.follows u less
-        by_thread (inr past) = λ acts rest left few.
+        by_thread (inr past) = λ acts few.
             absurd (acting_not (stride file (configuration_of t s.place) u).did did.Idle (missing u past) tt acts)
 
     not_stuck : (seen.waits ≡ false) ⊎ (seen.acts ≡ true) → IsStuck file (configuration_of t s.place) → ⊥
@@ -197,50 +203,51 @@ module _ (file : File) (history : List Event) (most : ℕ) where
         by_thread (inr past) =
             waits_not_idle (stride file (configuration_of t s.place) k.thread).did (missing k.thread past) k.waits
 
-    pub passed : IsPassed file history most stuck list (reached_at t s)
+    pub passed : IsPassed next is_bad file most stuck list (reached_at first t states s)
     passed = record {
       follows = follows_all;
       none = λ end.
-          let how = ends_not end.whole in
+          let how = ends_not end.bad in
           not_stuck how.1 (subst (λ (b : Bool). EndsAt b file (configuration_of t s.place)) how.0 end.ends);
     }
 
-  pub passed_none : (stuck : Bool) (list : List Reached) → ArePassed file history most stuck list 0
+  pub passed_none : (stuck : Bool) (list : List (Reached S)) → ArePassed next is_bad file most stuck list 0
   passed_none stuck list at p within here = absurd (omega arith)
 
   -- one more
-  pub passed_more : (stuck : Bool) (old new : List Reached) (count : ℕ) → Keeps old new → count < length old →
-      ArePassed file history most stuck old count →
-      ((p : Reached) → slice_get old count ≡ Some p → IsPassed file history most stuck new p) →
-      ArePassed file history most stuck new (count + 1)
+  pub passed_more : (stuck : Bool) (old new : List (Reached S)) (count : ℕ) → Keeps old new → count < length old →
+      ArePassed next is_bad file most stuck old count →
+      ((p : Reached S) → slice_get old count ≡ Some p → IsPassed next is_bad file most stuck new p) →
+      ArePassed next is_bad file most stuck new (count + 1)
   passed_more stuck old new count keeps inside h last at p within here = by_place (cases_lt at count)
     where
       was : slice_get old at ≡ Some p
       was = same_there old new at p keeps (omega (arith, within, inside)) here
 
-      by_place : (at < count) ⊎ (count ≤ at) → IsPassed file history most stuck new p
+      by_place : (at < count) ⊎ (count ≤ at) → IsPassed next is_bad file most stuck new p
       by_place (inl less) =
-          let before : IsPassed file history most stuck old p = h at p less was in
+          let before : IsPassed next is_bad file most stuck old p = h at p less was in
           record { follows = λ u. follows_still old new p u keeps (before.follows u); none = before.none }
       by_place (inr past) =
           let same : at ≡ count = omega arith in
           last p (ap (slice_get old) (sym same) ∙ was)
 
   -- the one at a place
-  pub passed_here : (t : Table) → t.file ≡ file → (threads : ℕ) (spots : List Spot) → AreSpots threads t spots →
-      (stuck : Bool) (at : ℕ) (s : Spot) → slice_get spots at ≡ Some s → (p : Reached) →
-      slice_get (reached_of t spots) at ≡ Some p → (seen : Seen) →
-      IsExpanded file history most (reached_of t spots) threads p seen →
-      (drop s.place.noted history ≡ [] → (stuck ≡ true) × ((seen.waits ≡ false) ⊎ (seen.acts ≡ true))) →
-      IsPassed file history most stuck (reached_of t spots) p
-  passed_here t file_is threads spots are stuck at s here p p_here seen h ends_not =
-      let list : List Reached = reached_of t spots in
-      let same : reached_at t s ≡ p = some_is (sym (map_there (reached_at t) spots at s here) ∙ p_here) in
-      subst (IsPassed file history most stuck list) same
-      (passed t file_is threads s (are at s here) stuck list seen
-      (subst (λ (q : Reached). IsExpanded file history most list threads q seen) (sym same) h) ends_not)
+  pub passed_here : (first : S) (t : Table) → t.file ≡ file → (states : List S) (threads : ℕ) (spots : List Spot) →
+      AreSpots threads t states spots →
+      (stuck : Bool) (at : ℕ) (s : Spot) → slice_get spots at ≡ Some s → (p : Reached S) →
+      slice_get (reached_of first t states spots) at ≡ Some p → (seen : Seen) →
+      IsExpanded next is_bad file most (reached_of first t states spots) threads p seen →
+      (is_bad (noted_at first states s) ≡ true → (stuck ≡ true) × ((seen.waits ≡ false) ⊎ (seen.acts ≡ true))) →
+      IsPassed next is_bad file most stuck (reached_of first t states spots) p
+  passed_here first t file_is states threads spots are stuck at s here p p_here seen h ends_not =
+      let list : List (Reached S) = reached_of first t states spots in
+      let same : reached_at first t states s ≡ p = some_is (sym (map_there (reached_at first t states) spots at s here) ∙ p_here) in
+      subst (IsPassed next is_bad file most stuck list) same
+      (passed first t file_is states threads s (are at s here) stuck list seen
+      (subst (λ (q : Reached S). IsExpanded next is_bad file most list threads q seen) (sym same) h) ends_not)
 
   -- no more than those
-  pub passed_fewer : (stuck : Bool) (list : List Reached) (count fewer : ℕ) → fewer ≤ count →
-      ArePassed file history most stuck list count → ArePassed file history most stuck list fewer
+  pub passed_fewer : (stuck : Bool) (list : List (Reached S)) (count fewer : ℕ) → fewer ≤ count →
+      ArePassed next is_bad file most stuck list count → ArePassed next is_bad file most stuck list fewer
   passed_fewer stuck list count fewer less h at p within here = h at p (omega (arith, within, less)) here

@@ -3,15 +3,17 @@ use Rattle.std.proofs.Common.{◌≡◌, ◌⊎◌, inl, inr, ℕ, zero, suc, �
 use Rattle.std.proofs.Common.{sym, ap, ◌∙◌, subst, arith}
 use Rattle.std.specs.Prelude.{slice_get}
 use Rattle.std.proofs.lemmas.Bool.{cases_lt}
+use Rattle.std.proofs.lemmas.Option.{get_or_from_slice_get}
 use Rattle.ls_events.specs.declared.event.Event.{Event}
 use Rattle.ls_checked.specs.CheckedTree.{File}
 use Rattle.ls_checked.specs.CheckedProgram.{Program}
-use Rattle.ls_meaning.specs.Runs.{source_history}
 use Rattle.ls_search_laws.specs.Configuration.{Configuration}
 use Rattle.ls_transitions.specs.Tables.{Table, Grows, Keeps}
 use Rattle.ls_search.specs.Places.{AreThere, configuration_at}
 use Rattle.ls_search.proofs.Strides.{stays, there_still}
-use Rattle.ls_fewest_switches.specs.Switches.{EndsSo, NoneWithin, changes, switches}
+use Rattle.ls_transitions.proofs.Keeping.{below}
+use Rattle.ls_fewest_switches.specs.Levels.{HaveAtLeast, IsFirstWithin, IsWithin}
+use Rattle.ls_fewest_switches.specs.Switches.{HasFewestOf, IsSought, NoneWithin, changes, switches}
 use Rattle.ls_fewest_switches.specs.declared.spots.Spot.{Spot}
 use Rattle.ls_fewest_switches.specs.Reached.{Reached}
 use Rattle.ls_fewest_switches.specs.Spots.{AreSpots, IsSpot, reached_at, reached_of}
@@ -19,37 +21,41 @@ use Rattle.ls_fewest_switches.specs.Spots.{AreSpots, IsSpot, reached_at, reached
 some_is : {A : Type 0} {x y : A} → Some x ≡ Some y → x ≡ y
 some_is h = cc
 
-only : (t : Table) (threads : ℕ) (s : Spot) → IsSpot t threads s → AreSpots threads t (s ∷ [])
-only t threads s is zero x e = subst (IsSpot t threads) (some_is e) is
-only t threads s is (suc i) x e = cc
+only : {S : Type 0} (t : Table) (states : List S) (threads : ℕ) (s : Spot) → IsSpot t states threads s →
+    AreSpots threads t states (s ∷ [])
+only t states threads s is zero x e = subst (IsSpot t states threads) (some_is e) is
+only t states threads s is (suc i) x e = cc
 
-module _ (t : Table) (store : ℕ) (works : List ℕ) where
+module _ {S : Type 0} (first : S) (t : Table) (states : List S) (store : ℕ) (works : List ℕ) where
   pub spots_of_root : (threads : ℕ) → AreThere t store works → length works ≡ threads → (s : Spot) →
-      s.place.store ≡ store → s.place.works.items ≡ works → (spots : List Spot) → spots ≡ s ∷ [] →
-      AreSpots threads t spots
-  spots_of_root threads there width s store_is works_is spots are =
-      subst (AreSpots threads t) (sym are)
-      (only t threads s (record {
+      s.place.store ≡ store → s.place.works.items ≡ works → slice_get states s.place.noted ≡ Some first →
+      (spots : List Spot) → spots ≡ s ∷ [] →
+      AreSpots threads t states spots
+  spots_of_root threads there width s store_is works_is noted spots are =
+      subst (AreSpots threads t states) (sym are)
+      (only t states threads s (record {
         numbers = subst (λ k. AreThere t k s.place.works.items) (sym store_is)
             (subst (AreThere t store) (sym works_is) there);
+        noted_there = below states s.place.noted first noted;
         width = ap length works_is ∙ width;
       }))
 
-  pub root_there : (s : Spot) → s.place.store ≡ store → s.place.works.items ≡ works → s.place.noted ≡ 0 →
-      s.last ≡ 0 → s.changes ≡ 0 → (spots : List Spot) → spots ≡ s ∷ [] → (list : List Reached) →
-      Keeps (reached_of t spots) list → (c : Configuration) → configuration_at t store works ≡ c →
-      slice_get list 0 ≡ Some (record { configuration = c; done = 0; last = 0; changes = 0 })
+  pub root_there : (s : Spot) → s.place.store ≡ store → s.place.works.items ≡ works →
+      slice_get states s.place.noted ≡ Some first →
+      s.last ≡ 0 → s.changes ≡ 0 → (spots : List Spot) → spots ≡ s ∷ [] → (list : List (Reached S)) →
+      Keeps (reached_of first t states spots) list → (c : Configuration) → configuration_at t store works ≡ c →
+      slice_get list 0 ≡ Some (record { configuration = c; noted = first; last = 0; changes = 0 })
   root_there s store_is works_is noted last changes spots are list keeps c is =
-      let here : slice_get (reached_of t spots) 0 ≡ Some (reached_at t s) =
-      ap (λ (l : List Spot). slice_get (reached_of t l) 0) are in
-      keeps 0 (reached_at t s) here
+      let here : slice_get (reached_of first t states spots) 0 ≡ Some (reached_at first t states s) =
+      ap (λ (l : List Spot). slice_get (reached_of first t states l) 0) are in
+      keeps 0 (reached_at first t states s) here
       ∙ ap Some (λ i. record {
         configuration = configuration_at t (store_is i) (works_is i);
-        done = noted i;
+        noted = get_or_from_slice_get states s.place.noted first first noted i;
         last = last i;
         changes = changes i;
       })
-      ∙ ap (λ (k : Configuration). Some (record { configuration = k; done = 0; last = 0; changes = 0 })) is
+      ∙ ap (λ (k : Configuration). Some (record { configuration = k; noted = first; last = 0; changes = 0 })) is
 
 -- ---- while the table grows
 
@@ -64,16 +70,33 @@ module _ (t t' : Table) (grows : Grows t t') (store store' : ℕ) (works works' 
   still_at c is =
       (λ i. configuration_at t' (store_is i) (works_is i)) ∙ stays t t' store works grows there ∙ is
 
--- if no schedule has so few changes, each has one more at least
-pub least_more : (stuck : Bool) (file : File) (program : Program) (history : List Event) (level : ℕ) →
-    NoneWithin stuck file program history level → (s : List ℕ) → source_history file program s ≡ history →
-    EndsSo stuck file program s → level + 1 ≤ changes 0 s
-least_more stuck file program history level none s same ends = by_count (cases_lt level (changes 0 s))
-  where
-    by_count : (level < changes 0 s) ⊎ (changes 0 s ≤ level) → level + 1 ≤ changes 0 s
-    by_count (inl more) = omega (arith, more)
-    by_count (inr few) = absurd (none s same ends few)
-
 -- fewer changes are no more switches
 pub no_more_switches : (few many : List ℕ) → changes 0 few ≤ changes 0 many → switches few ≤ switches many
 no_more_switches few many h = omega (arith, h)
+
+-- ---- changes, number by number
+
+module _ {S : Type 0} (first : S) (next : S → Event → S) (is_bad : S → Bool) (stuck : Bool) (file : File)
+    (program : Program) where
+  -- if no schedule has so few changes, each has one more at least
+  pub least_more : (level : ℕ) → NoneWithin first next is_bad stuck file program level →
+      HaveAtLeast first next is_bad stuck file program (level + 1)
+  least_more level none s sought ends = by_count (cases_lt level (changes 0 s))
+    where
+      by_count : (level < changes 0 s) ⊎ (changes 0 s ≤ level) → level + 1 ≤ changes 0 s
+      by_count (inl more) = omega (arith, more)
+      by_count (inr few) = absurd (none s sought ends few)
+
+  -- one with at most so many, where each has so many at least, has the fewest
+  pub first_of : (level : ℕ) (schedule : List ℕ) → IsWithin first next is_bad stuck file program level schedule →
+      HaveAtLeast first next is_bad stuck file program level →
+      IsFirstWithin first next is_bad stuck file program schedule
+  first_of level schedule w least = record {
+    within = record { sought = w.sought; ends = w.ends; few = omega arith; short = w.short };
+    fewest = λ s sought ends. let h = least s sought ends in let few = w.few in omega (arith, h, few);
+  }
+
+  -- so it has the fewest context switches
+  pub fewest_of : (schedule : List ℕ) → HaveAtLeast first next is_bad stuck file program (changes 0 schedule) →
+      HasFewestOf (IsSought first next is_bad) stuck file program schedule
+  fewest_of schedule least s sought ends = no_more_switches schedule s (least s sought ends)

@@ -3,3 +3,4 @@ pub mod Reached
 pub mod Spots
 pub mod Levels
 pub mod Wording
+pub mod Along

@@ -1,6 +1,7 @@
 -- States that were reached, by numbers.
-use Rattle.std.specs.Prelude.{◌≡◌, ◌≤◌, ◌+◌, ◌++◌, ◌∷◌, ◌⊎◌, ℕ, List, [], Some, drop, length, map, slice_get}
-use Rattle.std.specs.Prelude.{slice_set}
+use Rattle.std.specs.Prelude.{◌≡◌, ◌≤◌, ◌<◌, ◌+◌, ◌++◌, ◌∷◌, ◌⊎◌, ℕ, Bool, List, [], Some, length, map, slice_get}
+use Rattle.std.specs.Prelude.{slice_index_or, slice_set}
+use Rattle.std.specs.List.{fold}
 use Rattle.ls_events.specs.declared.event.Event.{Event}
 use Rattle.ls_meaning.specs.Runs.{event_of}
 use Rattle.ls_search_laws.specs.Stepping.{events_in}
@@ -11,28 +12,45 @@ use Rattle.ls_transitions.specs.declared.moves.Step.{Step}
 use Rattle.ls_transitions.specs.declared.moves.Move.{Move}
 use Rattle.ls_transitions.specs.declared.moves.Move.TheVariants as moves
 use Rattle.ls_transitions.specs.Tables.{Table}
+use Rattle.ls_fewest_switches.specs.declared.spots.Found.{Found}
 use Rattle.ls_fewest_switches.specs.declared.spots.Spot.{Spot}
 use Rattle.ls_fewest_switches.specs.Switches.{change}
-use Rattle.ls_fewest_switches.specs.Reached.{Reached}
+use Rattle.ls_fewest_switches.specs.Reached.{NeverBad, Reached}
 
-abbrev pub reached_at : Table → Spot → Reached
-reached_at t s = record {
+-- what the numbers of what is noted stand for
+abbrev pub states_in : {N S : Type 0} → (N → S) → Found N → List S
+states_in stands f = map stands f.pool.values.items
+
+-- what is noted at a state
+abbrev pub noted_at : {S : Type 0} → S → List S → Spot → S
+noted_at first states s = slice_index_or states s.place.noted first
+
+abbrev pub reached_at : {S : Type 0} → S → Table → List S → Spot → Reached S
+reached_at first t states s = record {
   configuration = configuration_of t s.place;
-  done = s.place.noted;
+  noted = noted_at first states s;
   last = s.last;
   changes = s.changes;
 }
 
-abbrev pub reached_of : Table → List Spot → List Reached
-reached_of t spots = map (reached_at t) spots
+abbrev pub reached_of : {S : Type 0} → S → Table → List S → List Spot → List (Reached S)
+reached_of first t states spots = map (reached_at first t states) spots
+
+-- the states that were found
+abbrev pub reached_in : {N S : Type 0} → S → (N → S) → Table → Found N → List (Reached S)
+reached_in first stands t f = reached_of first t (states_in stands f) f.spots.spots.items
 
 -- its numbers stand for something, and it has a work for each of so many threads
-pub record IsSpot (t : Table) (threads : ℕ) (s : Spot) : Type 0 where
+pub record IsSpot {S : Type 0} (t : Table) (states : List S) (threads : ℕ) (s : Spot) : Type 0 where
   pub numbers : IsThere t s.place
+  pub noted_there : s.place.noted < length states
   pub width : length s.place.works.items ≡ threads
 
-abbrev pub AreSpots : ℕ → Table → List Spot → Type 0
-AreSpots threads t spots = (at : ℕ) (s : Spot) → slice_get spots at ≡ Some s → IsSpot t threads s
+abbrev pub AreSpots : {S : Type 0} → ℕ → Table → List S → List Spot → Type 0
+AreSpots threads t states spots = (at : ℕ) (s : Spot) → slice_get spots at ≡ Some s → IsSpot t states threads s
+
+abbrev pub AreFound : {N S : Type 0} → (N → S) → ℕ → Table → Found N → Type 0
+AreFound stands threads t f = AreSpots threads t (states_in stands f) f.spots.spots.items
 
 -- one of them is this state, reached with no more changes
 pub record HasSpot (spots : List Spot) (s : Spot) : Type 0 where
@@ -49,32 +67,43 @@ pub record HasSpot (spots : List Spot) (s : Spot) : Type 0 where
 abbrev pub Pushed : List Spot → List Spot → Spot → Type 0
 Pushed old new s = (new ≡ old) ⊎ (new ≡ old ++ s ∷ [])
 
--- the state after a step of a thread
+-- the state after a step of a thread, but for what is noted
 pub record IsSpotAfter (s : Spot) (thread : ℕ) (step : Step) (after : Spot) : Type 0 where
   pub store : after.place.store ≡ step.store
   pub works : after.place.works.items ≡ slice_set s.place.works.items thread step.work
-  pub noted : after.place.noted ≡ s.place.noted + length (events_in (event_of thread step.action))
   pub last : after.last ≡ thread
   pub changes : after.changes ≡ s.changes + change s.last thread
 
 -- the state after a step at the one at a place is new
-pub record IsPushedAfter (old new : List Spot) (at thread : ℕ) (step : Step) : Type 0 where
+pub record IsPushedAfter {S : Type 0} (states : List S) (old new : List Spot) (at thread : ℕ) (step : Step) : Type 0
+  where
+    pub spot : Spot
+    pub here : slice_get old at ≡ Some spot
+    pub next : Spot
+    pub after : IsSpotAfter spot thread step next
+    pub noted_there : next.place.noted < length states
+    pub more : new ≡ old ++ next ∷ []
+
+abbrev pub GrowBy : {S : Type 0} → List S → List Spot → List Spot → ℕ → ℕ → Step → Type 0
+GrowBy states old new at thread step = (new ≡ old) ⊎ IsPushedAfter states old new at thread step
+
+-- what is noted after a step, where this was noted before it
+abbrev pub noted_after : {S : Type 0} → (S → Event → S) → S → ℕ → Step → S
+noted_after next m thread step = fold next m (events_in (event_of thread step.action))
+
+-- one of these is the state after a step at this one
+pub record LeadsTo {S : Type 0} (next : S → Event → S) (m : S) (states : List S) (new : List Spot) (s : Spot) (thread : ℕ)
+    (step : Step) : Type 0 where
   pub spot : Spot
-  pub here : slice_get old at ≡ Some spot
-  pub next : Spot
-  pub after : IsSpotAfter spot thread step next
-  pub more : new ≡ old ++ next ∷ []
+  pub after : IsSpotAfter s thread step spot
+  pub noted : slice_get states spot.place.noted ≡ Some (noted_after next m thread step)
+  pub has : HasSpot new spot
 
-abbrev pub GrowBy : List Spot → List Spot → ℕ → ℕ → Step → Type 0
-GrowBy old new at thread step = (new ≡ old) ⊎ IsPushedAfter old new at thread step
-
--- The state after a step at this one is one of these, if the history goes on so, and if the thread has changed at most
--- so often.
-abbrev pub LeadsOn : List Event → ℕ → List Spot → Spot → ℕ → Step → Type 0
-LeadsOn history most new s thread step = (rest : List Event) →
-    drop s.place.noted history ≡ events_in (event_of thread step.action) ++ rest →
-    s.changes + change s.last thread ≤ most →
-    (next : Spot) × IsSpotAfter s thread step next × HasSpot new next
+-- The state after a step at this one is one of these, if the thread has changed at most so often, or none that it leads to
+-- is looked for.
+abbrev pub LeadsOn : {S : Type 0} → (S → Event → S) → (S → Bool) → ℕ → S → List S → List Spot → Spot → ℕ → Step → Type 0
+LeadsOn next is_bad most m states new s thread step = s.changes + change s.last thread ≤ most →
+    LeadsTo next m states new s thread step ⊎ NeverBad next is_bad (noted_after next m thread step)
 
 -- a move that doesn't act
 abbrev pub IsStillMove : Move → Type 0

@@ -1,5 +1,6 @@
 -- Context switches of schedules.
 use Rattle.std.specs.Prelude.{◌≡◌, ◌≤◌, ◌+◌, ◌-◌, ℕ, Bool, true, false, List, [], ◌∷◌, nat_eq, if◌then◌else◌}
+use Rattle.std.specs.List.{fold}
 use Rattle.ls_events.specs.declared.event.Event.{Event}
 use Rattle.ls_checked.specs.CheckedTree.{File}
 use Rattle.ls_checked.specs.CheckedProgram.{Program}
@@ -25,13 +26,27 @@ abbrev pub EndsSo : Bool → File → Program → List ℕ → Type 0
 EndsSo true file program schedule = LeavesStuck file program schedule
 EndsSo false file program schedule = Unit {0}
 
--- no schedule, of any length, that has its history and ends as is asked has fewer context switches
+-- no schedule, of any length, whose history is one of these and that ends as is asked has fewer context switches
+abbrev pub HasFewestOf : (List Event → Type 0) → Bool → File → Program → List ℕ → Type 0
+HasFewestOf IsOne stuck file program schedule =
+    (s : List ℕ) → IsOne (source_history file program s) → EndsSo stuck file program s → switches schedule ≤ switches s
+
+-- so it is of those that have its own history
 abbrev pub HasFewest : Bool → File → Program → List ℕ → Type 0
 HasFewest stuck file program schedule =
-    (s : List ℕ) → source_history file program s ≡ source_history file program schedule →
-    EndsSo stuck file program s → switches schedule ≤ switches s
+    HasFewestOf (λ h. h ≡ source_history file program schedule) stuck file program schedule
 
--- no schedule that has this history and ends as is asked has at most so many changes
-abbrev pub NoneWithin : Bool → File → Program → List Event → ℕ → Type 0
-NoneWithin stuck file program history most =
-    (s : List ℕ) → source_history file program s ≡ history → EndsSo stuck file program s → changes 0 s ≤ most → ⊥
+-- no schedule after which no thread acts and one waits has fewer
+abbrev pub HasFewestStuck : File → Program → List ℕ → Type 0
+HasFewestStuck file program schedule =
+    (s : List ℕ) → LeavesStuck file program s → switches schedule ≤ switches s
+
+-- an observer calls the history bad
+abbrev pub IsSought : {S : Type 0} → S → (S → Event → S) → (S → Bool) → List Event → Type 0
+IsSought first next is_bad h = is_bad (fold next first h) ≡ true
+
+-- no schedule whose history is so, and that ends as is asked, has at most so many changes
+abbrev pub NoneWithin : {S : Type 0} → S → (S → Event → S) → (S → Bool) → Bool → File → Program → ℕ → Type 0
+NoneWithin first next is_bad stuck file program most =
+    (s : List ℕ) → IsSought first next is_bad (source_history file program s) → EndsSo stuck file program s →
+    changes 0 s ≤ most → ⊥

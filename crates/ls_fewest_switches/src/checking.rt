@@ -8,14 +8,14 @@ ghost use Rattle.ls_meaning.specs.Still.{IsStill};
 ghost use Rattle.ls_meaning.specs.declared.step.Did.TheVariants.{Waits};
 ghost use Rattle.ls_run_search.specs.Runs.{progress_at};
 ghost use Rattle.ls_source.specs.Shown.{progress_of};
-ghost use Rattle.ls_fewest_switches.specs.Switches.{EndsSo};
+ghost use Rattle.ls_fewest_switches.specs.Switches.{EndsSo, IsSought};
 ghost use Rattle.ls_fewest_switches.specs.Levels.{IsWaiting};
 
 use ls_checked::program::Program;
 use ls_checked::tree::File;
-use ls_events::event::Event;
-use ls_events::same::are_same_events;
 use ls_meaning::step::Did;
+use ls_observers::observer::Observer;
+use ls_run_search::observing::noted_of;
 use ls_source::run::SourceRun;
 use std::alloc::{AllocError, Global};
 
@@ -72,22 +72,24 @@ fn is_stuck(alloc: Global, run: &mut SourceRun<'_>, threads: usize) -> Result<bo
     Ok(waits)
 }
 
-/// Whether a schedule has a history and ends as is asked. True only where it is so.
-pub(crate) fn is_alike(
+/// Whether an observer calls a schedule's history bad, and the schedule ends as is asked. True only where it is so.
+pub(crate) fn is_such<O: Observer>(
     alloc: Global,
+    observer: &O,
     file: &File,
     program: &Program,
     steps: &[u8],
-    history: &[Event],
     stuck: bool,
 ) -> Result<bool, AllocError>
-    ensures history { IfOk result (λ b. IsTrue b →
-        source_history (plain_file file.now) (plain_program program.now) steps.now ≡ history.now) }
+    ensures sought { IfOk result (λ b. IsTrue b →
+        IsSought (O.first observer.now) (O.next observer.now) (O.bad observer.now)
+        (source_history (plain_file file.now) (plain_program program.now) steps.now)) }
     ensures ends { IfOk result (λ b. IsTrue b →
         EndsSo stuck (plain_file file.now) (plain_program program.now) steps.now) }
 {
     let mut run = run_after(alloc, file, program, steps)?;
-    if !are_same_events(run.history(), history) {
+    let noted = noted_of(alloc, observer, run.history())?;
+    if !observer.is_bad(&noted) {
         return Ok(false);
     }
     if !stuck {

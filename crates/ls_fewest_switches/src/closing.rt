@@ -1,16 +1,18 @@
 // The search for an end with so many changes of thread.
 
-ghost use Rattle.std.specs.Prelude.{◌≡◌, ◌<◌, ◌≤◌, IfOk, IfSome, OnOk, Some, [], drop};
-ghost use Rattle.std.specs.Prelude.{◌⊎◌, false, length, slice_get, true};
+ghost use Rattle.std.specs.Prelude.{◌≡◌, ◌⊎◌, ◌<◌, IfOk, IfSome, OnOk, Some, false, length, map, slice_get};
+ghost use Rattle.std.specs.Prelude.{slice_index_or, true};
 ghost use Rattle.ls_transitions.specs.Seen.{table_of};
 ghost use Rattle.ls_transitions.specs.Tables.{Grows, Keeps};
-ghost use Rattle.ls_fewest_switches.specs.Reached.{IsClosed, IsExpanded, Reached};
-ghost use Rattle.ls_fewest_switches.specs.Spots.{AreSpots, reached_of};
+ghost use Rattle.ls_fewest_switches.specs.Reached.{IsClosed, IsExpanded, NeverBad, Reached};
+ghost use Rattle.ls_fewest_switches.specs.Spots.{AreFound, reached_in};
 ghost use Rattle.ls_fewest_switches.specs.declared.closing.Closing.TheVariants.{Closed};
 
 use crate::following::{Ground, look, spot_at};
-use crate::spots::{Spot, Spots};
+use crate::spots::{Found, Spot};
+use ls_observers::observer::Observer;
 use ls_search::moving::has_setup_ended;
+use ls_search::noting::Pool;
 use ls_search::places::Seen;
 use ls_search::searching::seen_with;
 use ls_transitions::transitions::Transitions;
@@ -35,31 +37,41 @@ impl Clone for Closing {
 
 /// Looks at what each thread does at the state at a place. Answers nothing where there are as many states as there may
 /// be.
-fn expand<'a>(
-    ground: &Ground<'_>,
+fn expand<'a, O: Observer>(
+    ground: &Ground<'_, O, O::Noted>,
     transitions: &mut Transitions<'a>,
-    spots: &mut Spots,
+    found: &mut Found<O::Noted>,
     at: usize,
 ) -> Result<Option<Seen>, AllocError>
-    requires at { at < length spots.old.spots.items }
-    requires spots { AreSpots ground.now.threads (table_of transitions.old) spots.old.spots.items }
+    requires at { at < length found.old.spots.spots.items }
+    requires spots { AreFound (O.stands ground.now.observer.now) ground.now.threads (table_of transitions.old)
+        found.old }
+    requires lost { IfSome ground.now.lost (λ n. NeverBad (O.next ground.now.observer.now)
+        (O.bad ground.now.observer.now) (O.stands ground.now.observer.now n)) }
     ensures grows { Grows (table_of transitions.old) (table_of transitions.new) }
-    ensures spots { OnOk result (AreSpots ground.now.threads (table_of transitions.new) spots.new.spots.items) }
-    ensures keeps { OnOk result (Keeps (reached_of (table_of transitions.old) spots.old.spots.items)
-        (reached_of (table_of transitions.new) spots.new.spots.items)) }
-    ensures expanded { IfOk result (λ found. IfSome found (λ seen. (p : Reached) →
-        slice_get (reached_of (table_of transitions.old) spots.old.spots.items) at ≡ Some p →
-        IsExpanded (table_of transitions.old).file ground.now.history.now ground.now.most
-        (reached_of (table_of transitions.new) spots.new.spots.items) ground.now.threads p seen)) }
+    ensures spots { OnOk result (AreFound (O.stands ground.now.observer.now) ground.now.threads
+        (table_of transitions.new) found.new) }
+    ensures keeps { OnOk result (Keeps
+        (reached_in (O.first ground.now.observer.now) (O.stands ground.now.observer.now) (table_of transitions.old)
+        found.old)
+        (reached_in (O.first ground.now.observer.now) (O.stands ground.now.observer.now) (table_of transitions.new)
+        found.new)) }
+    ensures expanded { IfOk result (λ some. IfSome some (λ seen. (p : Reached O.State) →
+        slice_get (reached_in (O.first ground.now.observer.now) (O.stands ground.now.observer.now)
+        (table_of transitions.old) found.old) at ≡ Some p →
+        IsExpanded (O.next ground.now.observer.now) (O.bad ground.now.observer.now) (table_of transitions.old).file
+        ground.now.most
+        (reached_in (O.first ground.now.observer.now) (O.stands ground.now.observer.now) (table_of transitions.new)
+        found.new) ground.now.threads p seen)) }
 {
-    let spot = spot_at(&spots.spots, at);
+    let spot = spot_at(&found.spots.spots, at);
     let ended = has_setup_ended(ground.alloc, transitions, &spot.place)?;
     let mut seen = Seen {
         acts: false,
         waits: false,
     };
     for thread in 0..ground.threads {
-        let Some(looked) = look(ground, transitions, spots, at, thread, ended)? else {
+        let Some(looked) = look(ground, transitions, found, at, thread, ended)? else {
             return Ok(None);
         };
         seen = seen_with(seen, looked);
@@ -67,36 +79,54 @@ fn expand<'a>(
     Ok(Some(seen))
 }
 
-/// Whether a state is an end, by what was seen of the threads there.
-fn is_end(ground: &Ground<'_>, spot: &Spot, seen: Seen) -> bool
-    ensures { result ≡ false → drop spot.now.place.noted ground.now.history.now ≡ [] →
+/// Whether a state is an end, by what is noted and what was seen of the threads there.
+fn is_end<O: Observer>(
+    ground: &Ground<'_, O, O::Noted>,
+    pool: &Pool<O::Noted>,
+    spot: &Spot,
+    seen: Seen,
+) -> bool
+    requires { spot.now.place.noted < length pool.now.values.items }
+    ensures { result ≡ false →
+        O.bad ground.now.observer.now (slice_index_or
+        (map (O.stands ground.now.observer.now) pool.now.values.items) spot.now.place.noted
+        (O.first ground.now.observer.now)) ≡ true →
         (ground.now.stuck ≡ true) × ((seen.waits ≡ false) ⊎ (seen.acts ≡ true)) }
 {
-    spot.place.noted >= ground.history.len() && (!ground.stuck || (seen.waits && !seen.acts))
+    ground.observer.is_bad(&pool.values[spot.place.noted])
+        && (!ground.stuck || (seen.waits && !seen.acts))
 }
 
 /// Looks at what each thread does at each state, until one is an end.
-pub(crate) fn close<'a>(
-    ground: &Ground<'_>,
+pub(crate) fn close<'a, O: Observer>(
+    ground: &Ground<'_, O, O::Noted>,
     transitions: &mut Transitions<'a>,
-    spots: &mut Spots,
+    found: &mut Found<O::Noted>,
 ) -> Result<Closing, AllocError>
-    requires spots { AreSpots ground.now.threads (table_of transitions.old) spots.old.spots.items }
+    requires spots { AreFound (O.stands ground.now.observer.now) ground.now.threads (table_of transitions.old)
+        found.old }
+    requires lost { IfSome ground.now.lost (λ n. NeverBad (O.next ground.now.observer.now)
+        (O.bad ground.now.observer.now) (O.stands ground.now.observer.now n)) }
     ensures grows { Grows (table_of transitions.old) (table_of transitions.new) }
-    ensures keeps { OnOk result (Keeps (reached_of (table_of transitions.old) spots.old.spots.items)
-        (reached_of (table_of transitions.new) spots.new.spots.items)) }
+    ensures keeps { OnOk result (Keeps
+        (reached_in (O.first ground.now.observer.now) (O.stands ground.now.observer.now) (table_of transitions.old)
+        found.old)
+        (reached_in (O.first ground.now.observer.now) (O.stands ground.now.observer.now) (table_of transitions.new)
+        found.new)) }
     ensures closed { IfOk result (λ c. c ≡ Closed →
-        IsClosed (table_of transitions.old).file ground.now.history.now ground.now.most ground.now.stuck
-        (reached_of (table_of transitions.new) spots.new.spots.items)) }
+        IsClosed (O.next ground.now.observer.now) (O.bad ground.now.observer.now) (table_of transitions.old).file
+        ground.now.most ground.now.stuck
+        (reached_in (O.first ground.now.observer.now) (O.stands ground.now.observer.now) (table_of transitions.new)
+        found.new)) }
 {
     for at in 0..ground.limit {
-        if at >= spots.spots.len() {
+        if at >= found.spots.spots.len() {
             return Ok(Closing::Closed);
         }
-        let Some(seen) = expand(ground, transitions, spots, at)? else {
+        let Some(seen) = expand(ground, transitions, found, at)? else {
             return Ok(Closing::Full);
         };
-        if is_end(ground, spot_at(&spots.spots, at), seen) {
+        if is_end(ground, &found.pool, spot_at(&found.spots.spots, at), seen) {
             return Ok(Closing::Ends(at));
         }
     }

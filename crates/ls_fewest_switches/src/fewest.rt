@@ -1,38 +1,46 @@
 // A schedule with the fewest context switches.
 
-ghost use Rattle.std.specs.Prelude.{◌≡◌, ◌<◌, ◌≤◌, IfOk, IfSome, IsTrue};
+ghost use Rattle.std.specs.Prelude.{◌≡◌, ◌<◌, ◌≤◌, IfOk, IfSome, IsTrue, length};
 ghost use Rattle.ls_checked.specs.Plain.{plain_file};
 ghost use Rattle.ls_checked.specs.PlainProgram.{plain_program};
 ghost use Rattle.ls_meaning.specs.Runs.{source_history};
-ghost use Rattle.ls_fewest_switches.specs.Levels.{IsFirstWithin};
-ghost use Rattle.ls_fewest_switches.specs.Switches.{EndsSo, HasFewest, switches};
+ghost use Rattle.ls_fewest_switches.specs.Levels.{IsBelow};
+ghost use Rattle.ls_fewest_switches.specs.Reached.{NeverBad};
+ghost use Rattle.ls_fewest_switches.specs.Switches.{EndsSo, HasFewest, HasFewestOf, IsSought, switches};
 
+use crate::along::Along;
 use crate::changing::changes;
 use crate::following::Ground;
 use crate::levels::{Level, within};
 use ls_checked::program::Program;
 use ls_checked::tree::File;
-use ls_events::event::Event;
 use ls_events::schedule::Schedule;
+use ls_observers::observer::Observer;
 use ls_run_search::numbering::number;
 use ls_source::playing::Playing;
 use ls_source::run::play;
 use std::alloc::{AllocError, Global};
 
-/// A schedule, and whether it is known that none with its history and its end has fewer context switches.
+/// A schedule, and whether it is known that none of those with which it is compared has fewer context switches.
 #[derive(Drop)]
 pub struct SimpleRun {
     pub schedule: Schedule,
     pub fewest: bool,
 }
 
-/// What is looked for: a schedule with this history, after which no thread acts and one waits if that is asked.
-#[derive(Drop)]
-struct Wanted<'a> {
-    history: &'a [Event],
-    stuck: bool,
-    /// How many states are kept at the most, for each number of changes.
-    limit: usize,
+/// What a run must come to, and how far it is looked for.
+#[derive(Copy)]
+pub struct Target {
+    /// Whether no thread may act after it, and one must wait.
+    pub stuck: bool,
+    /// How many states are kept at the most, for each number of changes of thread.
+    pub limit: usize,
+}
+
+impl Clone for Target {
+    fn clone(&self) -> Result<Target, AllocError> {
+        Ok(*self)
+    }
 }
 
 /// How many context switches a schedule has.
@@ -42,80 +50,130 @@ pub fn switches(schedule: &Schedule) -> usize
     changes(schedule.steps()).saturating_sub(1)
 }
 
-/// The schedule with the fewest changes of thread that is looked for, if it has at most so many and not too many states
+/// The schedule with the fewest changes of thread that is looked for, if it has fewer than so many and not too many states
 /// are needed.
-fn first_within(
-    alloc: Global,
+fn least_below<O: Observer>(
+    ground: Ground<'_, O, O::Noted>,
     file: &File,
     program: &Program,
-    wanted: &Wanted<'_>,
-    most: usize,
-) -> Result<Option<Schedule>, AllocError>
-    requires { most < 4294967295 }
-    ensures { IfOk result (λ some. IfSome some (IsFirstWithin wanted.now.stuck (plain_file file.now)
-        (plain_program program.now) wanted.now.history.now most)) }
+    count: usize,
+) -> Result<Level, AllocError>
+    requires threads { ground.threads ≡ length program.now.threads.items }
+    requires lost { IfSome ground.lost (λ n. NeverBad (O.next ground.observer.now) (O.bad ground.observer.now)
+        (O.stands ground.observer.now n)) }
+    ensures { IfOk result (IsBelow (O.first ground.entry.observer.now) (O.next ground.entry.observer.now)
+        (O.bad ground.entry.observer.now) ground.entry.stuck (plain_file file.now) (plain_program program.now) count) }
 {
-    let playing = Playing::new(alloc, file, program)?;
-    let mut numbered = number(alloc, &playing)?;
-    for level in 0..most + 1 {
-        let ground = Ground {
-            alloc,
-            history: wanted.history,
-            threads: program.threads.len() as u8,
-            limit: wanted.limit,
-            most: level,
-            stuck: wanted.stuck,
-        };
+    let mut ground = ground;
+    let playing = Playing::new(ground.alloc, file, program)?;
+    let mut numbered = number(ground.alloc, &playing)?;
+    for level in 0..count {
+        ground.most = level;
         match within(&ground, file, program, &mut numbered)? {
             Level::Nothing => {}
-            Level::Cut => return Ok(None),
-            Level::Steps(steps) => return Ok(Some(Schedule::of(steps))),
+            Level::Cut => return Ok(Level::Cut),
+            Level::Steps(steps) => return Ok(Level::Steps(steps)),
         }
     }
-    Ok(None)
+    Ok(Level::Nothing)
+}
+
+/// The schedule itself.
+fn unchanged(alloc: Global, found: &Schedule, fewest: bool) -> Result<SimpleRun, AllocError>
+    ensures schedule { IfOk result (λ r. r.schedule ≡ found.now) }
+    ensures fewest { IfOk result (λ r. r.fewest ≡ fewest) }
+{
+    let schedule = found.copied(alloc)?;
+    Ok(SimpleRun { schedule, fewest })
 }
 
 /// A schedule with the history of this one and the fewest context switches; of these the shortest, and of these the
-/// least by its threads' numbers. With `stuck` no thread acts after it and one waits, where that is so after this one.
-/// For each number of changes at most so many states are kept. If more would be needed, it is this schedule. A refusal is
-/// that memory ran out, or that a store or a work has no number left.
+/// least by its threads' numbers. If the target is stuck, no thread acts after it and one waits, where that is so after
+/// this one. For each number of changes at most so many states are kept as the target says. If more would be needed, it is
+/// this schedule. A refusal is that memory ran out, or that a store or a work has no number left.
 pub fn simplest(
     alloc: Global,
     file: &File,
     program: &Program,
-    stuck: bool,
+    target: Target,
     found: &Schedule,
-    limit: usize,
 ) -> Result<SimpleRun, AllocError>
     ensures history { IfOk result (λ r.
         source_history (plain_file file.now) (plain_program program.now) r.schedule ≡
         source_history (plain_file file.now) (plain_program program.now) found.now) }
-    ensures ends { IfOk result (λ r. EndsSo stuck (plain_file file.now) (plain_program program.now) found.now →
-        EndsSo stuck (plain_file file.now) (plain_program program.now) r.schedule) }
+    ensures ends { IfOk result (λ r. EndsSo target.stuck (plain_file file.now) (plain_program program.now) found.now →
+        EndsSo target.stuck (plain_file file.now) (plain_program program.now) r.schedule) }
     ensures few { IfOk result (λ r. switches r.schedule ≤ switches found.now) }
     ensures fewest { IfOk result (λ r. IsTrue r.fewest →
-        HasFewest stuck (plain_file file.now) (plain_program program.now) r.schedule) }
+        HasFewest target.stuck (plain_file file.now) (plain_program program.now) r.schedule) }
 {
     found.fits();
     let steps = found.steps();
     let history = play(alloc, file, program, steps)?;
-    let wanted = Wanted {
+    let along = Along {
         history: history.as_slice(),
-        stuck,
-        limit,
     };
     let most = changes(steps);
-    match first_within(alloc, file, program, &wanted, most)? {
-        Some(schedule) => Ok(SimpleRun {
-            schedule,
+    let ground = Ground {
+        alloc,
+        observer: &along,
+        lost: Some(None),
+        threads: program.threads.len() as u8,
+        limit: target.limit,
+        most,
+        stuck: target.stuck,
+    };
+    match least_below(ground, file, program, most + 1)? {
+        Level::Steps(least) => Ok(SimpleRun {
+            schedule: Schedule::of(least),
             fewest: true,
         }),
-        None => {
-            let schedule = found.copied(alloc)?;
-            Ok(SimpleRun {
-                schedule,
-                fewest: false,
-            })
-        }
+        Level::Nothing | Level::Cut => unchanged(alloc, found, false),
+    }
+}
+
+/// A schedule whose history an observer calls bad, if it does so of this one's, with no more context switches; if
+/// possible with the fewest of all such schedules, whatever their histories. If the target is stuck, schedules are meant
+/// after which no thread acts and one waits. For each number of changes below that of this schedule at most so many states
+/// are kept as the target says. If more would be needed, or none has fewer changes, it is this schedule. A refusal is that
+/// memory ran out, or that a store or a work has no number left.
+pub fn simplest_bad<O: Observer>(
+    alloc: Global,
+    observer: &O,
+    file: &File,
+    program: &Program,
+    target: Target,
+    found: &Schedule,
+) -> Result<SimpleRun, AllocError>
+    ensures sought { IfOk result (λ r.
+        IsSought (O.first observer.now) (O.next observer.now) (O.bad observer.now)
+        (source_history (plain_file file.now) (plain_program program.now) found.now) →
+        IsSought (O.first observer.now) (O.next observer.now) (O.bad observer.now)
+        (source_history (plain_file file.now) (plain_program program.now) r.schedule)) }
+    ensures ends { IfOk result (λ r. EndsSo target.stuck (plain_file file.now) (plain_program program.now) found.now →
+        EndsSo target.stuck (plain_file file.now) (plain_program program.now) r.schedule) }
+    ensures few { IfOk result (λ r. switches r.schedule ≤ switches found.now) }
+    ensures fewest { IfOk result (λ r. IsTrue r.fewest →
+        HasFewestOf (IsSought (O.first observer.now) (O.next observer.now) (O.bad observer.now)) target.stuck
+        (plain_file file.now) (plain_program program.now) r.schedule) }
+{
+    found.fits();
+    let most = changes(found.steps());
+    let ground = Ground {
+        alloc,
+        observer,
+        lost: None,
+        threads: program.threads.len() as u8,
+        limit: target.limit,
+        most,
+        stuck: target.stuck,
+    };
+    match least_below(ground, file, program, most)? {
+        Level::Steps(least) => Ok(SimpleRun {
+            schedule: Schedule::of(least),
+            fewest: true,
+        }),
+        Level::Nothing => unchanged(alloc, found, true),
+        Level::Cut => unchanged(alloc, found, false),
     }
 }

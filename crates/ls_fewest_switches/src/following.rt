@@ -1,27 +1,21 @@
-// Steps along a history.
+// Steps of threads that change so seldom.
 
-ghost use Rattle.std.specs.Prelude.{◌≡◌, ◌<◌, ◌≤◌, ◌+◌, ◌++◌, ◌∷◌, IfNone, IfOk, IfSome, IsTrue, List, OnOk, Some};
-ghost use Rattle.std.specs.Prelude.{[], drop, false, length, slice_get, slice_set};
-ghost use Rattle.ls_events.specs.declared.event.Event.{Event as EventValue};
-ghost use Rattle.ls_meaning.specs.Runs.{event_of, has_ended};
-ghost use Rattle.ls_search_laws.specs.Stepping.{events_in};
+ghost use Rattle.std.specs.Prelude.{◌≡◌, ◌<◌, [], IfNone, IfOk, IfSome, IsTrue, OnOk, Some, length, map};
+ghost use Rattle.std.specs.Prelude.{slice_get, slice_set};
+ghost use Rattle.ls_meaning.specs.Runs.{has_ended};
 ghost use Rattle.ls_transitions.specs.declared.moves.Move.TheVariants.{Acts};
 ghost use Rattle.ls_transitions.specs.Seen.{table_of};
 ghost use Rattle.ls_transitions.specs.Tables.{Grows, Keeps};
-ghost use Rattle.ls_fewest_switches.specs.Switches.{change};
-ghost use Rattle.ls_fewest_switches.specs.Reached.{IsLooked, Reached};
-ghost use Rattle.ls_fewest_switches.specs.Spots.{AreSpots, GrowBy, IsSpotAfter, IsStillMove, LeadsOn, looked_of};
-ghost use Rattle.ls_fewest_switches.specs.Spots.{reached_of};
+ghost use Rattle.ls_fewest_switches.specs.Reached.{IsLooked, NeverBad, Reached};
+ghost use Rattle.ls_fewest_switches.specs.Spots.{AreFound, GrowBy, IsStillMove, LeadsOn, looked_of};
+ghost use Rattle.ls_fewest_switches.specs.Spots.{noted_at, reached_in, states_in};
 ghost use Rattle.ls_fewest_switches.specs.declared.spots.Spot.{Spot as SpotValue};
 
 use crate::changing::changes_after;
-use crate::spots::{Spot, Spots};
-use ls_events::action::Action;
-use ls_events::event::Event;
-use ls_events::same::is_event;
-use ls_events::value::Value;
+use crate::spots::{Found, Spot};
+use ls_observers::observer::Observer;
 use ls_search::advancing::take;
-use ls_search::noting::event_of;
+use ls_search::noting::{Pool, note};
 use ls_search::places::{Looked, Place};
 use ls_search::searching::{copy_place, step_from};
 use ls_transitions::moves::{Move, Step};
@@ -30,10 +24,12 @@ use std::alloc::{AllocError, Global};
 
 /// What a search goes by.
 #[derive(Drop)]
-pub struct Ground<'a> {
+pub struct Ground<'a, O, N> {
     pub alloc: Global,
-    /// The history that the steps follow.
-    pub history: &'a [Event],
+    /// Whose bad histories are looked for.
+    pub observer: &'a O,
+    /// What is noted of histories that go on to no bad one, if there is such a value. They are left out.
+    pub lost: Option<N>,
     /// How many threads there are, the setup with them.
     pub threads: u8,
     /// The most states.
@@ -44,38 +40,28 @@ pub struct Ground<'a> {
     pub stuck: bool,
 }
 
-/// Whether an event is the history's next, where so many have come.
-fn is_next(history: &[Event], done: usize, event: &Event) -> bool
-    ensures within { IsTrue result → done < length history.now }
-    ensures not { result ≡ false → (rest : List EventValue) → drop done history.now ≡ event.now ∷ rest → ⊥ }
+/// Whether what has this number is noted of histories that go on to no bad one. True only where it is.
+fn is_lost<O: Observer>(
+    ground: &Ground<'_, O, O::Noted>,
+    pool: &Pool<O::Noted>,
+    noted: usize,
+) -> bool
+    requires lost { IfSome ground.now.lost (λ n. NeverBad (O.next ground.now.observer.now)
+        (O.bad ground.now.observer.now) (O.stands ground.now.observer.now n)) }
+    ensures { IsTrue result → (m : O.State) →
+        slice_get (map (O.stands ground.now.observer.now) pool.now.values.items) noted ≡ Some m →
+        NeverBad (O.next ground.now.observer.now) (O.bad ground.now.observer.now) m }
 {
-    match history.get(done) {
-        None => false,
-        Some(next) => is_event(next, event),
-    }
-}
-
-/// How many events have come after an action of a thread, if the history goes on with what the action is of events.
-fn done_after(
-    history: &[Event],
-    done: usize,
-    thread: usize,
-    action: &Action<Value>,
-) -> Option<usize>
-    ensures some { IfSome result (λ d. d ≡ done + length (events_in (event_of thread action.now))) }
-    ensures none { IfNone result ((rest : List EventValue) →
-        drop done history.now ≡ events_in (event_of thread action.now) ++ rest → ⊥) }
-{
-    let Some(event) = event_of(thread, action) else {
-        return Some(done);
+    let Some(lost) = &ground.lost else {
+        return false;
     };
-    if !is_next(history, done, &event) {
-        return None;
+    match pool.values.get(noted) {
+        None => false,
+        Some(value) => ground.observer.is_same(value, lost),
     }
-    Some(done + 1)
 }
 
-/// The numbers of the state after a step of a thread, where so many events have come then.
+/// The numbers of the state after a step of a thread, where this is noted then.
 fn place_after(
     alloc: Global,
     place: &Place,
@@ -94,40 +80,6 @@ fn place_after(
     Ok(after)
 }
 
-/// The state after a step of a thread, if the history goes on so and the thread hasn't changed too often.
-fn spot_after(
-    ground: &Ground<'_>,
-    spot: &Spot,
-    at: usize,
-    thread: u8,
-    step: &Step,
-) -> Result<Option<Spot>, AllocError>
-    requires within { thread < length spot.now.place.works.items }
-    ensures some { IfOk result (λ next. IfSome next (λ s. IsSpotAfter spot.now thread step.now s)) }
-    ensures none { IfOk result (λ next. IfNone next ((rest : List EventValue) →
-        drop spot.now.place.noted ground.now.history.now ≡ events_in (event_of thread step.now.action) ++ rest →
-        spot.now.changes + change spot.now.last thread ≤ ground.now.most → ⊥)) }
-{
-    match changes_after(spot.changes, spot.last, thread, ground.most) {
-        None => Ok(None),
-        Some(changes) => {
-            let done = spot.place.noted;
-            match done_after(ground.history, done, thread as usize, &step.action) {
-                None => Ok(None),
-                Some(noted) => {
-                    let place = place_after(ground.alloc, &spot.place, thread, step, noted)?;
-                    Ok(Some(Spot {
-                        place,
-                        last: thread,
-                        changes,
-                        before: at,
-                    }))
-                }
-            }
-        }
-    }
-}
-
 /// The state at a place.
 pub(crate) fn spot_at(spots: &[Spot], at: usize) -> &Spot
     requires { at < length spots.now }
@@ -136,31 +88,56 @@ pub(crate) fn spot_at(spots: &[Spot], at: usize) -> &Spot
     &spots[at]
 }
 
-/// Keeps the state after a step of a thread at the state at a place. Answers false where there are as many as there may
-/// be.
-fn reach(
-    ground: &Ground<'_>,
-    spots: &mut Spots,
+/// Keeps the state after a step of a thread at the state at a place, if the thread hasn't changed too often then, and it
+/// may lead to what is looked for. Answers false where there are as many as there may be.
+fn reach<O: Observer>(
+    ground: &Ground<'_, O, O::Noted>,
+    found: &mut Found<O::Noted>,
     at: usize,
     thread: u8,
     step: &Step,
 ) -> Result<bool, AllocError>
-    requires at { at < length spots.old.spots.items }
-    requires within { (s : SpotValue) → slice_get spots.old.spots.items at ≡ Some s →
+    requires at { at < length found.old.spots.spots.items }
+    requires noted { (s : SpotValue) → slice_get found.old.spots.spots.items at ≡ Some s →
+        s.place.noted < length found.old.pool.values.items }
+    requires within { (s : SpotValue) → slice_get found.old.spots.spots.items at ≡ Some s →
         thread < length s.place.works.items }
-    ensures grow { OnOk result (GrowBy spots.old.spots.items spots.new.spots.items at thread step.now) }
+    requires lost { IfSome ground.now.lost (λ n. NeverBad (O.next ground.now.observer.now)
+        (O.bad ground.now.observer.now) (O.stands ground.now.observer.now n)) }
+    ensures keeps { Keeps (states_in (O.stands ground.now.observer.now) found.old)
+        (states_in (O.stands ground.now.observer.now) found.new) }
+    ensures grow { OnOk result (GrowBy (states_in (O.stands ground.now.observer.now) found.new)
+        found.old.spots.spots.items found.new.spots.spots.items at thread step.now) }
     ensures leads { IfOk result (λ kept. IsTrue kept → (s : SpotValue) →
-        slice_get spots.old.spots.items at ≡ Some s →
-        LeadsOn ground.now.history.now ground.now.most spots.new.spots.items s thread step.now) }
+        slice_get found.old.spots.spots.items at ≡ Some s →
+        LeadsOn (O.next ground.now.observer.now) (O.bad ground.now.observer.now) ground.now.most
+        (noted_at (O.first ground.now.observer.now) (states_in (O.stands ground.now.observer.now) found.old) s)
+        (states_in (O.stands ground.now.observer.now) found.new) found.new.spots.spots.items s thread step.now) }
 {
-    let spot = spot_at(&spots.spots, at);
-    match spot_after(ground, spot, at, thread, step)? {
-        None => Ok(true),
-        Some(next) => {
-            let kept = spots.keep(ground.alloc, ground.limit, next)?;
-            Ok(kept)
-        }
+    let spot = spot_at(&found.spots.spots, at);
+    let Some(changes) = changes_after(spot.changes, spot.last, thread, ground.most) else {
+        return Ok(true);
+    };
+    let noted = note(
+        ground.alloc,
+        ground.observer,
+        &mut found.pool,
+        spot.place.noted,
+        thread as usize,
+        &step.action,
+    )?;
+    if is_lost(ground, &found.pool, noted) {
+        return Ok(true);
     }
+    let place = place_after(ground.alloc, &spot.place, thread, step, noted)?;
+    let next = Spot {
+        place,
+        last: thread,
+        changes,
+        before: at,
+    };
+    let kept = found.spots.keep(ground.alloc, ground.limit, next)?;
+    Ok(kept)
 }
 
 /// The step of a move that acts.
@@ -185,32 +162,43 @@ fn looked_of(made: Move) -> Looked
     }
 }
 
-/// Looks at what a thread does at the state at a place, where it is known whether the setup has ended there. If it acts
-/// along the history, the state after that is kept. Answers nothing where there are as many states as there may be.
-pub(crate) fn look<'a>(
-    ground: &Ground<'_>,
+/// Looks at what a thread does at the state at a place, where it is known whether the setup has ended there. If it acts,
+/// the state after that is kept. Answers nothing where there are as many states as there may be.
+pub(crate) fn look<'a, O: Observer>(
+    ground: &Ground<'_, O, O::Noted>,
     transitions: &mut Transitions<'a>,
-    spots: &mut Spots,
+    found: &mut Found<O::Noted>,
     at: usize,
     thread: u8,
     ended: bool,
 ) -> Result<Option<Looked>, AllocError>
-    requires at { at < length spots.old.spots.items }
+    requires at { at < length found.old.spots.spots.items }
     requires within { thread < ground.now.threads }
-    requires spots { AreSpots ground.now.threads (table_of transitions.old) spots.old.spots.items }
-    requires ended { (p : Reached) →
-        slice_get (reached_of (table_of transitions.old) spots.old.spots.items) at ≡ Some p →
+    requires spots { AreFound (O.stands ground.now.observer.now) ground.now.threads (table_of transitions.old)
+        found.old }
+    requires lost { IfSome ground.now.lost (λ n. NeverBad (O.next ground.now.observer.now)
+        (O.bad ground.now.observer.now) (O.stands ground.now.observer.now n)) }
+    requires ended { (p : Reached O.State) →
+        slice_get (reached_in (O.first ground.now.observer.now) (O.stands ground.now.observer.now)
+        (table_of transitions.old) found.old) at ≡ Some p →
         ended ≡ has_ended (p.configuration.continues 0 []) }
     ensures grows { Grows (table_of transitions.old) (table_of transitions.new) }
-    ensures spots { OnOk result (AreSpots ground.now.threads (table_of transitions.new) spots.new.spots.items) }
-    ensures keeps { OnOk result (Keeps (reached_of (table_of transitions.old) spots.old.spots.items)
-        (reached_of (table_of transitions.new) spots.new.spots.items)) }
-    ensures looked { IfOk result (λ found. IfSome found (λ l. (p : Reached) →
-        slice_get (reached_of (table_of transitions.old) spots.old.spots.items) at ≡ Some p →
-        IsLooked (table_of transitions.old).file ground.now.history.now ground.now.most
-        (reached_of (table_of transitions.new) spots.new.spots.items) p thread l)) }
+    ensures spots { OnOk result (AreFound (O.stands ground.now.observer.now) ground.now.threads
+        (table_of transitions.new) found.new) }
+    ensures keeps { OnOk result (Keeps
+        (reached_in (O.first ground.now.observer.now) (O.stands ground.now.observer.now) (table_of transitions.old)
+        found.old)
+        (reached_in (O.first ground.now.observer.now) (O.stands ground.now.observer.now) (table_of transitions.new)
+        found.new)) }
+    ensures looked { IfOk result (λ some. IfSome some (λ l. (p : Reached O.State) →
+        slice_get (reached_in (O.first ground.now.observer.now) (O.stands ground.now.observer.now)
+        (table_of transitions.old) found.old) at ≡ Some p →
+        IsLooked (O.next ground.now.observer.now) (O.bad ground.now.observer.now) (table_of transitions.old).file
+        ground.now.most
+        (reached_in (O.first ground.now.observer.now) (O.stands ground.now.observer.now) (table_of transitions.new)
+        found.new) p thread l)) }
 {
-    let spot = spot_at(&spots.spots, at);
+    let spot = spot_at(&found.spots.spots, at);
     let made = step_from(
         ground.alloc,
         transitions,
@@ -221,7 +209,7 @@ pub(crate) fn look<'a>(
     let Some(step) = step_of(made) else {
         return Ok(Some(looked_of(made)));
     };
-    let kept = reach(ground, spots, at, thread, &step)?;
+    let kept = reach(ground, found, at, thread, &step)?;
     if !kept {
         return Ok(None);
     }

@@ -1,6 +1,6 @@
 // The search for a schedule with so many changes of thread.
 
-ghost use Rattle.std.specs.Prelude.{◌≡◌, IfOk, length};
+ghost use Rattle.std.specs.Prelude.{◌≡◌, IfOk, IfSome, length};
 ghost use Rattle.ls_checked.specs.CheckedProgram.{Program as ProgramValue};
 ghost use Rattle.ls_checked.specs.Plain.{plain_file};
 ghost use Rattle.ls_checked.specs.PlainProgram.{plain_program};
@@ -11,17 +11,20 @@ ghost use Rattle.ls_transitions.specs.Seen.{table_of};
 ghost use Rattle.ls_transitions.specs.Tables.{Grows};
 ghost use Rattle.ls_fewest_switches.specs.Switches.{NoneWithin};
 ghost use Rattle.ls_fewest_switches.specs.Levels.{IsLevel};
+ghost use Rattle.ls_fewest_switches.specs.Reached.{NeverBad};
 ghost use Rattle.ls_fewest_switches.specs.declared.levels.Level.TheVariants.{Nothing};
 
 use crate::changing::changes;
-use crate::checking::is_alike;
+use crate::checking::is_such;
 use crate::closing::{Closing, close};
 use crate::following::Ground;
-use crate::spots::{Spot, Spots};
+use crate::spots::{Found, Spot, Spots};
 use ls_checked::program::Program;
 use ls_checked::tree::File;
 use ls_events::schedule::MOST_STEPS;
+use ls_observers::observer::Observer;
 use ls_run_search::numbering::Numbered;
+use ls_search::noting::{Pool, keep_noted};
 use ls_search::places::Place;
 use std::alloc::{AllocError, Global};
 
@@ -66,22 +69,30 @@ pub enum Level {
 }
 
 /// How the search for a schedule with at most so many changes of thread ends, and the steps to the end that it reaches.
-fn reached_by<'a>(ground: &Ground<'_>, numbered: &mut Numbered<'a>) -> Result<Level, AllocError>
+fn reached_by<'a, O: Observer>(
+    ground: &Ground<'_, O, O::Noted>,
+    numbered: &mut Numbered<'a>,
+) -> Result<Level, AllocError>
     requires there { AreThere (table_of numbered.old.transitions) numbered.old.store numbered.old.works.items }
     requires width { length numbered.old.works.items ≡ ground.now.threads }
+    requires lost { IfSome ground.now.lost (λ n. NeverBad (O.next ground.now.observer.now)
+        (O.bad ground.now.observer.now) (O.stands ground.now.observer.now n)) }
     ensures grows { Grows (table_of numbered.old.transitions) (table_of numbered.new.transitions) }
     ensures store { numbered.new.store ≡ numbered.old.store }
     ensures works { numbered.new.works.items ≡ numbered.old.works.items }
     ensures none { IfOk result (λ l. l ≡ Nothing → (program : ProgramValue) →
         configuration_at (table_of numbered.old.transitions) numbered.old.store numbered.old.works.items ≡
         configuration_of (table_of numbered.old.transitions).file program (start program) →
-        NoneWithin ground.now.stuck (table_of numbered.old.transitions).file program ground.now.history.now
-        ground.now.most) }
+        NoneWithin (O.first ground.now.observer.now) (O.next ground.now.observer.now) (O.bad ground.now.observer.now)
+        ground.now.stuck (table_of numbered.old.transitions).file program ground.now.most) }
 {
+    let mut pool = Pool::new(ground.alloc);
+    let noted = ground.observer.start(ground.alloc)?;
+    let noted = keep_noted(ground.alloc, ground.observer, &mut pool, noted)?;
     let place = Place {
         store: numbered.store,
         works: copy_works(ground.alloc, &numbered.works)?,
-        noted: 0,
+        noted,
     };
     let root = Spot {
         place,
@@ -89,20 +100,21 @@ fn reached_by<'a>(ground: &Ground<'_>, numbered: &mut Numbered<'a>) -> Result<Le
         changes: 0,
         before: 0,
     };
-    let mut spots = Spots::first(ground.alloc, root)?;
-    match close(ground, &mut numbered.transitions, &mut spots)? {
+    let spots = Spots::first(ground.alloc, root)?;
+    let mut found = Found { spots, pool };
+    match close(ground, &mut numbered.transitions, &mut found)? {
         Closing::Closed => Ok(Level::Nothing),
         Closing::Full => Ok(Level::Cut),
         Closing::Ends(at) => {
-            let steps = path_to(ground.alloc, &spots.spots, at)?;
+            let steps = path_to(ground.alloc, &found.spots.spots, at)?;
             Ok(Level::Steps(steps))
         }
     }
 }
 
 /// Looks for a schedule with at most so many changes of thread.
-pub(crate) fn within<'a>(
-    ground: &Ground<'_>,
+pub(crate) fn within<'a, O: Observer>(
+    ground: &Ground<'_, O, O::Noted>,
     file: &File,
     program: &Program,
     numbered: &mut Numbered<'a>,
@@ -113,11 +125,14 @@ pub(crate) fn within<'a>(
     requires start { configuration_at (table_of numbered.old.transitions) numbered.old.store
         numbered.old.works.items ≡
         configuration_of (plain_file file.now) (plain_program program.now) (start (plain_program program.now)) }
+    requires lost { IfSome ground.now.lost (λ n. NeverBad (O.next ground.now.observer.now)
+        (O.bad ground.now.observer.now) (O.stands ground.now.observer.now n)) }
     ensures grows { Grows (table_of numbered.old.transitions) (table_of numbered.new.transitions) }
     ensures store { numbered.new.store ≡ numbered.old.store }
     ensures works { numbered.new.works.items ≡ numbered.old.works.items }
-    ensures level { IfOk result (IsLevel ground.now.stuck (plain_file file.now) (plain_program program.now)
-        ground.now.history.now ground.now.most) }
+    ensures level { IfOk result (IsLevel (O.first ground.now.observer.now) (O.next ground.now.observer.now)
+        (O.bad ground.now.observer.now) ground.now.stuck (plain_file file.now) (plain_program program.now)
+        ground.now.most) }
 {
     match reached_by(ground, numbered)? {
         Level::Nothing => Ok(Level::Nothing),
@@ -126,14 +141,8 @@ pub(crate) fn within<'a>(
             if steps.len() > MOST_STEPS || changes(&steps) > ground.most {
                 return Ok(Level::Cut);
             }
-            if !is_alike(
-                ground.alloc,
-                file,
-                program,
-                &steps,
-                ground.history,
-                ground.stuck,
-            )? {
+            let observer = ground.observer;
+            if !is_such(ground.alloc, observer, file, program, &steps, ground.stuck)? {
                 return Ok(Level::Cut);
             }
             Ok(Level::Steps(steps))

@@ -1,6 +1,8 @@
-//! A schedule with the fewest context switches of all that have the same history.
+//! Schedules with the fewest context switches: of those that have the same history, and of those whose histories are bad.
 #![tactic(auto)]
 
+mod along;
+mod anything;
 mod changing;
 mod checking;
 mod closing;
@@ -8,7 +10,9 @@ mod fewest;
 mod following;
 mod levels;
 mod spots;
+mod stuck;
 mod wording;
 
-pub use fewest::{SimpleRun, simplest, switches};
+pub use fewest::{SimpleRun, Target, simplest, simplest_bad, switches};
+pub use stuck::simplest_stuck;
 pub use wording::push_switches;

@@ -1,15 +1,16 @@
-// States that were reached along a history.
+// States that were reached.
 
 ghost use Rattle.std.specs.Prelude.{◌≡◌, ◌≤◌, ◌∷◌, [], IfOk, IsTrue, OnOk, false, length};
 ghost use Rattle.ls_fewest_switches.specs.Spots.{HasSpot, Pushed};
 
 use ls_observers::hashing::mixed;
+use ls_search::noting::Pool;
 use ls_search::places::Place;
 use ls_transitions::hints::Hints;
 use std::alloc::{AllocError, Global};
 
-/// A state that was reached along a history, where so many events of it have come as the place notes. It comes after
-/// the one at an earlier place, by a step of the last thread. The first state comes after none.
+/// A state that was reached, with the number of what is noted of its history. It comes after the one at an earlier place,
+/// by a step of the last thread. The first state comes after none.
 #[derive(Drop)]
 pub struct Spot {
     pub place: Place,
@@ -25,6 +26,13 @@ pub struct Spot {
 pub struct Spots {
     pub spots: Vec<Spot>,
     hints: Hints,
+}
+
+/// The states that were reached, and what is noted of their histories.
+#[derive(Drop)]
+pub struct Found<N> {
+    pub spots: Spots,
+    pub pool: Pool<N>,
 }
 
 const START: u64 = 0xcbf2_9ce4_8422_2325;

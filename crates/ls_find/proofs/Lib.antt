@@ -5,3 +5,4 @@ pub mod Wholes
 pub mod Goodness
 pub mod Legalities
 pub mod Simpler
+pub mod Followed

@@ -1,7 +1,6 @@
 -- What a search says of a whole family.
-use Rattle.std.specs.Prelude.{◌≡◌, ◌<◌, ◌⊎◌, ℕ, None, Some, length, slice_get, true}
+use Rattle.std.specs.Prelude.{◌≡◌, ◌<◌, ◌≤◌, ℕ, None, Some, length, slice_get}
 use Rattle.ls_families.specs.Belonging.{IsPlanOf}
-use Rattle.ls_families.specs.Doubles.{is_double}
 use Rattle.ls_families.specs.Families.{Plan, family_of, plans}
 use Rattle.ls_families.specs.declared.shapes.Bounds.{Bounds}
 use Rattle.ls_family_search.specs.Judged.{Programs, text_of}
@@ -22,10 +21,18 @@ pub record IsWhole (sought : Sought) (classes : Text) (p : Programs) (f : Findin
   pub none : f.halted ≡ None
   pub uncut : (k : ℕ) → slice_get f.passed.items k ≡ Some Cut → ⊥
 
--- Then each program within the bounds is a double, or good for what is looked for: the history of each of its schedules is
+-- Then each program within the bounds is good for what is looked for, doubles too: the history of each of its schedules is
 -- linearizable, no thread waits or turns for ever, and each history is legal as one of a set.
 abbrev pub EachIsSound : Type 0
 EachIsSound =
     (menu : ℕ) (b : Bounds) (sought : Sought) (classes : Text) (p : Programs) (f : Finding Why) → 0 < menu → 0 < b.calls →
     p.family ≡ family_of menu b → IsWhole sought classes p f → (plan : Plan) → IsPlanOf menu b plan →
-    (is_double p.calls plan ≡ true) ⊎ IsSound sought classes (text_of p plan)
+    IsSound sought classes (text_of p plan)
+
+-- So is each that a search from the first number on has passed, if none up to that one is cut.
+abbrev pub EachPassedIsSound : Type 0
+EachPassedIsSound =
+    (menu : ℕ) (b : Bounds) (sought : Sought) (classes : Text) (p : Programs) (to : ℕ) (f : Finding Why) → 0 < menu →
+    0 < b.calls → p.family ≡ family_of menu b → IsFound sought classes p 0 to f → (n : ℕ) (plan : Plan) →
+    n < length f.passed.items → slice_get (plans p.family) n ≡ Some plan →
+    ((k : ℕ) → k ≤ n → slice_get f.passed.items k ≡ Some Cut → ⊥) → IsSound sought classes (text_of p plan)

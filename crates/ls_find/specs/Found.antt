@@ -9,7 +9,7 @@ use Rattle.ls_state.specs.Scene.{scene_of}
 use Rattle.ls_translation.specs.Texts.{file_of, program_of}
 use Rattle.ls_types.specs.CheckedFile.{outcome_of}
 use Rattle.ls_fewest_switches.specs.Wording.{switches_text}
-use Rattle.ls_find.specs.Fewest.{IsFewest, compared}
+use Rattle.ls_find.specs.Fewest.{IsFewest}
 use Rattle.ls_find.specs.Sought.{IsGoodFor}
 use Rattle.ls_find.specs.Verdicts.{IsBad}
 use Rattle.ls_find.specs.declared.sought.Sought.{Sought}
@@ -49,14 +49,13 @@ reason_text reasons.Waits names threads schedule =
 reason_text reasons.Illegal names threads schedule = codes "no order of the set calls is legal"
 reason_text reasons.Turns names threads schedule = codes "threads turn for ever"
 
--- the same, and then how many context switches the schedule has, if none with its history has fewer
+-- the same, and then how many context switches the schedule has, if none with which it is compared has fewer
 abbrev pub why_text : Reason → Bool → Names → List Text → List ℕ → Text
 why_text reason fewest names threads schedule =
     reason_text reason names threads schedule ++ switches_text fewest schedule
 
 -- With this program it compiles, and a schedule is bad for a reason; these are the texts of the reason and of the
--- schedule. If its context switches are told, no schedule with its history has fewer; and of schedules after which
--- threads wait, none with its history after which no thread acts and one waits.
+-- schedule. If its context switches are told, no schedule with which it is compared has fewer.
 pub record IsBadProgram (classes program because text : Text) : Type 0 where
   pub image : Image
   pub compiles : Compiles classes program image
@@ -64,7 +63,7 @@ pub record IsBadProgram (classes program because text : Text) : Type 0 where
   pub schedule : List ℕ
   pub bad : IsBad reason (file_of image) (program_of image) schedule
   pub is_fewest : Bool
-  pub fewest : is_fewest ≡ true → IsFewest (compared reason) (file_of image) (program_of image) schedule
+  pub fewest : is_fewest ≡ true → IsFewest reason (file_of image) (program_of image) schedule
   pub why : because ≡ why_text reason is_fewest (names_in image) (thread_names (program_of_image image)) schedule
   pub said : text ≡ schedule_text (thread_names (program_of_image image)) schedule
 

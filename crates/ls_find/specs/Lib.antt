@@ -3,3 +3,4 @@ pub mod Found
 pub mod Family
 pub mod Sought
 pub mod Fewest
+pub mod Doubles

@@ -7,6 +7,7 @@ ghost use Rattle.ls_find.specs.Sought.{AllNamed};
 ghost use Rattle.ls_image.specs.Images.{Compiles};
 ghost use Rattle.ls_translation.specs.Texts.{file_of, program_of};
 
+use crate::laws::sound_follows;
 use crate::reasons::{names_in, why_text};
 use crate::simplifying::simplified;
 use crate::sought::{Sought, sought_verdict};
@@ -15,6 +16,7 @@ use ls_compiler::compile::compile;
 use ls_compiler::fault::CompileFault;
 use ls_family_search::{Judge, Judgement};
 use ls_image::image::Image;
+use ls_program_doubles::are_doubles;
 use ls_schedule::print_schedule;
 use ls_text_laws::source_is_readable;
 use std::alloc::{AllocError, Global};
@@ -78,5 +80,16 @@ impl<'a> Judge for Explorer<'a> {
             Ok(image) => judged(alloc, &image, self.states, self.sought),
             Err(fault) => Ok(Judgement::Halt(Why::NotCompiled(fault))),
         }
+    }
+
+    fn follows(&self, alloc: Global, program: &str, other: &str) -> Result<bool, AllocError> {
+        sound_follows();
+        let Ok(image) = compile(alloc, self.classes, program) else {
+            return Ok(false);
+        };
+        let Ok(before) = compile(alloc, self.classes, other) else {
+            return Ok(false);
+        };
+        Ok(are_doubles(before.program(), image.program()))
     }
 }

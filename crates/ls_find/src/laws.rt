@@ -1,14 +1,43 @@
 // What a search says of a whole family, as the contract of a function that computes nothing.
 
-ghost use Rattle.ls_find.specs.Family.{EachIsSound};
+ghost use Rattle.ls_find.specs.Doubles.{SoundFollows};
+ghost use Rattle.ls_find.specs.Family.{EachIsSound, EachPassedIsSound};
 
-use ls_families::laws::each_belongs;
+use ls_exchanged::laws::{
+    exchanged_is_legal, exchanged_is_linearizable, exchanged_never_turns, exchanged_never_waits,
+};
+use ls_families::laws::{each_belongs, other_stands_before};
+use ls_program_doubles::laws::{doubles_are_exchanged, doubles_have_names};
+use ls_types_places::one_answer;
+use ls_types_programs::reads_what_is_spelled;
 
-/// If a search goes through a whole family, ends with no program, and cuts none, then each program within the bounds
-/// is a double, or the history of each of its schedules is linearizable, and no thread waits for ever if that is looked
-/// for.
+/// If a program is another with two threads exchanged, it is sound if that one is.
+pub fn sound_follows()
+    ensures { SoundFollows }
+{
+    one_answer();
+    reads_what_is_spelled();
+    doubles_are_exchanged();
+    doubles_have_names();
+    exchanged_is_linearizable();
+    exchanged_is_legal();
+    exchanged_never_waits();
+    exchanged_never_turns();
+}
+
+/// If a search begins with the first program, and cuts none up to one that it passes, then the history of each schedule
+/// of that one is linearizable, and no thread waits for ever if that is looked for.
+pub fn each_passed_is_sound()
+    ensures { EachPassedIsSound }
+{
+    other_stands_before();
+}
+
+/// If a search goes through a whole family, ends with no program, and cuts none, then that is so of each program within
+/// the bounds.
 pub fn each_is_sound()
     ensures { EachIsSound }
 {
     each_belongs();
+    each_passed_is_sound();
 }

@@ -3,6 +3,6 @@
 
 pub mod listing;
 pub mod numbering;
-mod observing;
+pub mod observing;
 pub mod running;
 mod setting_up;

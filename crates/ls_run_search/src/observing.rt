@@ -8,7 +8,7 @@ use ls_observers::observer::Observer;
 use std::alloc::{AllocError, Global};
 
 /// What is noted of a history. The only refusal is that memory ran out.
-pub(crate) fn noted_of<O: Observer>(
+pub fn noted_of<O: Observer>(
     alloc: Global,
     observer: &O,
     events: &[Event],

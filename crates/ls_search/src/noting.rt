@@ -24,7 +24,7 @@ impl<N: Drop> Pool<N> {
     ghost use Rattle.std.specs.Prelude.{◌≡◌, []};
 
     /// None.
-    pub(crate) fn new(alloc: Global) -> Pool<N>
+    pub fn new(alloc: Global) -> Pool<N>
         ensures { result.values.items ≡ [] }
     {
         Pool {
@@ -74,7 +74,7 @@ fn find_noted<O: Observer>(
 }
 
 /// The number of a noted value, which is kept if it is new.
-pub(crate) fn keep_noted<O: Observer>(
+pub fn keep_noted<O: Observer>(
     alloc: Global,
     observer: &O,
     pool: &mut Pool<O::Noted>,
@@ -97,7 +97,7 @@ pub(crate) fn keep_noted<O: Observer>(
 }
 
 /// The number of what is noted after an action of a thread, from what was noted before it.
-pub(crate) fn note<O: Observer>(
+pub fn note<O: Observer>(
     alloc: Global,
     observer: &O,
     pool: &mut Pool<O::Noted>,

@@ -4,6 +4,7 @@ ghost use Rattle.std.specs.Prelude.{◌≡◌, ◌≤◌, ◌++◌, IfNone, IfOk
 ghost use Rattle.ls_serial_search.specs.Told.{IsDoubt, usual};
 ghost use Rattle.ls_checked.specs.Plain.{plain_file};
 ghost use Rattle.ls_checked.specs.PlainProgram.{plain_program};
+ghost use Rattle.ls_search_laws.specs.Stepping.{SetsUp};
 ghost use Rattle.ls_state_space.specs.Verdicts.{AreReached, LeavesStuck, NeverStuck};
 ghost use Rattle.ls_source_judge.specs.Judged.{AllLinearizable, IsNotLinearizable};
 
@@ -40,6 +41,7 @@ pub fn judge_schedules(
     program: &Program,
     limit: usize,
 ) -> Result<Judged, AllocError>
+    ensures up { IfOk result (λ j. SetsUp (plain_file file.now) (plain_program program.now) j.setup) }
     ensures good { IfOk result (λ j. IsTrue j.complete → IfNone j.bad
         (AllLinearizable (plain_file file.now) (plain_program program.now))) }
     ensures bad { IfOk result (λ j. IfNone j.doubt (IfSome j.bad (λ path.

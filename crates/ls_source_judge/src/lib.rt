@@ -3,5 +3,7 @@
 #![tactic(auto)]
 
 mod judging;
+mod simplifying;
 
 pub use judging::{Judged, judge_schedules};
+pub use simplifying::simplest_unexplained;

@@ -7,6 +7,7 @@ returns c = record {
   none_after = refl;
   counts = (refl, refl, refl, refl);
   doubles = (refl, refl, refl, refl, refl, refl, refl);
+  others = (refl, refl, refl, refl, refl);
   numbered = (refl, refl, refl);
   texts = (refl, refl, refl);
 }

@@ -1,4 +1,4 @@
-use Rattle.std.proofs.Common.{◌≡◌, ◌∙◌, ap, arith, subst}
+use Rattle.std.proofs.Common.{◌∙◌, ap, arith, subst}
 use Rattle.ls_families.specs.Texts.{alone_text}
 use Rattle.ls_image.specs.Images.{Compiles}
 use Rattle.ls_image.specs.declared.image.Image.{Image}

@@ -1,9 +1,10 @@
 use Rattle.std.proofs.Common.{◌∙◌, ap, arith, length, sym, Some}
 use Rattle.std.specs.Prelude.{slice_get}
 use Rattle.std.proofs.lemmas.Option.{slice_get-get_or}
+use Rattle.std.proofs.lemmas.Result.{err_from_is_err_and}
 use Rattle.ls_menus.specs.Written.{entries}
 use Rattle.ls_entries.specs.Entries.{AreCalls}
-use Rattle.ls_entries.proofs.Steps.{all_items, one_item}
+use Rattle.ls_entries.proofs.Steps.{all_items, no_call, one_item}
 use Rattle.ls_entries.proofs.checking.check_entries.Goals as goal
 
 pub loop-entry-init : goal.loop-entry-init
@@ -30,3 +31,15 @@ returns-clause-good c =
     all_items (AreCalls c.args.classes.now c.args.making.now c.args.threads) (entries c.args.menu.now)
     c.loop-entry.entry-index (omega (arith, ap length c.loop-entry.invariant.same, c.loop-entry-test.false))
     c.loop-entry.invariant.before
+
+pub returns-in_err-check_calls-clause-bad : goal.returns-in_err-check_calls-clause-bad
+returns-in_err-check_calls-clause-bad c =
+    let p = err_from_is_err_and c.from_residual-in_err-check_calls.result c.from_residual-in_err-check_calls.ensures.1 in
+    let items = c.deref-entry-items.result.now in
+    let i = c.loop-entry.entry-index in
+    let item = c.entry-item.result in
+    let here = ap (λ l. slice_get l i) (sym c.loop-entry.invariant.same) ∙
+    slice_get-get_or items i item (omega (arith, c.loop-entry-test.true)) ∙ ap Some (sym c.entry-item.is) in
+    rw (p.1, p.2)
+    (no_call c.args.classes.now c.args.making.now c.args.threads c.args.menu.now i item here c.loop-entry.invariant.before
+    c.in_err-check_calls.field-0.0 c.in_err-check_calls.ensures.bad)

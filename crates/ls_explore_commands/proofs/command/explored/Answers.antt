@@ -1,18 +1,18 @@
-use Rattle.std.proofs.Common.{◌≡◌, ◌∙◌, ap, subst, sym}
+use Rattle.std.proofs.Common.{◌∙◌, ap, subst, sym}
 use Rattle.std.proofs.lemmas.Result.{err_from_is_err_and}
 use Rattle.std.specs.Prelude.{All, string_bytes}
 use Rattle.ls_checked.specs.Plain.{plain_file}
 use Rattle.ls_checked.specs.PlainProgram.{plain_program}
 use Rattle.ls_checked.specs.declared.program.Program.{Program}
 use Rattle.ls_image.specs.Images.{program_of_image}
-use Rattle.ls_labels.specs.Names.{Names}
+use Rattle.ls_labels.specs.Names.{Names, names_of}
 use Rattle.ls_schedule.specs.Reading.{thread_names}
 use Rattle.ls_types.specs.CheckedFile.{outcome_of}
 use Rattle.ls_explore_reports.specs.Judged.{AreHistories, IsJudged}
-use Rattle.ls_explore_reports.specs.Printing.{explored_text}
+use Rattle.ls_explore_reports.specs.Cuts.{IsExploredText}
 use Rattle.ls_explore_commands.specs.Explored.{names_in}
 use Rattle.ls_explore_commands.proofs.ExploredLemmas.{below_so, explore_fails, explore_tells, judged_so, linear_so}
-use Rattle.ls_explore_commands.proofs.ExploredLemmas.{long_fails, rows_named}
+use Rattle.ls_explore_commands.proofs.ExploredLemmas.{long_fails, rows_named, rows_so, so_here}
 use Rattle.ls_explore_commands.proofs.command.explored.Goals as goal
 
 pub returns-in_err-found-clause-gives : goal.returns-in_err-found-clause-gives
@@ -28,6 +28,18 @@ judge_rows-requires g c =
     (subst (λ rows. AreHistories (plain_program (program_of_image c.args.image.now)) rows)
     (sym c.as_slice.ensures.value) (rows_named c.args.image.now found.setup found.rows.items c.requires
     c.in_ok-found.ensures.found.truth))
+
+pub print_exploration-requires : goal.print_exploration-requires
+print_exploration-requires g c =
+    let i = c.args.image.now in
+    let found = c.in_ok-found.found in
+    let judged = c.in_ok-judged.judged.items in
+    let verdicts = subst (λ (q : Program). All (IsJudged (plain_program q)) judged) c.program.ensures
+    c.in_ok-judged.ensures.verdicts in
+    so_here i found.setup (names_of c.names_in.result) c.as_slice-2.result.now judged c.names_in.ensures.names
+    c.as_slice-2.ensures.value
+    (rows_so i found.setup found.rows.items judged (c.in_ok-judged.ensures.rows ∙ c.as_slice.ensures.value)
+    c.in_ok-found.ensures.found.truth verdicts)
 
 pub returns-in_err-text-clause-gives : goal.returns-in_err-text-clause-gives
 returns-in_err-text-clause-gives g c =
@@ -75,13 +87,13 @@ returns-clause-gives g c =
     let below = below_so i (plain_file c.file-file.result.now) c.program.result.now c.args.exploring.order judged
     (ap plain_file c.file-file.ensures ∙ ap (λ k. (outcome_of k).file) c.checked.ensures) c.program.ensures
     c.in_ok-judged.ensures.below in
-    let first = subst (λ (ns : Names). t ≡ explored_text ns (thread_names c.names_in.result.program.now) found.setup
-    c.as_slice-2.result.now found.states found.complete found.roomy e) c.names_in.ensures.names
+    let first = subst (λ (ns : Names). IsExploredText ns (thread_names c.names_in.result.program.now) found.setup
+    c.as_slice-2.result.now found.states found.complete found.roomy e t) c.names_in.ensures.names
     c.in_ok-text.ensures.text in
-    let next = subst (λ (q : Program). t ≡ explored_text (names_in i) (thread_names q) found.setup
-    c.as_slice-2.result.now found.states found.complete found.roomy e) c.names_in.ensures.program first in
-    let said = subst (λ js. t ≡ explored_text (names_in i) (thread_names (program_of_image i)) found.setup js
-    found.states found.complete found.roomy e) c.as_slice-2.ensures.value next in
+    let next = subst (λ (q : Program). IsExploredText (names_in i) (thread_names q) found.setup
+    c.as_slice-2.result.now found.states found.complete found.roomy e t) c.names_in.ensures.program first in
+    let said = subst (λ js. IsExploredText (names_in i) (thread_names (program_of_image i)) found.setup js
+    found.states found.complete found.roomy e t) c.as_slice-2.ensures.value next in
     explore_tells i e found.setup judged found.states found.complete found.roomy t c.in_ok-found.ensures.found.good
     (judged_so c.linearity_is_meant.ensures c.none_is_illegal.ensures.whole c.none_is_not_linearizable.ensures.whole i
     e.cells e.states e.order found.setup found.rows.items judged found.states found.complete found.roomy of_rows

@@ -1,7 +1,5 @@
-use Rattle.std.proofs.Common.{refl, sym, subst}
+use Rattle.std.proofs.Common.{refl}
 use Rattle.std.proofs.lemmas.Result.{err_from_is_err_and}
-use Rattle.ls_linearizable.specs.Linearizable.{IsLinearizable}
-use Rattle.ls_translation.specs.Texts.{file_of, program_of}
 use Rattle.ls_explore_commands.specs.Reports.{bad_text}
 use Rattle.ls_explore_commands.specs.Verdicts.{IsBad}
 use Rattle.ls_explore_commands.proofs.Decisions.{same_text, tells, too_long}
@@ -20,6 +18,5 @@ returns c = λ limit good extent bad.
     let text = same_text (bad_text run.fewest) _ _ _ _ _ _ _ _ _ _ _ c.names_in.ensures.names
     c.names_in.ensures.program refl c.extent_of.ensures.states c.extent_of.ensures.complete c.in_ok-text.ensures in
     tells i limit _ _ text
-    (IsBad run.schedule run.fewest j.states j.complete good extent
-    (subst (λ h. IsLinearizable (file_of i) (program_of i) h → ⊥) (sym c.in_ok-run.ensures.history) bad)
+    (IsBad run.schedule run.fewest j.states j.complete good extent (c.in_ok-run.ensures.bad bad)
     c.in_ok-run.ensures.fewest)

@@ -6,6 +6,7 @@ use Rattle.ls_checked.specs.Plain.{plain_file}
 use Rattle.ls_checked.specs.PlainProgram.{plain_program}
 use Rattle.ls_types.specs.CheckedFile.{outcome_of}
 use Rattle.ls_translation.specs.Texts.{file_of, program_of}
+use Rattle.ls_search_laws.specs.Stepping.{SetsUp}
 use Rattle.ls_state_space.specs.Verdicts.{AreReached, NeverStuck}
 use Rattle.ls_explore_commands.proofs.deciding.judged_of.Goals as goal
 
@@ -31,6 +32,9 @@ returns-clause-extent c =
       within = c.in_ok-judged.ensures.few;
       cut = c.in_ok-judged.ensures.cut;
       setup = j.setup;
+      up = subst (λ (p : Program). SetsUp (file_of i) p j.setup) program
+          (subst (λ (f : File). SetsUp f (plain_program c.program.result.now) j.setup) file
+          c.in_ok-judged.ensures.up);
       reached = subst (λ (p : Program). AreReached (file_of i) p j.setup j.states) program
           (subst (λ (f : File). AreReached f (plain_program c.program.result.now) j.setup j.states) file
           c.in_ok-judged.ensures.reached);

@@ -25,4 +25,4 @@ returns c = λ limit good extent stuck doubt.
     c.extent_of-extent.ensures.states c.extent_of-extent.ensures.complete c.in_ok-text.ensures in
     tells c.args.image.now limit _ _ text
     (IsStuckAndDoubtful first.schedule first.fewest c.args.doubt run.schedule run.fewest j.states j.complete good extent
-    (c.in_ok-first.ensures.ends stuck) doubt c.in_ok-first.ensures.fewest c.in_ok-run.ensures.fewest)
+    (c.in_ok-first.ensures.stuck stuck) doubt c.in_ok-first.ensures.fewest c.in_ok-run.ensures.fewest)

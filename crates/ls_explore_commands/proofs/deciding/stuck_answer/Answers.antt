@@ -18,5 +18,5 @@ returns c = λ limit good extent stuck linear.
     c.names_in.ensures.names c.names_in.ensures.program refl c.extent_of.ensures.states
     c.extent_of.ensures.complete c.in_ok-text.ensures in
     tells c.args.image.now limit _ _ text
-    (IsStuck run.schedule run.fewest j.states j.complete good extent (c.in_ok-run.ensures.ends stuck)
+    (IsStuck run.schedule run.fewest j.states j.complete good extent (c.in_ok-run.ensures.stuck stuck)
     c.in_ok-run.ensures.fewest linear)

@@ -1,9 +1,4 @@
-use Rattle.std.proofs.Common.{List, subst, string_bytes}
-use Rattle.ls_events.specs.declared.event.Event.{Event as RunEvent}
-use Rattle.ls_report.specs.Events.{Event}
-use Rattle.ls_serial_orders.specs.Known.{file_of, program_of}
-use Rattle.ls_serial_orders.specs.Named.{AreNamed}
-use Rattle.ls_serial_orders.specs.Telling.{Tells}
+use Rattle.std.proofs.Common.{string_bytes}
 use Rattle.ls_explore_reports.proofs.BelowRows.{is_known, none_below, some_below}
 use Rattle.ls_explore_reports.proofs.below.below.Goals as goal
 
@@ -13,13 +8,11 @@ tell_known-requires c =
 
 pub returns-in_default : goal.returns-in_default
 returns-in_default c = λ orders file program for named.
-    none_below c.args.known.now orders file program c.args.row.now.history (string_bytes c.new.result) c.in_default.is
+    none_below c.args.known.now orders file program c.args.history.now (string_bytes c.new.result) c.in_default.is
     c.new.ensures.bytes for
 
 pub returns : goal.returns
 returns c = λ orders file program for named.
-    some_below c.args.known.now orders file program c.args.row.now.history c.in-Some.known
+    some_below c.args.known.now orders file program c.args.history.now c.in-Some.known
     (string_bytes c.in_ok-text.text) c.in-Some.is
-    (subst (λ (h : List RunEvent). (events : List Event) → AreNamed (program_of c.in-Some.known) h events →
-    Tells (file_of c.in-Some.known) (program_of c.in-Some.known) h events (string_bytes c.in_ok-text.text))
-    c.history.ensures c.in_ok-text.ensures) for named
+    c.in_ok-text.ensures for named

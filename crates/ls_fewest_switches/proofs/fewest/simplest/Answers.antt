@@ -1,46 +1,38 @@
-use Rattle.std.proofs.Common.{◌≤◌, ap, ◌∙◌, subst}
+use Rattle.std.proofs.Common.{◌+◌, ◌≤◌, Some, sym, ap, ◌∙◌, subst, arith}
 use Rattle.ls_checked.specs.CheckedTree.{File}
 use Rattle.ls_checked.specs.CheckedProgram.{Program}
 use Rattle.ls_checked.specs.Plain.{plain_file}
 use Rattle.ls_checked.specs.PlainProgram.{plain_program}
 use Rattle.ls_meaning.specs.Runs.{source_history}
-use Rattle.ls_fewest_switches.specs.Switches.{changes}
-use Rattle.ls_fewest_switches.specs.Levels.{IsFirstWithin}
-use Rattle.ls_fewest_switches.proofs.Passing.{of_some}
+use Rattle.ls_fewest_switches.specs.Along.{is_whole, left_after}
+use Rattle.ls_fewest_switches.specs.Levels.{IsBelow}
+use Rattle.ls_fewest_switches.specs.Switches.{changes, switches}
+use Rattle.ls_fewest_switches.proofs.Left.{never_whole, whole_is}
 use Rattle.ls_fewest_switches.proofs.Roots.{no_more_switches}
 use Rattle.ls_fewest_switches.proofs.fewest.simplest.Goals as goal
 
-pub returns-in-Some-clause-history : goal.returns-in-Some-clause-history
-returns-in-Some-clause-history c =
-    let file : File = plain_file c.args.file.now in
-    let program : Program = plain_program c.args.program.now in
-    let first = of_some (IsFirstWithin c.args.stuck file program c.as_slice.result.now c.changes-most.result)
-    c.in_ok-schedule.field-0 c.in-Some.schedule c.in-Some.is c.in_ok-schedule.ensures in
-    first.history_is ∙ c.as_slice.ensures.value ∙ c.in_ok-history.ensures ∙
-    ap (source_history file program) c.steps-steps.ensures
+pub least_below-requires-clause-lost : goal.least_below-requires-clause-lost
+least_below-requires-clause-lost c = never_whole
 
-pub returns-in-Some-clause-ends : goal.returns-in-Some-clause-ends
-returns-in-Some-clause-ends c = λ ends.
+pub returns-in-Steps-clause-history : goal.returns-in-Steps-clause-history
+returns-in-Steps-clause-history c =
     let file : File = plain_file c.args.file.now in
     let program : Program = plain_program c.args.program.now in
-    let first = of_some (IsFirstWithin c.args.stuck file program c.as_slice.result.now c.changes-most.result)
-    c.in_ok-schedule.field-0 c.in-Some.schedule c.in-Some.is c.in_ok-schedule.ensures in
-    first.ends
+    let h = c.as_slice.result.now in
+    let below = subst (λ l. IsBelow (Some h) left_after is_whole c.args.target.stuck file program (c.changes-most.result + 1)
+    l) c.in-Steps.is c.in_ok-least.ensures in
+    ap (source_history file program) c.of.ensures
+    ∙ whole_is h (source_history file program c.in-Steps.least.items) below.0.within.sought
+    ∙ c.as_slice.ensures.value ∙ c.in_ok-history.ensures ∙ ap (source_history file program) c.steps-steps.ensures
 
-pub returns-in-Some-clause-few : goal.returns-in-Some-clause-few
-returns-in-Some-clause-few c =
+pub returns-in-Steps-clause-few : goal.returns-in-Steps-clause-few
+returns-in-Steps-clause-few c =
     let file : File = plain_file c.args.file.now in
     let program : Program = plain_program c.args.program.now in
-    let first = of_some (IsFirstWithin c.args.stuck file program c.as_slice.result.now c.changes-most.result)
-    c.in_ok-schedule.field-0 c.in-Some.schedule c.in-Some.is c.in_ok-schedule.ensures in
-    no_more_switches c.in-Some.schedule c.args.found.now
-    (subst (λ n. changes 0 c.in-Some.schedule ≤ n)
-    (c.changes-most.ensures.is ∙ ap (changes 0) c.steps-steps.ensures) first.few)
-
-pub returns-in-Some-clause-fewest : goal.returns-in-Some-clause-fewest
-returns-in-Some-clause-fewest c = λ is s same ends.
-    let file : File = plain_file c.args.file.now in
-    let program : Program = plain_program c.args.program.now in
-    let first = of_some (IsFirstWithin c.args.stuck file program c.as_slice.result.now c.changes-most.result)
-    c.in_ok-schedule.field-0 c.in-Some.schedule c.in-Some.is c.in_ok-schedule.ensures in
-    no_more_switches c.in-Some.schedule s (first.fewest s (same ∙ first.history_is) ends)
+    let h = c.as_slice.result.now in
+    let below = subst (λ l. IsBelow (Some h) left_after is_whole c.args.target.stuck file program (c.changes-most.result + 1)
+    l) c.in-Steps.is c.in_ok-least.ensures in
+    let few = below.1 in
+    let most = c.changes-most.ensures.is ∙ ap (changes 0) c.steps-steps.ensures in
+    subst (λ s. switches s ≤ switches c.args.found.now) (sym c.of.ensures)
+    (no_more_switches c.in-Steps.least.items c.args.found.now (omega (arith, few, most)))

@@ -1,56 +1,74 @@
-use Rattle.std.proofs.Common.{◌≡◌, ◌+◌, ◌++◌, ◌≤◌, List, Some, inl, refl, sym, ap, ◌∙◌, drop}
+use Rattle.std.proofs.Common.{◌≡◌, List, Some, map, refl, sym, ap, ◌∙◌, subst}
 use Rattle.std.specs.Prelude.{slice_get}
-use Rattle.ls_events.specs.declared.event.Event.{Event}
-use Rattle.ls_meaning.specs.Runs.{event_of}
-use Rattle.ls_search_laws.specs.Stepping.{events_in}
 use Rattle.ls_fewest_switches.specs.declared.spots.Spot.{Spot}
-use Rattle.ls_fewest_switches.specs.Switches.{change}
-use Rattle.ls_fewest_switches.specs.Spots.{IsSpotAfter}
-use Rattle.ls_fewest_switches.proofs.Passing.{of_some}
-use Rattle.ls_fewest_switches.proofs.Reaching.{grow_of, leads_none, leads_some, of_none}
+use Rattle.ls_fewest_switches.specs.Spots.{IsSpotAfter, noted_after, noted_at}
+use Rattle.ls_fewest_switches.proofs.Reaching.{grow_of, leads_of, leads_some}
 use Rattle.ls_fewest_switches.proofs.following.reach.Goals as goal
 
-pub spot_after-requires : goal.spot_after-requires
-spot_after-requires c = record {
-  within = c.requires.within c.spot_at-spot.result.now
-      (ap (λ l. slice_get l c.args.at) (sym c.deref.ensures.value) ∙ c.spot_at-spot.ensures);
-}
-
-pub returns-in-None-clause-grow : goal.returns-in-None-clause-grow
-returns-in-None-clause-grow c = inl refl
-
-pub returns-in-None-clause-leads : goal.returns-in-None-clause-leads
-returns-in-None-clause-leads c = λ kept s there.
-    let old : List Spot = c.args.spots.now.spots.items in
+pub returns-clause-grow : goal.returns-clause-grow
+returns-clause-grow g c =
     let spot : Spot = c.spot_at-spot.result.now in
+    let old : List Spot = c.args.found.now.spots.spots.items in
     let here : slice_get old c.args.at ≡ Some spot =
     ap (λ l. slice_get l c.args.at) (sym c.deref.ensures.value) ∙ c.spot_at-spot.ensures in
-    leads_none c.args.ground.now.history.now c.args.ground.now.most old old c.args.at c.args.thread c.args.step.now spot
+    let first = g.O.Observer.first c.args.ground.now.observer.now in
+    let next = g.O.Observer.next c.args.ground.now.observer.now in
+    let is_bad = g.O.Observer.bad c.args.ground.now.observer.now in
+    let stands = g.O.Observer.stands c.args.ground.now.observer.now in
+    let states = map stands c.args.found.now.pool.values.items in
+    let states' = map stands c.note.new.pool.values.items in
+    let new : List Spot = c.keep.new.self.spots.items in
+    let then_at : Spot = record {
+      place = c.in_ok-place.place;
+      last = c.args.thread;
+      changes = c.in-Some.changes;
+      before = c.args.at;
+    } in
+    let after : IsSpotAfter spot c.args.thread c.args.step.now then_at = record {
+      store = c.in_ok-place.ensures.store;
+      works = c.in_ok-place.ensures.works;
+      last = refl;
+      changes = c.in-Some.ensures.some;
+    } in
+    let noted : slice_get states' then_at.place.noted
+    ≡ Some (noted_after next (noted_at first states spot) c.args.thread c.args.step.now) =
+    subst (λ n. slice_get states' n
+    ≡ Some (noted_after next (noted_at first states spot) c.args.thread c.args.step.now)) (sym c.in_ok-place.ensures.noted)
+    c.in_ok-noted.ensures.number in
+    grow_of first next is_bad c.args.ground.now.most states states' old new c.args.at c.args.thread c.args.step.now spot
+    here then_at after noted c.in_ok-kept.ensures.pushed
+
+pub returns-clause-leads : goal.returns-clause-leads
+returns-clause-leads g c = λ kept s there.
+    let spot : Spot = c.spot_at-spot.result.now in
+    let old : List Spot = c.args.found.now.spots.spots.items in
+    let here : slice_get old c.args.at ≡ Some spot =
+    ap (λ l. slice_get l c.args.at) (sym c.deref.ensures.value) ∙ c.spot_at-spot.ensures in
+    let first = g.O.Observer.first c.args.ground.now.observer.now in
+    let next = g.O.Observer.next c.args.ground.now.observer.now in
+    let is_bad = g.O.Observer.bad c.args.ground.now.observer.now in
+    let stands = g.O.Observer.stands c.args.ground.now.observer.now in
+    let states = map stands c.args.found.now.pool.values.items in
+    let states' = map stands c.note.new.pool.values.items in
+    let new : List Spot = c.keep.new.self.spots.items in
+    let then_at : Spot = record {
+      place = c.in_ok-place.place;
+      last = c.args.thread;
+      changes = c.in-Some.changes;
+      before = c.args.at;
+    } in
+    let after : IsSpotAfter spot c.args.thread c.args.step.now then_at = record {
+      store = c.in_ok-place.ensures.store;
+      works = c.in_ok-place.ensures.works;
+      last = refl;
+      changes = c.in-Some.ensures.some;
+    } in
+    let noted : slice_get states' then_at.place.noted
+    ≡ Some (noted_after next (noted_at first states spot) c.args.thread c.args.step.now) =
+    subst (λ n. slice_get states' n
+    ≡ Some (noted_after next (noted_at first states spot) c.args.thread c.args.step.now)) (sym c.in_ok-place.ensures.noted)
+    c.in_ok-noted.ensures.number in
+    leads_of first next is_bad c.args.ground.now.most states states' old new c.args.at c.args.thread c.args.step.now spot
     here
-    (of_none ((rest : List Event) →
-    drop spot.place.noted c.args.ground.now.history.now ≡
-    events_in (event_of c.args.thread c.args.step.now.action) ++ rest →
-    spot.changes + change spot.last c.args.thread ≤ c.args.ground.now.most → ⊥) c.in_ok-spot_after.field-0 c.in-None.is
-    c.in_ok-spot_after.ensures.none) s there
-
-pub returns-in_ok-kept-in-Some-clause-grow : goal.returns-in_ok-kept-in-Some-clause-grow
-returns-in_ok-kept-in-Some-clause-grow c =
-    let old : List Spot = c.args.spots.now.spots.items in
-    let spot : Spot = c.spot_at-spot.result.now in
-    let here : slice_get old c.args.at ≡ Some spot =
-    ap (λ l. slice_get l c.args.at) (sym c.deref.ensures.value) ∙ c.spot_at-spot.ensures in
-    grow_of c.args.ground.now.history.now c.args.ground.now.most old c.keep.new.self.spots.items c.args.at c.args.thread
-    c.args.step.now spot here c.in-Some.next
-    (of_some (IsSpotAfter spot c.args.thread c.args.step.now) c.in_ok-spot_after.field-0 c.in-Some.next c.in-Some.is
-    c.in_ok-spot_after.ensures.some) c.in_ok-kept-in-Some.ensures.pushed
-
-pub returns-in_ok-kept-in-Some-clause-leads : goal.returns-in_ok-kept-in-Some-clause-leads
-returns-in_ok-kept-in-Some-clause-leads c = λ kept s there.
-    let old : List Spot = c.args.spots.now.spots.items in
-    let spot : Spot = c.spot_at-spot.result.now in
-    let here : slice_get old c.args.at ≡ Some spot =
-    ap (λ l. slice_get l c.args.at) (sym c.deref.ensures.value) ∙ c.spot_at-spot.ensures in
-    leads_some c.args.ground.now.history.now c.args.ground.now.most old c.keep.new.self.spots.items c.args.at
-    c.args.thread c.args.step.now spot here c.in-Some.next
-    (of_some (IsSpotAfter spot c.args.thread c.args.step.now) c.in_ok-spot_after.field-0 c.in-Some.next c.in-Some.is
-    c.in_ok-spot_after.ensures.some) (c.in_ok-kept-in-Some.ensures.there kept) s there
+    (leads_some first next is_bad c.args.ground.now.most states states' old new c.args.at c.args.thread c.args.step.now
+    spot here then_at after noted (c.in_ok-kept.ensures.there kept)) s there

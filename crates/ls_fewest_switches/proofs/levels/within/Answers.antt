@@ -8,9 +8,12 @@ use Rattle.ls_fewest_switches.specs.Switches.{NoneWithin}
 use Rattle.ls_fewest_switches.proofs.levels.within.Goals as goal
 
 pub returns-in-Nothing-clause-level : goal.returns-in-Nothing-clause-level
-returns-in-Nothing-clause-level c =
+returns-in-Nothing-clause-level g c =
+    let first = g.O.Observer.first c.args.ground.now.observer.now in
+    let next = g.O.Observer.next c.args.ground.now.observer.now in
+    let is_bad = g.O.Observer.bad c.args.ground.now.observer.now in
     let program : Program = plain_program c.args.program.now in
-    subst (λ (f : File). NoneWithin c.args.ground.now.stuck f program c.args.ground.now.history.now
-    c.args.ground.now.most) c.requires.file
+    subst (λ (f : File). NoneWithin first next is_bad c.args.ground.now.stuck f program c.args.ground.now.most)
+    c.requires.file
     (c.in_ok-reached_by.ensures.none c.in-Nothing.is program
     (c.requires.start ∙ ap (λ (f : File). configuration_of f program (start program)) (sym c.requires.file)))

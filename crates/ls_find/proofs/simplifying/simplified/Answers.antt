@@ -1,16 +1,41 @@
-use Rattle.std.proofs.Common.{◌∙◌, sym, subst}
+use Rattle.std.proofs.Common.{◌≡◌, true, sym, subst}
+use Rattle.std.specs.Prelude.{IfOk}
+use Rattle.ls_checked.specs.CheckedTree.{File}
+use Rattle.ls_checked.specs.CheckedProgram.{Program}
+use Rattle.ls_fewest_switches.specs.declared.fewest.SimpleRun.{SimpleRun}
+use Rattle.ls_meaning.specs.Runs.{source_history}
+use Rattle.ls_state_space.specs.Verdicts.{LeavesStuck}
 use Rattle.ls_translation.specs.Texts.{file_of, program_of}
 use Rattle.ls_find.specs.Fewest.{IsFewest}
-use Rattle.ls_find.proofs.Simpler.{still_so}
+use Rattle.ls_find.specs.Verdicts.{IsBad}
+use Rattle.ls_find.specs.declared.verdict.Reason.{Reason}
+use Rattle.ls_find.specs.declared.verdict.Reason.TheVariants as reasons
+use Rattle.ls_find.proofs.Simpler.{ok_both, still_waiting}
 use Rattle.ls_find.proofs.simplifying.simplified.Goals as goal
 
-pub returns-clause-bad : goal.returns-clause-bad
-returns-clause-bad c =
-    still_so (file_of c.args.image.now) (program_of c.args.image.now) c.args.found.now c.in_ok-run.run'.schedule
-    c.in_ok-run.ensures.history c.args.reason c.in-Some.stuck (sym c.compared.ensures ∙ c.in-Some.is)
-    c.pending_calls_wait.ensures.waits c.in_ok-run.ensures.ends
+pub returns-in-NotLinearizable-clause-bad : goal.returns-in-NotLinearizable-clause-bad
+returns-in-NotLinearizable-clause-bad c =
+    let file : File = file_of c.args.image.now in
+    let program : Program = program_of c.args.image.now in
+    subst (λ (k : Reason). IfOk c.unexplained_run.result (λ (r : SimpleRun). IsBad k file program c.args.found.now →
+    IsBad k file program r.schedule)) (sym c.in-NotLinearizable.is) c.unexplained_run.ensures.bad
 
-pub returns-clause-fewest : goal.returns-clause-fewest
-returns-clause-fewest c = λ is.
-    subst (λ o. IsFewest o (file_of c.args.image.now) (program_of c.args.image.now) c.in_ok-run.run'.schedule)
-    (sym (sym c.compared.ensures ∙ c.in-Some.is)) (c.in_ok-run.ensures.fewest is)
+pub returns-in-Waits-clause-bad : goal.returns-in-Waits-clause-bad
+returns-in-Waits-clause-bad c =
+    let file : File = file_of c.args.image.now in
+    let program : Program = program_of c.args.image.now in
+    let found = c.args.found.now in
+    subst (λ (k : Reason). IfOk c.simple_run.result (λ (r : SimpleRun). IsBad k file program found →
+    IsBad k file program r.schedule)) (sym c.in-Waits.is)
+    (ok_both (λ (r : SimpleRun). source_history file program r.schedule ≡ source_history file program found)
+    (λ (r : SimpleRun). LeavesStuck file program found → LeavesStuck file program r.schedule)
+    (λ (r : SimpleRun). IsBad reasons.Waits file program found → IsBad reasons.Waits file program r.schedule)
+    c.simple_run.result c.simple_run.ensures.history c.simple_run.ensures.ends
+    (λ r history ends. still_waiting file program found r.schedule history c.pending_calls_wait.ensures.waits ends))
+
+pub returns-in-Waits-clause-fewest : goal.returns-in-Waits-clause-fewest
+returns-in-Waits-clause-fewest c =
+    let file : File = file_of c.args.image.now in
+    let program : Program = program_of c.args.image.now in
+    subst (λ (k : Reason). IfOk c.simple_run.result (λ (r : SimpleRun). r.fewest ≡ true →
+    IsFewest k file program r.schedule)) (sym c.in-Waits.is) c.simple_run.ensures.fewest

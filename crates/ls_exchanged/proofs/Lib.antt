@@ -1,0 +1,10 @@
+pub mod Alike
+pub mod Effects
+pub mod Runs
+pub mod Histories
+pub mod Linearizable
+pub mod Waiting
+pub mod Turning
+pub mod Texts
+pub mod Legal
+pub mod Naming

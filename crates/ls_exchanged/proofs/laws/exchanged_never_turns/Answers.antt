@@ -1,0 +1,5 @@
+use Rattle.ls_exchanged.proofs.Turning.{never_turns}
+use Rattle.ls_exchanged.proofs.laws.exchanged_never_turns.Goals as goal
+
+pub returns : goal.returns
+returns c = never_turns

@@ -1,0 +1,5 @@
+use Rattle.ls_explore_commands.proofs.ReadBack.{beginnings_read_back}
+use Rattle.ls_explore_commands.proofs.laws.beginnings_read_back.Goals as goal
+
+pub returns : goal.returns
+returns c = beginnings_read_back c.schedules_read_back.ensures.printed

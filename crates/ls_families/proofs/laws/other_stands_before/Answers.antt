@@ -1,0 +1,5 @@
+use Rattle.ls_families.proofs.Others.{other_stands_before}
+use Rattle.ls_families.proofs.laws.other_stands_before.Goals as goal
+
+pub returns : goal.returns
+returns c = other_stands_before

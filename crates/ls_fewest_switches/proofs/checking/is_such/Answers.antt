@@ -1,0 +1,16 @@
+use Rattle.std.proofs.Common.{Bool, sym, subst}
+use Rattle.ls_checked.specs.CheckedTree.{File}
+use Rattle.ls_checked.specs.CheckedProgram.{Program}
+use Rattle.ls_checked.specs.Plain.{plain_file}
+use Rattle.ls_checked.specs.PlainProgram.{plain_program}
+use Rattle.ls_fewest_switches.specs.Levels.{IsWaiting}
+use Rattle.ls_fewest_switches.specs.Switches.{EndsSo}
+use Rattle.ls_fewest_switches.proofs.Ending.{leaves_stuck}
+use Rattle.ls_fewest_switches.proofs.checking.is_such.Goals as goal
+
+pub returns-clause-ends : goal.returns-clause-ends
+returns-clause-ends g c = λ waits.
+    let file : File = plain_file c.args.file.now in
+    let program : Program = plain_program c.args.program.now in
+    subst (λ (b : Bool). EndsSo b file program c.args.steps.now) (sym c.if-not-stuck.false)
+    (leaves_stuck file program c.args.steps.now (subst IsWaiting c.in_ok-run.ensures (c.in_ok-waits.ensures waits)))

@@ -1,0 +1,4 @@
+pub mod Same
+pub mod Named
+pub mod Below
+pub mod Places
