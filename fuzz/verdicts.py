@@ -7,7 +7,7 @@ linearizable exactly if one of these runs explains it. Of each row of `explore`,
 `batch --judge`: `linearizable` and `not linearizable` stand where they should, and the last line of `explore` counts them. If a call alone
 goes on and on, `explore` may say nothing of a history and `batch` `not judged`. `order` finds a run of whole calls for some of the rows, and
 for these with an answer changed, or the line from which on no run explains them. `explore --verdict` prints a run that is wrong as it says,
-and none only if no row of a whole exploration is wrong. Ends with status 1 if something is wrong."""
+and none only if no row of a whole exploration is wrong; no row that is wrong so has fewer context switches than it tells. Ends with status 1 if something is wrong."""
 import argparse
 import random
 import re
@@ -166,6 +166,26 @@ def wrong_tally(program, text, runs, endless):
     return None, f"{len(blocks)} sampled, {count} not linearizable"
 
 
+def switches(schedule):
+    """How many context switches a printed schedule has: steps of another thread than the step before, but for the one that leaves the setup."""
+    spread = schedule.removeprefix("@2 ")
+    while "(" in spread:
+        spread = re.sub(r"\(([^()]*)\)(?:\*(\d+))?", lambda it: " ".join([it[1]] * int(it[2] or 1)), spread)
+    names = [item.partition("*")[0] for item in spread.split()]
+    return max(sum(name != before for before, name in zip(["setup"] + names, names)) - 1, 0)
+
+
+def not_simplest(first, schedule, rows):
+    """What is wrong with the switches that a verdict tells of its schedule, or None: none of these rows' schedules has fewer."""
+    if "; context switches " not in first:
+        return None
+    told = int(first.rpartition(" ")[2])
+    if told != switches(schedule):
+        return f"{first}, but it has {switches(schedule)}: {schedule}"
+    fewer = [it for it in rows if switches(it.split("\n")[1]) < told]
+    return f"{first}, but this row has fewer\n{fewer[0]}" if fewer else None
+
+
 def wrong_verdict(program, text, runs, endless):
     """What is wrong with a verdict alone, or None, and a word on it. The run that is printed is wrong as it says; and if none is, no row of
     a whole exploration is wrong, and none ends in waiting."""
@@ -173,8 +193,8 @@ def wrong_verdict(program, text, runs, endless):
     if done.status != 0:
         return f"explore --verdict: {done.told()}", ""
     out = done.out.decode()
-    head, rest = out.split("\n", 1)
-    head = head.partition("; context switches ")[0]
+    first, rest = out.split("\n", 1)
+    head = first.partition("; context switches ")[0]
     complete = out.endswith(" complete\n")
     rows = run(program, ["explore", "--states", STATES], text, seconds=120).out.decode()
     *blocks, last = rows.split("\n\n")
@@ -182,6 +202,10 @@ def wrong_verdict(program, text, runs, endless):
     heads = [block.split("\n", 1)[0] for block in blocks]
     waiting = any(" waits for " in it for it in heads)
     bad = [it for it in blocks if not any(explains(run_, events(it.split("\n")[2:])) for run_ in runs)]
+    compared = bad if head == "not linearizable" else [it for it in blocks if " waits for " in it.split("\n", 1)[0]] if " waits for " in head else []
+    said = not_simplest(first, rest.split("\n", 1)[0], compared)
+    if said:
+        return said, ""
     if head in ("not linearizable", "not judged"):
         history = events(rest.split("\n\n")[0].split("\n")[1:])
         if head == "not judged" and not endless:

@@ -46,7 +46,11 @@ pub(crate) fn explore_command<'a>(alloc: Global) -> Result<Command<'a>, AllocErr
         "prints only histories without a legal order and those not linearizable",
     );
     let command = with_option(command, illegal);
-    let first = flag_option(alloc, "first", "prints only the first of the histories");
+    let first = flag_option(
+        alloc,
+        "first",
+        "prints only the first of the histories; with --illegal, the shortest beginning without a legal order",
+    );
     let command = with_option(command, first);
     let order = flag_option(
         alloc,
@@ -63,7 +67,7 @@ pub(crate) fn explore_command<'a>(alloc: Global) -> Result<Command<'a>, AllocErr
     let verdict = flag_option(
         alloc,
         "verdict",
-        "prints one wrong run alone, or that there is none; no cells are needed, and fewer states",
+        "prints the simplest wrong run alone, or that there is none; no cells are needed, and fewer states",
     );
     with_option(command, verdict)
 }

@@ -1,2 +1,4 @@
 pub mod Exchanged
 pub mod Laws
+pub mod Doubles
+pub mod DoubleLaws

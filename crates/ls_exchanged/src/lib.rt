@@ -1,4 +1,9 @@
-//! A program with two threads exchanged: its histories are the same with these exchanged, and so are its verdicts.
+//! Programs with two threads exchanged: their histories are the same with these exchanged, and so are their verdicts.
 #![tactic(auto)]
 
+mod calls;
+pub mod doubles;
+mod exchanges;
 pub mod laws;
+
+pub use exchanges::are_doubles;

@@ -3,3 +3,4 @@ pub mod Spots
 pub mod Sentences
 pub mod Explanations
 pub mod Named
+pub mod Limits

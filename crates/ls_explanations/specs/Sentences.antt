@@ -18,6 +18,7 @@ use Rattle.ls_orders.specs.declared.fault.OrderFault.TheVariants as order
 use Rattle.ls_tallies_reading.specs.declared.fault.TallyFault.TheVariants as tally
 use Rattle.ls_faults.specs.declared.fault.ToolFault.{ToolFault}
 use Rattle.ls_faults.specs.declared.fault.ToolFault.TheVariants as faults
+use Rattle.ls_explanations.specs.Limits.{limit_sentence}
 use Rattle.ls_lessons.specs.Tokens.{Bytes, byte_at}
 use Rattle.ls_lessons.specs.Lessons.{byte_lesson, call_lesson, name_lesson, syntax_lesson, type_lesson}
 
@@ -98,4 +99,4 @@ sentence (faults.Tally (tally.BadTally at)) classes = codes
 sentence faults.BadOptions classes = codes "these options don't go together, or not with so many parts\n"
 sentence (faults.BadEntry at) classes =
     codes "expected calls of the class without the object, as `lock(#); unlock(#)`: `#` is the thread's number\n"
-sentence _ classes = []
+sentence f classes = limit_sentence f

@@ -3,6 +3,7 @@
 #![tactic(auto)]
 
 mod explaining;
+mod limit;
 mod named;
 mod place;
 mod sentence;

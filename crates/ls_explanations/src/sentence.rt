@@ -5,6 +5,7 @@ ghost use Rattle.ls_explanations.specs.Sentences.{aim_sentence, check_sentence, 
 ghost use Rattle.ls_explanations.specs.Sentences.{schedule_sentence, sentence, text_sentence};
 ghost use Rattle.ls_lessons.specs.Tokens.{byte_at};
 
+use crate::limit::limit_sentence;
 use ls_aim::fault::AimFault;
 use ls_faults::fault::ToolFault;
 use ls_lessons::{byte_at, byte_lesson, call_lesson, name_lesson, syntax_lesson, type_lesson};
@@ -143,6 +144,6 @@ pub(crate) fn sentence(fault: ToolFault, classes: &[u8]) -> &'static str
             "expected calls of the class without the object, as `lock(#); unlock(#)`: `#` is the thread's number\n"
         }
         ToolFault::BadOptions => "these options don't go together, or not with so many parts\n",
-        _ => "",
+        other => limit_sentence(other),
     }
 }

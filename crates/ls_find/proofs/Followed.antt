@@ -7,8 +7,8 @@ use Rattle.ls_exchanged.specs.Exchanged.{HaveNamesByPlace, name_in}
 use Rattle.ls_exchanged.specs.Laws.{ExchangedIsLegal, ExchangedIsLinearizable, ExchangedNeverTurns, ExchangedNeverWaits}
 use Rattle.ls_image.specs.Images.{Compiles, checked_of}
 use Rattle.ls_image.specs.declared.image.Image.{Image}
-use Rattle.ls_program_doubles.specs.Doubles.{AreDoubles}
-use Rattle.ls_program_doubles.specs.Laws.{DoublesAreExchanged, DoublesHaveNames}
+use Rattle.ls_exchanged.specs.Doubles.{AreDoubles}
+use Rattle.ls_exchanged.specs.DoubleLaws.{DoublesAreExchanged, DoublesHaveNames}
 use Rattle.ls_text_laws.proofs.Names.{program_names}
 use Rattle.ls_translation.specs.Texts.{file_of, program_of}
 use Rattle.ls_types.specs.CheckedFile.{outcome_of}

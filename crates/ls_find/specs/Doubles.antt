@@ -3,7 +3,7 @@ use Rattle.ls_find.specs.Found.{IsSound, Text}
 use Rattle.ls_find.specs.declared.sought.Sought.{Sought}
 use Rattle.ls_image.specs.Images.{Compiles}
 use Rattle.ls_image.specs.declared.image.Image.{Image}
-use Rattle.ls_program_doubles.specs.Doubles.{AreDoubles}
+use Rattle.ls_exchanged.specs.Doubles.{AreDoubles}
 use Rattle.ls_translation.specs.Texts.{program_of}
 
 -- If a program is another with two threads exchanged, it is sound if that one is.

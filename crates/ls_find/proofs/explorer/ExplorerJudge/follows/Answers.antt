@@ -1,7 +1,7 @@
 use Rattle.std.proofs.Common.{subst}
 use Rattle.ls_checked.specs.PlainProgram.{plain_program}
 use Rattle.ls_image.specs.Images.{program_of_image}
-use Rattle.ls_program_doubles.specs.Doubles.{AreDoubles}
+use Rattle.ls_exchanged.specs.Doubles.{AreDoubles}
 use Rattle.ls_find.proofs.explorer.ExplorerJudge.follows.Goals as goal
 
 pub returns : goal.returns

@@ -1,0 +1,5 @@
+use Rattle.ls_exchanged.proofs.Places.{doubles_are_exchanged}
+use Rattle.ls_exchanged.proofs.doubles.doubles_are_exchanged.Goals as goal
+
+pub returns : goal.returns
+returns c = doubles_are_exchanged

@@ -1,4 +1,0 @@
-pub mod Same
-pub mod Named
-pub mod Below
-pub mod Places

@@ -1,6 +1,0 @@
-use Rattle.std.proofs.Common.{◌≡◌, map, take}
-use Rattle.ls_program_doubles.proofs.Named.{name_in}
-use Rattle.ls_program_doubles.proofs.exchanges.same_thread_names.Given as goal
-
-abbrev pub invariant-loop-i : goal.invariant-loop-i
-invariant-loop-i l = take l.i (map name_in l.first) ≡ take l.i (map name_in l.second)
