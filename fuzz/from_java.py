@@ -20,8 +20,8 @@ from tool import PROGRAM, TOP
 
 SCRIPT = f"{TOP}/scripts/make/from-java"
 TEXTS = f"{TOP}/tests/from-java"
-# Texts that name what isn't there, and the fault with which `compile` says so.
-LEFT = {"04-BoundedQueue-book": 12, "11-Peterson": 10, "13-BoundedBufferWaitNotify": 10}
+# Texts of which something is left, and the fault with which `compile` says so.
+LEFT = {"Left": 12}
 # Methods that are added to a class, so that calls can be made and what they leave can be seen.
 PROBES = {
     "02": "public void put(int k) { Node n = new Node(k); n.next = head.next; head.next = n; }",
@@ -60,6 +60,7 @@ CALLS = {
     "18": ("TASLock", "unlock|held|trying|swap"), "19": ("Table", "eat {0..4}|eat {0..4}|eat {-1..5}"),
     "20": ("Cell", "read|write {0..9}"), "21": ("Singleton", "made|once"), "22": ("FineList", "add {0..5}"),
     "23": ("TwoLockQueue", "enqueue {0..9}|dequeue"), "24": ("LockFreeStack", "push {0..9}|pop"),
+    "25": ("BufferConditions", "offer {0..9}|poll|size"), "26": ("Latch", "down|left|passed|tryAwait {0..3}"),
     "Rules": ("Rules", "push {0..3}|pop|grow {0..3}|put {0..5}|take|post|pre|both {0..3}|loop {0..9}|sum {0..5}|"
               "minus {0..3}|down|idx {-1..5}|safe {0..2}|sign {-1..1}|pick {0..3}|swap {0..3} {0..3}|locked|"
               "spread {0..4}|chain {0..4}|bump|bump"),
