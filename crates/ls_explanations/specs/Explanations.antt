@@ -10,6 +10,7 @@ use Rattle.ls_faults.specs.declared.fault.ToolFault.TheVariants as faults
 use Rattle.ls_explanations.specs.declared.place.Part.{Part}
 use Rattle.ls_explanations.specs.declared.place.Part.TheVariants as parts
 use Rattle.ls_explanations.specs.declared.place.Place.{Place}
+use Rattle.ls_explanations.specs.Mismatches.{details}
 use Rattle.ls_explanations.specs.Places.{place_of}
 use Rattle.ls_explanations.specs.Sentences.{sentence}
 use Rattle.ls_explanations.specs.Spots.{Bytes, before, begins_character, characters, from_on, line_number}
@@ -88,8 +89,12 @@ abbrev pub counted : ToolFault → ℕ → Bytes
 counted faults.WrongParts count = codes "parts of this input: " ++ (decimal count ++ codes "\n")
 counted _ count = []
 
+-- what is wrong, and what to write in its place
+abbrev pub whole_sentence : ToolFault → List Bytes → Bytes
+whole_sentence f texts = sentence f (part_text texts 0) ++ details f (part_text texts 0) (part_text texts 1)
+
 -- What is said of a fault of these parts: where it is, if it has a place, and what is wrong there.
 abbrev pub note : ToolFault → List Bytes → Bytes
 note f texts =
     option_map_or (in_part texts) (place_of f) []
-    ++ (sentence f (part_text texts 0) ++ (counted f (length texts) ++ hint f texts))
+    ++ (whole_sentence f texts ++ (counted f (length texts) ++ hint f texts))

@@ -1,6 +1,9 @@
 pub mod Places
 pub mod Spots
 pub mod Sentences
+pub mod Mismatches
 pub mod Explanations
 pub mod Named
 pub mod Limits
+pub mod Held
+pub mod OrderNotes

@@ -14,9 +14,8 @@ use Rattle.ls_explanations.specs.declared.place.Part.{Part}
 use Rattle.ls_explanations.specs.declared.place.Part.TheVariants as parts
 use Rattle.ls_explanations.specs.declared.place.Place.{Place}
 use Rattle.ls_explanations.specs.Places.{place_of}
-use Rattle.ls_explanations.specs.Sentences.{sentence}
 use Rattle.ls_explanations.specs.Spots.{Bytes, before, characters}
-use Rattle.ls_explanations.specs.Explanations.{hint, part_number, part_text, shown}
+use Rattle.ls_explanations.specs.Explanations.{hint, part_number, shown, whole_sentence}
 
 -- the part in which a fault is, also where it has no place in that part
 abbrev pub part_of_fault : ToolFault → Option Part
@@ -86,7 +85,7 @@ abbrev pub named_sentence : Bytes → List Bytes → ToolFault → Bytes
 named_sentence wanted texts faults.WrongParts =
     codes "expected " ++ (wanted ++ (codes ", found " ++ (decimal (length texts) ++ codes "\n")))
 named_sentence wanted texts faults.NotText = codes "this byte isn't UTF-8\n"
-named_sentence wanted texts f = sentence f (part_text texts 0)
+named_sentence wanted texts f = whole_sentence f texts
 
 -- a sentence has its line feed
 abbrev pub said : Bytes → Bytes

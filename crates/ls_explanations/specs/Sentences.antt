@@ -39,9 +39,8 @@ rule_sentence rules.UnknownName classes at = name_lesson classes at
 rule_sentence rules.TwiceDeclared classes at =
     codes "this name is declared twice: use another. A class has one method of a name, and one constructor\n"
 rule_sentence rules.UnknownType classes at = type_lesson classes at
-rule_sentence rules.WrongType classes at =
-    codes "mismatched types: this has another type than is expected here, or it has no value\n"
-rule_sentence rules.WrongArguments classes at = call_lesson classes at
+rule_sentence (rules.WrongType m) classes at = codes "mismatched types: "
+rule_sentence (rules.WrongArguments c) classes at = call_lesson classes at
 rule_sentence rules.NotAssignable classes at =
     codes "this can't be assigned: only a local, a field or an element can\n"
 rule_sentence rules.NoLoop classes at = codes "`break` and `continue` are only allowed in a loop\n"
@@ -62,8 +61,7 @@ program_sentence program.ProgramLimit = codes
     "too many: a program has at most 262,144 bytes, 64 threads, and 256 calls of each and of the setup\n"
 program_sentence (program.BadProgram at) =
     codes "expected `setup { .. }` and then `thread NAME { .. }` as often as wanted, with calls as `s.m(1);`\n"
-program_sentence (program.UnknownThing at) =
-    codes "cannot find a class, a setup name or a method of this name, or the arguments don't fit it\n"
+program_sentence (program.UnknownThing at) = []
 program_sentence (program.ReferenceResult at) =
     codes "this method returns a reference: call one that returns an `int`, a `boolean` or nothing\n"
 
@@ -84,7 +82,7 @@ aim_sentence (aim.NotMet at) =
     codes "this thread ends or waits before a step with this text: `trace` shows the text of each step\n"
 aim_sentence (aim.TooFar at) = codes "this thread doesn't come to it before the schedule has 1,000,000 steps\n"
 
--- the class text is the first part, if there is one
+-- The class text is the first part, if there is one. Types, numbers of arguments and what a program names come after this: `details`.
 abbrev pub sentence : ToolFault → Bytes → Bytes
 sentence (faults.Text f) classes = text_sentence f classes
 sentence (faults.Check f) classes = check_sentence f classes

@@ -4,7 +4,9 @@ ghost use Rattle.std.specs.Prelude.{◌≡◌, ◌++◌, IfOk, OnOk, length, map
 ghost use Rattle.std.specs.List.{flat_map, list_any};
 ghost use Rattle.ls_explanations.specs.Explanations.{counted, explanation, has_return, heading, hint, in_part, marks};
 ghost use Rattle.ls_explanations.specs.Explanations.{minds_returns, note, part_text, shown, space_below};
+ghost use Rattle.ls_explanations.specs.Explanations.{whole_sentence};
 
+use crate::mismatch::push_details;
 use crate::place::{Part, Place, place_of};
 use crate::sentence::sentence;
 use crate::spot::{Spot, begins_character, characters, spot_of};
@@ -94,13 +96,28 @@ pub(crate) fn count_of(texts: &[String]) -> usize
 }
 
 /// A part, or nothing if there is none.
-pub(crate) fn part_text(texts: &[String], number: usize) -> &[u8]
+pub(crate) fn part_text(texts: &[String], number: usize) -> &str
     ensures { result.now ≡ part_text (map string_bytes texts.now) number }
 {
     match texts.get(number) {
-        Some(text) => text.as_bytes(),
-        None => b"".as_slice(),
+        Some(text) => text.as_str(),
+        None => "",
     }
+}
+
+/// What is wrong, and what to write in its place. The only refusal is that memory ran out.
+pub(crate) fn whole_sentence(
+    alloc: Global,
+    fault: ToolFault,
+    texts: &[String],
+) -> Result<Vec<u8>, AllocError>
+    ensures { IfOk result (λ bytes. bytes.items ≡ whole_sentence fault (map string_bytes texts.now)) }
+{
+    let mut out = Vec::new(alloc);
+    let classes = part_text(texts, 0);
+    out.extend_from_slice(sentence(fault, classes.as_bytes()).as_bytes())?;
+    push_details(alloc, &mut out, fault, classes, part_text(texts, 1))?;
+    Ok(out)
 }
 
 /// Adds what is said of a place in its part, if the part exists.
@@ -115,7 +132,7 @@ fn push_in_part(
     let count = count_of(texts);
     let number = place.part.number(count);
     if number < count {
-        push_explanation(alloc, out, place, part_text(texts, number))
+        push_explanation(alloc, out, place, part_text(texts, number).as_bytes())
     } else {
         Ok(())
     }
@@ -180,7 +197,8 @@ pub fn explain(alloc: Global, fault: ToolFault, texts: &[String]) -> Result<Vec<
     if let Some(place) = place_of(fault) {
         push_in_part(alloc, &mut out, texts, place)?;
     }
-    out.extend_from_slice(sentence(fault, part_text(texts, 0)).as_bytes())?;
+    let said = whole_sentence(alloc, fault, texts)?;
+    out.extend_from_slice(said.as_slice())?;
     push_count(alloc, &mut out, fault, count_of(texts))?;
     push_hint(&mut out, fault, texts)?;
     Ok(out)

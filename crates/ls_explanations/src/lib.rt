@@ -1,14 +1,19 @@
-//! What `--explain` says after a fault's line: the line of the text, with a mark under the fault's place, and what to
-//! write there.
+//! What `--explain` says: after a fault's line the line of the text, with a mark under the fault's place, and what to
+//! write there; and after a verdict on an order why the order isn't legal.
 #![tactic(auto)]
 
+mod classes;
 mod explaining;
+mod held;
 mod limit;
+mod mismatch;
 mod named;
+mod noting;
 mod place;
 mod sentence;
 mod spot;
 
 pub use explaining::explain;
 pub use named::explain_named;
+pub use noting::order_note;
 pub use place::{Part, Place, place_of};

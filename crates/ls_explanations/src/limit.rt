@@ -120,7 +120,7 @@ fn class_limit(fault: ClassFault) -> &'static str
         ClassFault::NoMaking =>
             "the constructor takes a reference: write one that takes `int` and `boolean` alone, or nothing\n",
         ClassFault::NoCalls =>
-            "no method can be called: each is private, or takes or returns a reference; or the menu has no entry\n",
+            "no public method takes and returns only `int`, `boolean` or nothing: write one; or the menu has no entry\n",
         ClassFault::BadBounds =>
             "expected `--threads` 2 to 4, `--calls` 1 to 4, `--setup` at most 8, and `--values` 1 to 9\n",
         ClassFault::TooManyCalls =>

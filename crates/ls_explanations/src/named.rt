@@ -7,9 +7,8 @@ ghost use Rattle.ls_explanations.specs.Named.{file_name, in_input, input_span, n
 ghost use Rattle.ls_explanations.specs.Named.{part_of_fault, part_site, said, shown_in, site, site_of, span_in_input, start_of, title};
 ghost use Rattle.ls_explanations.specs.Named.{word};
 
-use crate::explaining::{count_of, part_text, push_hint, push_shown};
+use crate::explaining::{count_of, push_hint, push_shown, whole_sentence};
 use crate::place::{Part, Place, place_of};
-use crate::sentence::sentence;
 use crate::spot::{characters, spot_of};
 use ls_faults::fault::ToolFault;
 use ls_faults::line::fault_line;
@@ -200,7 +199,10 @@ fn push_sentence(
             push_said(out, text.as_bytes())
         }
         ToolFault::NotText => push_said(out, b"this byte isn't UTF-8\n".as_slice()),
-        other => push_said(out, sentence(other, part_text(texts, 0)).as_bytes()),
+        other => {
+            let text = whole_sentence(alloc, other, texts)?;
+            push_said(out, text.as_slice())
+        }
     }
 }
 

@@ -45,9 +45,8 @@ fn rule_sentence(rule: Rule, classes: &[u8], at: usize) -> &'static str
             "this name is declared twice: use another. A class has one method of a name, and one constructor\n"
         }
         Rule::UnknownType => type_lesson(classes, at),
-        Rule::WrongType =>
-            "mismatched types: this has another type than is expected here, or it has no value\n",
-        Rule::WrongArguments => call_lesson(classes, at),
+        Rule::WrongType(_) => "mismatched types: ",
+        Rule::WrongArguments(_) => call_lesson(classes, at),
         Rule::NotAssignable => "this can't be assigned: only a local, a field or an element can\n",
         Rule::NoLoop => "`break` and `continue` are only allowed in a loop\n",
         Rule::UnknownLabel => "cannot find this label: no loop around this has it\n",
@@ -80,9 +79,7 @@ fn program_sentence(fault: ProgramFault) -> &'static str
         ProgramFault::BadProgram { at: _ } => {
             "expected `setup { .. }` and then `thread NAME { .. }` as often as wanted, with calls as `s.m(1);`\n"
         }
-        ProgramFault::UnknownThing { at: _ } => {
-            "cannot find a class, a setup name or a method of this name, or the arguments don't fit it\n"
-        }
+        ProgramFault::UnknownThing { at: _ } => "",
         ProgramFault::ReferenceResult { at: _ } => {
             "this method returns a reference: call one that returns an `int`, a `boolean` or nothing\n"
         }
@@ -122,7 +119,7 @@ fn aim_sentence(fault: AimFault) -> &'static str
     }
 }
 
-/// What is said of a fault in a sentence or two. `classes` is the class text, which is the first part of the input, if
+/// What is said of a fault in a sentence or two, as far as it is the same for all types and numbers of arguments. `classes` is the class text, which is the first part of the input, if
 /// there is one.
 pub(crate) fn sentence(fault: ToolFault, classes: &[u8]) -> &'static str
     ensures { result.now ≡ sentence fault classes.now }

@@ -78,11 +78,9 @@ class_lesson name =
 abbrev pub type_lesson : Bytes → ℕ → Bytes
 type_lesson text at = class_lesson (front_name (drop at text))
 
--- of a call with another number of arguments than there are parameters
+-- of a call with another number of arguments than there are parameters, if its name says why
 abbrev pub call_lesson : Bytes → ℕ → Bytes
-call_lesson text at =
-    or_else (pair_lesson (called_name (drop at text)))
-    (codes "this call has another number of arguments than the declaration has parameters\n")
+call_lesson text at = pair_lesson (called_name (drop at text))
 
 -- of a name that names nothing there
 abbrev pub name_lesson : Bytes → ℕ → Bytes

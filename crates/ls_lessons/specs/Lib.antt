@@ -4,3 +4,4 @@ pub mod Types
 pub mod Names
 pub mod Signs
 pub mod Lessons
+pub mod Programs

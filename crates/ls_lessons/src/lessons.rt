@@ -134,15 +134,12 @@ pub fn type_lesson(text: &[u8], at: usize) -> &'static str
     class_lesson(front_name(left))
 }
 
-/// What is said of a call with another number of arguments (14).
+/// What is said of a call with another number of arguments (14), if its name says why; else nothing.
 pub fn call_lesson(text: &[u8], at: usize) -> &'static str
     ensures { result.now ≡ call_lesson text.now at }
 {
     let Cut { gone: _, left } = cut_at(text, at);
-    or_else(
-        pair_lesson(called_name(left)),
-        "this call has another number of arguments than the declaration has parameters\n",
-    )
+    pair_lesson(called_name(left))
 }
 
 /// What is said of a name that names nothing there (10).

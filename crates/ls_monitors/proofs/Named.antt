@@ -14,6 +14,7 @@ use Rattle.ls_checked.specs.CheckedTree as checked
 use Rattle.ls_checked.specs.declared.tree.Operator.{Operator}
 use Rattle.ls_checked.specs.declared.tree.Operator.TheVariants as operators
 use Rattle.ls_types_elaboration.specs.declared.known.FoundField.{FoundField}
+use Rattle.ls_types_elaboration.specs.declared.mismatch.Mismatch.TheVariants as mismatches
 use Rattle.ls_types_elaboration.specs.declared.rule.Rule.TheVariants as rules
 use Rattle.ls_types_elaboration.specs.declared.members.Makes.{Makes}
 use Rattle.ls_types_elaboration.specs.declared.members.Makes.TheVariants.{AnObject, ALock, AMarkable}
@@ -23,11 +24,11 @@ use Rattle.ls_types_elaboration.specs.Trees as parsed
 use Rattle.ls_types_elaboration.specs.Trees.{Text, Name, span_of}
 use Rattle.ls_types_elaboration.specs.Elaborated.{Elaborated, broken, with_ok}
 use Rattle.ls_types_elaboration.specs.Known.{Known, Local, local_named, field_of, method_of, number_of}
-use Rattle.ls_types_elaboration.specs.StaticTypes.{Typed, typed_as, as_type, as_value, as_array, is_void, comparable}
+use Rattle.ls_types_elaboration.specs.StaticTypes.{Typed, typed_as, as_type, as_value, as_array, is_void, comparable, of_type}
 use Rattle.ls_types_elaboration.specs.Members.{method_member, member_of, found, made, maker_of, markable_maker}
 use Rattle.ls_types_elaboration.specs.Operators.{unary_of, of_operands, computed, compared, binary_of}
 use Rattle.ls_types_elaboration.specs.TypedExpressions.{own_field, local_or, field_in, field_at, is_integer}
-use Rattle.ls_types_elaboration.specs.TypedExpressions.{integer_constant, typed, passed}
+use Rattle.ls_types_elaboration.specs.TypedExpressions.{counts, integer_constant, typed, passed}
 use Rattle.ls_types_elaboration.specs.TypedStatements.{Place, AtSlot, Variable, variable, variable_as, Counter, OfSlot}
 use Rattle.ls_types_elaboration.specs.TypedStatements.{counter}
 use Rattle.ls_types_laws.proofs.Results.{Gives, bind, after, either}
@@ -71,7 +72,8 @@ module _ (known : Known) (locals : List Local) where
       (named_each locals) is
 
   value_named : (span : Span) (x : Typed) → Named x → Gives Named (as_value span x)
-  value_named span x h = either Named (is_void x.static) (broken rules.WrongType span) (Ok x) (λ z. tt) (λ z. h)
+  value_named span x h = either Named (is_void x.static) (broken (rules.WrongType mismatches.NoValue) span) (Ok x)
+      (λ z. tt) (λ z. h)
 
   unary_named : (op : UnaryOp) (span : Span) (x : Typed) → Gives Named (unary_of op span x)
   unary_named unary.Minus span x = after Named (as_type types.Int span x) _ (λ e. tt)
@@ -93,7 +95,8 @@ module _ (known : Known) (locals : List Local) where
   compared_named op span left right x y =
       after Named (as_value left x) _ (λ x. after Named (as_value right y) _ (λ y.
       either Named (comparable x.static y.static) (typed_as types.Boolean
-      (checked.Binary op x.expression y.expression)) (broken rules.WrongType span) (λ z. tt) (λ z. tt)))
+      (checked.Binary op x.expression y.expression))
+      (broken (rules.WrongType (mismatches.Operands x.static y.static)) span) (λ z. tt) (λ z. tt)))
 
   binary_named : (op : BinaryOp) (span left right : Span) (x y : Typed) → Gives Named (binary_of op span left right x y)
   binary_named written.Or span left right x y =
@@ -159,20 +162,20 @@ module _ (known : Known) (locals : List Local) where
       (λ x. field_named x.static x.expression n))
   typed_named (parsed.Call n es span) =
       after Named (found (method_member (method_of known known.own n.text)) n.span) _
-      (λ m. after Named (passed known locals m.parameters es span) _ (λ es. tt))
+      (λ m. after Named (passed known locals (counts m.parameters es) m.parameters es span) _ (λ es. tt))
   typed_named (parsed.CallOn target n es span) =
       after Named (typed known locals target) _ (λ x. after Named (found (member_of known x.static n.text) n.span) _
       (λ m.
-      after Named (passed known locals m.parameters es span) _ (λ es. tt)))
+      after Named (passed known locals (counts m.parameters es) m.parameters es span) _ (λ es. tt)))
   typed_named (parsed.Item array index span) =
       after Named (typed known locals array) _ (λ x. after Named (as_array (span_of array) x) _ (λ a.
       after Named (typed known locals index) _ (λ y. after Named (as_type types.Int (span_of index) y) _ (λ i. tt))))
   typed_named (parsed.New n es span) =
-      after Named (maker_of known n) _ (λ m. after Named (passed known locals m.parameters es span) _
+      after Named (maker_of known n) _ (λ m. after Named (passed known locals (counts m.parameters es) m.parameters es span) _
       (λ es. made_named m.makes es))
   typed_named (parsed.NewMarkable n es span) =
       after Named (markable_maker (number_of known.names n.text) n.span) _
-      (λ m. after Named (passed known locals m.parameters es span) _ (λ es. made_named m.makes es))
+      (λ m. after Named (passed known locals (counts m.parameters es) m.parameters es span) _ (λ es. made_named m.makes es))
   typed_named (parsed.NewArray length span) =
       after Named (typed known locals length) _ (λ x. after Named (as_type types.Int (span_of length) x) _ (λ n. tt))
 
@@ -212,7 +215,8 @@ counter_named locals s (checked.Slot n) (Of types.Int) h =
     either (CounterIsNamed locals) (nat_eq n 0) (broken rules.NotAssignable s) (Ok (OfSlot n)) (λ z. tt)
     (λ z. h (not_this n z))
 counter_named locals s (checked.Slot n) (Of t) h =
-    either (CounterIsNamed locals) (nat_eq n 0) (broken rules.NotAssignable s) (broken rules.WrongType s) (λ z. tt)
+    either (CounterIsNamed locals) (nat_eq n 0) (broken rules.NotAssignable s)
+    (broken (of_type types.Int (Of t)) s) (λ z. tt)
     (λ z. tt)
 counter_named locals s (checked.Field e c f) (Of types.Int) h = tt
 counter_named locals s (checked.Field e c f) (Of t) h = tt

@@ -1,7 +1,7 @@
 -- From what a layer answers to what a run does.
 use Rattle.std.specs.Prelude.{IfSome, String, string_bytes, if◌then◌else◌}
 use Rattle.std.proofs.Common.{ℕ, ◌≡◌, ◌∙◌, ◌⊎◌, inl, inr, ap, sym, List, [], Bool, true, false, refl, subst, Option, Some, None}
-use Rattle.std.proofs.Common.{Result, Ok, Err}
+use Rattle.std.proofs.Common.{Result, Ok, Err, ◌==◌, ◌∷◌, arith, eqb-true, length}
 use Rattle.std.specs.Global.{Global}
 use Rattle.std.specs.Io.KnownBytes.{Appends, Keeps}
 use Rattle.clap.specs.declared.error.Error.{Error}
@@ -26,8 +26,9 @@ use Rattle.ls_tool.specs.declared.said.Said.{Said}
 use Rattle.ls_tool.specs.declared.said.Telling.{Telling}
 use Rattle.ls_tool.specs.declared.said.Telling.TheVariants as tellings
 use Rattle.ls_tool.specs.Output.{IsEnding, IsTaken, Left, OfInput, OutOfMemory, Prints, Progressed, Progresses}
-use Rattle.ls_tool.specs.Output.{ReaderFailed, ReadsAfterWords, RefusesAs, Responds, Silent, Tells, TellsFirst}
-use Rattle.ls_tool.specs.Output.{Unreadable, Usage, WriterFailed, is_bare, left, noted, progress_text, refused_words, told}
+use Rattle.ls_tool.specs.Output.{NotesAs, ReaderFailed, ReadsAfterWords, Refused, RefusesAs, Responds, Silent, Tells}
+use Rattle.ls_tool.specs.Output.{TellsFirst, Unreadable, Usage, WriterFailed}
+use Rattle.ls_tool.specs.Output.{is_bare, left, noted, progress_text, refused_words, told}
 
 -- what follows of an input's answer
 pub if_known : (o : Option Text) (P Q : Text → Type 0) → ((x : Text) → P x → Q x) → OfInput o P → OfInput o Q
@@ -47,12 +48,15 @@ pub of_bytes : (o : Option Text) (bytes : Text) (Q : Text → Type 0) →
 of_bytes None bytes Q e h = (bytes, h)
 of_bytes (Some x) bytes Q e h = subst Q e h
 
-pub decide_ok : (words : List Text) (input : Text) (l : CommandLine) (text : String Global) (status : ℕ) →
-    Asks words (Some l) → status ≡ status_for l.request (string_bytes text)
-    → GivesText (AnswersText (names_in words) l.request input) (Ok text) →
-    Decides words input (Ok (record { text = text; status = status }))
-decide_ok words input l text status e is h = subst (λ n. IsEnding words input (Prints n (string_bytes text))) (sym is)
-    (Answered l (Ok (string_bytes text)) e h)
+pub decide_ok : (words : List Text) (input : Text) (l : CommandLine) (text beside : String Global) (status : ℕ) →
+    Asks words (Some l) →
+    status ≡ status_for l.request (string_bytes text) →
+    AnswersText (names_in words) l.request input (Ok (string_bytes text)) →
+    NotesAs (names_in words) l input (Ok (string_bytes beside)) →
+    Decides words input (Ok (record { text = text; beside = beside; status = status }))
+decide_ok words input l text beside status e is h n =
+    subst (λ k. IsEnding words input (Prints k (string_bytes text) (string_bytes beside))) (sym is)
+    (Answered l (string_bytes text) (string_bytes beside) e h n)
 
 -- a fault other than want of memory is one that may be given
 given : (May : Result Text ToolFault → Type 0) (f : ToolFault) →
@@ -89,7 +93,7 @@ asked : (words : List Text) (input : Text) (l : CommandLine) (f : ToolFault) →
     Asks words (Some l) →
     AnswersText (names_in words) l.request input (Err f)
     → IsEnding words input (Tells (told (names_in words) l f input))
-asked words input l f e h = Answered l (Err f) e h
+asked words input l f e h = Refused l f e h
 
 -- where nothing is said of it, its line is told
 plain : (words : List Text) (input : Text) (l : CommandLine) (f g : ToolFault) → Asks words (Some l)
@@ -265,11 +269,12 @@ explains words input told exit out err s k t d = AsAsked (Tells told) d (s, k, t
 
 pub done : (words : List Text) (input : Text) (said : Said) (exit : Exit) (out err : Left) →
     exit.status ≡ said.status →
-    Keeps err.old err.new →
+    IsWritten (string_bytes said.beside) exit.is_told err.old err.new err.has_failed →
     Appends out.old out.new (string_bytes said.text) →
     Responds words input (Ok said) →
     Closes words input exit out err
-done words input said exit out err s k a d = AsAsked (Prints said.status (string_bytes said.text))
+done words input said exit out err s k a d =
+    AsAsked (Prints said.status (string_bytes said.text) (string_bytes said.beside))
     (is_decided words input (λ e. absurd (cc)) d) (s, a, k)
 
 pub cut_short : (words : List Text) (input : Text) (said : Said) (exit : Exit) (out err : Left) →
@@ -278,7 +283,8 @@ pub cut_short : (words : List Text) (input : Text) (said : Said) (exit : Exit) (
     IsWritten (fault_line fault.WriteFailed) exit.is_told err.old err.new err.has_failed →
     Responds words input (Ok said) →
     Closes words input exit out err
-cut_short words input said exit out err s b t d = WriterFailed said.status (string_bytes said.text)
+cut_short words input said exit out err s b t d =
+    WriterFailed said.status (string_bytes said.text) (string_bytes said.beside)
     (is_decided words input (λ e. absurd (cc)) d) (s, b.0, b.1, t)
 
 pub bad_line : (words : List Text) (input : Text) (e : Error) (exit : Exit) (out err : Left) →
@@ -287,6 +293,14 @@ pub bad_line : (words : List Text) (input : Text) (e : Error) (exit : Exit) (out
     Responds words input (Err (refusal.BadLine e)) →
     Closes words input exit out err
 bad_line words input e exit out err s k d = AsAsked Usage (is_decided words input (λ x. absurd (cc)) d) (s, k)
+
+-- no bytes
+pub nothing_there : (bytes : Text) → (length bytes == 0) ≡ true → bytes ≡ []
+nothing_there [] e = refl
+nothing_there (byte ∷ bytes) e =
+    let none : length (byte ∷ bytes) ≡ 0 = eqb-true (length (byte ∷ bytes)) 0 e in
+    let never : ⊥ = omega (arith, none) in
+    absurd never
 
 -- what is written at once: all, or a beginning
 pub all_written : (bytes : Text) (is_written : Bool) (old new : Option Text) (has_failed : Bool) →

@@ -1,4 +1,6 @@
+pub mod CheckNotes
 pub mod Ending
 pub mod Inputs
+pub mod Noting
 pub mod Statuses
 pub mod Telling

@@ -1,5 +1,5 @@
 -- What the program writes, for its words and its input.
-use Rattle.std.specs.Prelude.{◌≡◌, ◌≢◌, ◌+◌, ◌*◌, ℕ, List, [], ◌∷◌, ◌++◌, length, codes, Bool, MatchBool}
+use Rattle.std.specs.Prelude.{◌≡◌, ◌≢◌, ◌+◌, ◌*◌, ◌&&◌, ℕ, List, [], ◌∷◌, ◌++◌, length, codes, Bool, MatchBool}
 use Rattle.std.specs.Prelude.{true, false, not, Option, Some, None, Result, Ok, Err, String, string_bytes}
 use Rattle.std.specs.Prelude.{map, if◌then◌else◌}
 use Rattle.std.specs.Global.{Global}
@@ -42,6 +42,7 @@ use Rattle.ls_command_line.specs.declared.words.WordsFault.TheVariants as word_f
 use Rattle.ls_faults.specs.declared.fault.ToolFault.{ToolFault}
 use Rattle.ls_faults.specs.declared.fault.ToolFault.TheVariants as faults
 use Rattle.ls_tool.specs.Asked.{OnClass}
+use Rattle.ls_tool.specs.Notes.{is_noted, NotesOn}
 use Rattle.ls_tool.specs.Pages.{PagesOnFour, PagesOnThree, PagesOnTwo}
 use Rattle.ls_tool.specs.Wanted.{wanted_parts}
 use Rattle.ls_find_reports.specs.Statuses.{status_of}
@@ -177,15 +178,21 @@ abbrev pub status_for : Request → Text → ℕ
 status_for (requests.Find seeking) text = if seeking.check then status_of text else 0
 status_for other text = 0
 
--- What a run ends with: a text and a status, what is told of a fault, or no more than the command line's own text.
+-- what is told beside the text of a command: with `--explain` what the command says of its parts, and else nothing
+abbrev pub NotesText : Option (List Text) → Request → Text → Result Text ToolFault → Type 0
+NotesText names r input note = MatchBool (is_text input) (NotesOn r (parts_of (read_as names input)) note)
+    (note ≡ Err faults.NotText)
+
+abbrev pub NotesAs : Option (List Text) → CommandLine → Text → Result Text ToolFault → Type 0
+NotesAs names l input note = MatchBool (l.explain && is_noted l.request) (NotesText names l.request input note)
+    (note ≡ Ok [])
+
+-- What a run ends with: a status, a text and what is told beside it; what is told of a fault; or no more than the
+-- command line's own text.
 pub data Ending : Type 0 where
-  Prints : (status : ℕ) → (text : Text) → Ending
+  Prints : (status : ℕ) → (text : Text) → (beside : Text) → Ending
   Tells : (told : Text) → Ending
   Usage : Ending
-
-abbrev pub ending_of : Option (List Text) → CommandLine → Text → Result Text ToolFault → Ending
-ending_of names l input (Ok text) = Prints (status_for l.request text) text
-ending_of names l input (Err f) = Tells (told names l f input)
 
 -- the words before the names of files ask for this, or for nothing
 abbrev pub Asks : List Text → Option CommandLine → Type 0
@@ -194,10 +201,15 @@ Asks words line = AsksFor (asking words) line
 -- what the words and the input ask for
 pub data IsEnding (words : List Text) (input : Text) : Ending → Type 0 where
   BadLine : Asks words None → IsEnding words input Usage
-  Answered : (l : CommandLine) (answer : Result Text ToolFault) →
+  Answered : (l : CommandLine) (text beside : Text) →
       Asks words (Some l) →
-      AnswersText (names_in words) l.request input answer
-      → IsEnding words input (ending_of (names_in words) l input answer)
+      AnswersText (names_in words) l.request input (Ok text) →
+      NotesAs (names_in words) l input (Ok beside) →
+      IsEnding words input (Prints (status_for l.request text) text beside)
+  Refused : (l : CommandLine) (f : ToolFault) →
+      Asks words (Some l) →
+      AnswersText (names_in words) l.request input (Err f) →
+      IsEnding words input (Tells (told (names_in words) l f input))
 
 -- ---- what the code answers
 
@@ -226,7 +238,8 @@ IsTaken other = Unit {0}
 
 -- it is an ending of the words and the input, or memory ran out
 abbrev pub Decides : List Text → Text → Result Said Refusal → Type 0
-Decides words input (Ok said) = IsEnding words input (Prints said.status (string_bytes said.text))
+Decides words input (Ok said) =
+    IsEnding words input (Prints said.status (string_bytes said.text) (string_bytes said.beside))
 Decides words input (Err (refusals.BadLine e)) = IsEnding words input Usage
 Decides words input (Err (refusals.Fault faults.Memory)) = Unit {0}
 Decides words input (Err (refusals.Fault f)) = IsEnding words input (Tells (fault_line f))
@@ -324,9 +337,11 @@ pub record Left : Type 0 where
 abbrev pub left : Option Text → Option Text → Bool → Left
 left old new has_failed = record { old = old; new = new; has_failed = has_failed }
 
--- its own status with the whole text, 1 with what is told of a fault, 2 for a bad command line
+-- its own status with the whole text and what is told beside it; 1 with what is told of a fault; 2 for a bad command
+-- line
 abbrev pub Shows : Ending → Exit → Left → Left → Type 0
-Shows (Prints status text) exit out err = (exit.status ≡ status) × Appends out.old out.new text × Keeps err.old err.new
+Shows (Prints status text beside) exit out err = (exit.status ≡ status) × Appends out.old out.new text ×
+    IsWritten beside exit.is_told err.old err.new err.has_failed
 Shows (Tells told) exit out err = (exit.status ≡ 1) × Keeps out.old out.new ×
     IsWritten told exit.is_told err.old err.new err.has_failed
 Shows Usage exit out err = (exit.status ≡ 2) × Keeps out.old out.new
@@ -348,8 +363,8 @@ pub data Closes (words : List Text) (input : Text) (exit : Exit) (out err : Left
       Asks words (Some l) →
       Shows (Tells (fault_line faults.ReadFailed)) exit out err →
       Closes words input exit out err
-  WriterFailed : (status : ℕ) (text : Text) →
-      IsEnding words input (Prints status text) →
+  WriterFailed : (status : ℕ) (text beside : Text) →
+      IsEnding words input (Prints status text beside) →
       CutShort text exit out err →
       Closes words input exit out err
 

@@ -12,9 +12,10 @@ ghost use Rattle.ls_tool.specs.Output.{Answers, AnswersInput, AnswersText, Asks,
 ghost use Rattle.ls_tool.specs.Output.{OnSamples, OnThree, OnTwo, names_of, read_as};
 
 use crate::explained::refusal_of;
+use crate::noted::said_of;
 use crate::pages::{page_on_four, page_on_three, page_on_two};
 use crate::refusal::Refusal;
-use crate::said::{Said, status_for};
+use crate::said::Said;
 use crate::views::{state_view, states_view, trace_view};
 use ls_command_line::{CommandLine, Request, Seeking, read_words};
 use ls_commands::batch::{Drawing, Sampling, batch};
@@ -421,10 +422,7 @@ pub(crate) fn answer_line<R: Threads + Wait + Sync, W: Watch>(
     ensures watched { GoesOn W.Since watch.old watch.new }
 {
     match answer_of(rt, alloc, line.request, names, input, watch) {
-        Ok(text) => {
-            let status = status_for(line.request, text.as_str());
-            Ok(Said { text, status })
-        }
+        Ok(text) => said_of(alloc, line, names, text, input),
         Err(fault) => Err(refusal_of(alloc, line, names, fault, input)),
     }
 }

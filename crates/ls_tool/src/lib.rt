@@ -3,6 +3,7 @@
 
 pub mod answer;
 mod explained;
+mod noted;
 mod pages;
 mod programs;
 mod progress;

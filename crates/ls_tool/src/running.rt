@@ -30,8 +30,8 @@ use std::thread::Threads;
 pub struct Exit {
     /// The exit status.
     pub status: u8,
-    /// Whether all was told: the line of a fault, or what is wrong with the words, is written, or there was nothing to
-    /// tell. The line of a fault isn't whole only if the writer has failed.
+    /// Whether all was told: the line of a fault, what stands beside a text, or what is wrong with the words, is
+    /// written, or there was nothing to tell. What is told isn't whole only if the writer has failed.
     pub is_told: bool,
 }
 
@@ -49,6 +49,17 @@ fn tell<E: Outlet>(err: &mut E, told: &[u8]) -> Exit
 {
     let is_told = write_out(err, told);
     Exit { status: 1, is_told }
+}
+
+/// Writes what is told beside a text. Where that is nothing, the writer isn't touched.
+fn tell_beside<E: Outlet>(err: &mut E, beside: &[u8]) -> bool
+    ensures told { IsWritten beside.now result (E.contents err.old) (E.contents err.new) (E.has_failed err.new) }
+    ensures kept { E.has_failed err.old ≡ true → E.has_failed err.new ≡ true }
+{
+    if beside.is_empty() {
+        return true;
+    }
+    write_out(err, beside)
 }
 
 /// Writes the fault's line.
@@ -132,9 +143,10 @@ pub fn run<'a, H: Threads + Wait + Sync, R: Read, W: Outlet, E: Outlet>(
             if !write_out(out, said.text.as_bytes()) {
                 return tell_line(err, ToolFault::WriteFailed);
             }
+            let is_told = tell_beside(err, said.beside.as_bytes());
             Exit {
                 status: said.status,
-                is_told: true,
+                is_told,
             }
         }
         Err(Refusal::Fault(fault)) => tell_line(err, fault),

@@ -11,6 +11,8 @@ use std::alloc::AllocError;
 #[derive(Debug, Drop)]
 pub struct Said {
     pub text: String,
+    /// What is told beside the text, on standard error.
+    pub beside: String,
     pub status: u8,
 }
 

@@ -9,6 +9,7 @@ use Rattle.ls_tree.specs.declared.tree.BinaryOp.{BinaryOp}
 use Rattle.ls_tree.specs.declared.tree.BinaryOp.TheVariants as written
 use Rattle.ls_checked.specs.declared.tree.Operator.{Operator}
 use Rattle.ls_checked.specs.declared.tree.Operator.TheVariants as operators
+use Rattle.ls_types_elaboration.specs.declared.mismatch.Mismatch.TheVariants as mismatches
 use Rattle.ls_types_elaboration.specs.declared.rule.Rule.TheVariants.{WrongType}
 use Rattle.ls_checked.specs.CheckedTree as checked
 use Rattle.ls_types_elaboration.specs.Elaborated.{Elaborated, broken, with_ok}
@@ -40,7 +41,7 @@ compared op span left right x y =
     with_ok (as_value left x) (λ x. with_ok (as_value right y) (λ y.
     if comparable x.static y.static
     then typed_as Boolean (checked.Binary op x.expression y.expression)
-    else broken WrongType span))
+    else broken (WrongType (mismatches.Operands x.static y.static)) span))
 
 abbrev pub binary_of : BinaryOp → Span → Span → Span → Typed → Typed → Elaborated Typed
 binary_of written.Or span left right x y = of_operands Boolean (λ a b. typed_as Boolean (checked.Or a b)) left right x y

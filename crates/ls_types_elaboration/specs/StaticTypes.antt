@@ -4,6 +4,8 @@ use Rattle.ls_lexer.specs.declared.token.Span.{Span}
 use Rattle.ls_events.specs.declared.value.ValueType.{ValueType}
 use Rattle.ls_events.specs.declared.value.ValueType.TheVariants.{Int, Boolean, BooleanArray, Class, Lock, Markable}
 use Rattle.ls_checked.specs.CheckedTree as checked
+use Rattle.ls_types_elaboration.specs.declared.mismatch.Mismatch.TheVariants as mismatches
+use Rattle.ls_types_elaboration.specs.declared.rule.Rule.{Rule}
 use Rattle.ls_types_elaboration.specs.declared.rule.Rule.TheVariants.{WrongType}
 use Rattle.ls_types_elaboration.specs.declared.static_types.Static.{Static}
 use Rattle.ls_types_elaboration.specs.declared.static_types.Static.TheVariants.{Of, NullType, Void}
@@ -50,9 +52,13 @@ comparable NullType (Of t) = is_reference t
 comparable NullType NullType = true
 comparable _ _ = false
 
+-- a value of one type where another is wanted
+abbrev pub of_type : ValueType → Static → Rule
+of_type wanted found = WrongType (mismatches.Type wanted found)
+
 -- an expression where a value of a type is wanted
 abbrev pub as_type : ValueType → Span → Typed → Elaborated checked.Expression
-as_type t span x = if fits t x.static then Ok x.expression else broken WrongType span
+as_type t span x = if fits t x.static then Ok x.expression else broken (of_type t x.static) span
 
 abbrev pub is_void : Static → Bool
 is_void (Of t) = false
@@ -61,7 +67,7 @@ is_void Void = true
 
 -- an expression where any value is wanted (JLS 15.1)
 abbrev pub as_value : Span → Typed → Elaborated Typed
-as_value span x = if is_void x.static then broken WrongType span else Ok x
+as_value span x = if is_void x.static then broken (WrongType mismatches.NoValue) span else Ok x
 
 -- an array that is accessed; `null` is none (JLS 15.10.3)
 abbrev pub is_array : Static → Bool
@@ -69,4 +75,4 @@ is_array (Of BooleanArray) = true
 is_array _ = false
 
 abbrev pub as_array : Span → Typed → Elaborated checked.Expression
-as_array span x = if is_array x.static then Ok x.expression else broken WrongType span
+as_array span x = if is_array x.static then Ok x.expression else broken (of_type BooleanArray x.static) span

@@ -1,11 +1,12 @@
 -- Expressions: types, and what their names mean (JLS 6.5.6, 15).
 use Rattle.std.specs.Prelude.{ℕ, ◌+◌, ◌*◌, ◌-◌, ℤ, pos, negsuc, nat_lt, min, Bool, true, false, ◌&&◌, List, [], ◌∷◌}
-use Rattle.std.specs.Prelude.{Option, Some, None, Ok, codes, bytes_eq, if◌then◌else◌, is_none}
+use Rattle.std.specs.Prelude.{length, Option, Some, None, Ok, codes, bytes_eq, if◌then◌else◌, is_none}
 use Rattle.ls_lexer.specs.declared.token.Span.{Span}
 use Rattle.ls_events.specs.declared.value.Value.TheVariants as values
 use Rattle.ls_events.specs.declared.value.ValueType.{ValueType}
 use Rattle.ls_events.specs.declared.value.ValueType.TheVariants as types
 use Rattle.ls_checked.specs.CheckedTree as checked
+use Rattle.ls_types_elaboration.specs.declared.mismatch.Counts.{Counts}
 use Rattle.ls_types_elaboration.specs.declared.rule.Rule.TheVariants.{UnknownName, WrongArguments}
 use Rattle.ls_types_elaboration.specs.declared.known.FoundField.{FoundField}
 use Rattle.ls_types_elaboration.specs.declared.static_types.Static.{Static}
@@ -29,6 +30,15 @@ int_of_digits n = if nat_lt n 2147483648 then pos n else negsuc 2147483647
 
 abbrev pub number : Text → checked.Expression
 number text = checked.Literal (values.Int (int_of_digits (digits_value 0 text)))
+
+-- how many arguments there are
+abbrev pub argument_count : parsed.Expressions → ℕ
+argument_count parsed.End = 0
+argument_count (parsed.More e es) = argument_count es + 1
+
+-- how many arguments a call with these parameters wants, and how many it has
+abbrev pub counts : List ValueType → parsed.Expressions → Counts
+counts ts es = record { wanted = length ts; found = argument_count es }
 
 -- a field of the own class
 abbrev pub own_field : ℕ → Option FoundField → Span → Elaborated Typed
@@ -99,12 +109,12 @@ abbrev mutual
   -- a method of the own class (JLS 15.12)
   typed known locals (parsed.Call n es span) =
       with_ok (found (method_member (method_of known known.own n.text)) n.span) (λ m.
-      with_ok (passed known locals m.parameters es span) (call_of m (checked.Slot 0)))
+      with_ok (passed known locals (counts m.parameters es) m.parameters es span) (call_of m (checked.Slot 0)))
   -- a method of an object, by the static type of the target (JLS 15.12)
   typed known locals (parsed.CallOn target n es span) =
       with_ok (typed known locals target) (λ x.
       with_ok (found (member_of known x.static n.text) n.span) (λ m.
-      with_ok (passed known locals m.parameters es span) (call_of m x.expression)))
+      with_ok (passed known locals (counts m.parameters es) m.parameters es span) (call_of m x.expression)))
   -- array access (JLS 15.10.3)
   typed known locals (parsed.Item array index span) =
       with_ok (typed known locals array) (λ x. with_ok (as_array (span_of array) x) (λ a.
@@ -113,21 +123,29 @@ abbrev mutual
   -- making (JLS 15.9, 15.10.1)
   typed known locals (parsed.New n es span) =
       with_ok (maker_of known n) (λ m.
-      with_ok (passed known locals m.parameters es span) (λ es. typed_as m.type (made m.makes es)))
+      with_ok (passed known locals (counts m.parameters es) m.parameters es span) (λ es.
+      typed_as m.type (made m.makes es)))
   typed known locals (parsed.NewMarkable n es span) =
       with_ok (markable_maker (number_of known.names n.text) n.span) (λ m.
-      with_ok (passed known locals m.parameters es span) (λ es. typed_as m.type (made m.makes es)))
+      with_ok (passed known locals (counts m.parameters es) m.parameters es span) (λ es.
+      typed_as m.type (made m.makes es)))
   typed known locals (parsed.NewArray length span) =
       with_ok (typed known locals length) (λ x. with_ok (as_type types.Int (span_of length) x) (λ n.
       typed_as types.BooleanArray (checked.MakeArray n)))
 
   -- the arguments of a call, one for each parameter, each of a type that fits the parameter (JLS 15.12.2.2)
-  pub passed : Known → List Local → List ValueType → parsed.Expressions → Span → Elaborated checked.Expressions
-  passed known locals [] parsed.End span = Ok checked.End
-  passed known locals (t ∷ ts) (parsed.More e es) span =
+  pub passed : Known →
+      List Local →
+      Counts →
+      List ValueType →
+      parsed.Expressions →
+      Span →
+      Elaborated checked.Expressions
+  passed known locals n [] parsed.End span = Ok checked.End
+  passed known locals n (t ∷ ts) (parsed.More e es) span =
       with_ok (typed known locals e) (λ x. with_ok (as_type t (span_of e) x) (λ a.
-      with_ok (passed known locals ts es span) (λ rest. Ok (checked.More a rest))))
-  passed known locals _ _ span = broken WrongArguments span
+      with_ok (passed known locals n ts es span) (λ rest. Ok (checked.More a rest))))
+  passed known locals n _ _ span = broken (WrongArguments n) span
 
 -- an expression where a value of a type is wanted
 abbrev pub fitting : Known → List Local → ValueType → parsed.Expression → Elaborated checked.Expression

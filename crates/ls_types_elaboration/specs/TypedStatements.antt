@@ -9,6 +9,7 @@ use Rattle.ls_checked.specs.declared.tree.Operator.TheVariants as operators
 use Rattle.ls_checked.specs.CheckedTree as checked
 use Rattle.ls_types_elaboration.specs.declared.loops.LoopPart.{LoopPart}
 use Rattle.ls_types_elaboration.specs.declared.loops.LoopPart.TheVariants as parts
+use Rattle.ls_types_elaboration.specs.declared.mismatch.Mismatch.TheVariants as mismatches
 use Rattle.ls_types_elaboration.specs.declared.rule.Rule.{Rule}
 use Rattle.ls_types_elaboration.specs.declared.rule.Rule.TheVariants.{TwiceDeclared, WrongType, NotAssignable, NoLoop}
 use Rattle.ls_types_elaboration.specs.declared.rule.Rule.TheVariants.{UnknownLabel}
@@ -18,6 +19,7 @@ use Rattle.ls_types_elaboration.specs.Trees.{Text, Name, span_of}
 use Rattle.ls_types_elaboration.specs.Trees as parsed
 use Rattle.ls_types_elaboration.specs.Elaborated.{Elaborated, broken, with_ok, unless_broken, each}
 use Rattle.ls_types_elaboration.specs.Known.{Known, Local}
+use Rattle.ls_types_elaboration.specs.StaticTypes.{of_type}
 use Rattle.ls_types_elaboration.specs.TypedExpressions.{typed, fitting}
 use Rattle.ls_types_elaboration.specs.Scopes.{Body, Slots, with_unnamed, Scope, declaration}
 use Rattle.ls_types_elaboration.specs.Monitors.{synchronized}
@@ -130,10 +132,10 @@ pub data Counter : Type 0 where
 
 abbrev pub counter : Span → checked.Expression → Static → Elaborated Counter
 counter span (checked.Slot n) (Of types.Int) = if nat_eq n 0 then broken NotAssignable span else Ok (OfSlot n)
-counter span (checked.Slot n) (Of t) = if nat_eq n 0 then broken NotAssignable span else broken WrongType span
+counter span (checked.Slot n) (Of t) = if nat_eq n 0 then broken NotAssignable span else broken (of_type types.Int (Of t)) span
 counter span (checked.Field e c f) (Of types.Int) = Ok (OfField e f)
-counter span (checked.Field e c f) (Of t) = broken WrongType span
-counter span (checked.Item a i) (Of t) = broken WrongType span
+counter span (checked.Field e c f) (Of t) = broken (of_type types.Int (Of t)) span
+counter span (checked.Item a i) (Of t) = broken (of_type types.Int (Of t)) span
 counter span _ _ = broken NotAssignable span
 
 abbrev pub added : Counter → checked.Expression → checked.Statement
@@ -180,8 +182,8 @@ abbrev pub returned : Known →
     Span →
     Elaborated checked.Statement
 returned known locals None None span = Ok checked.ReturnNothing
-returned known locals (Some t) None span = broken WrongType span
-returned known locals None (Some e) span = broken WrongType (span_of e)
+returned known locals (Some t) None span = broken (WrongType (mismatches.NotReturned t)) span
+returned known locals None (Some e) span = broken (WrongType mismatches.Returned) (span_of e)
 returned known locals (Some t) (Some e) span = with_ok (fitting known locals t e) (λ v. Ok (checked.ReturnValue v))
 
 -- what has a monitor: an object of a class of the file (JLS 14.19)
@@ -191,7 +193,7 @@ pub record Monitor : Type 0 where
 
 abbrev pub monitor_of : Span → checked.Expression → Static → Elaborated Monitor
 monitor_of span e (Of (types.Class c)) = Ok (record { class = c; object = e })
-monitor_of span e _ = broken WrongType span
+monitor_of span e x = broken (WrongType (mismatches.NoObject x)) span
 
 abbrev pub monitor : Known → List Local → parsed.Expression → Elaborated Monitor
 monitor known locals e = with_ok (typed known locals e) (λ x. monitor_of (span_of e) x.expression x.static)

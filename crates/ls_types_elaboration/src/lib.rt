@@ -4,6 +4,7 @@
 pub mod known;
 pub mod loops;
 pub mod members;
+pub mod mismatch;
 pub mod numbers;
 pub mod outcome;
 pub mod rule;

@@ -3,6 +3,7 @@
 ghost use Rattle.std.specs.Prelude.{◌≡◌};
 ghost use Rattle.ls_types_elaboration.specs.declared.rule.CheckFault.TheVariants as faults;
 
+use crate::mismatch::{Counts, Mismatch};
 use ls_lexer::token::Span;
 use std::alloc::{AllocError, AllocFailed};
 use thiserror::Error;
@@ -17,9 +18,9 @@ pub enum Rule {
     #[error("a type or made class that isn't there, or a constructor that isn't named as its class")]
     UnknownType,
     #[error("a value of another type than is wanted")]
-    WrongType,
+    WrongType(Mismatch),
     #[error("another number of arguments than is wanted")]
-    WrongArguments,
+    WrongArguments(Counts),
     #[error("a left side that is no local, field or element")]
     NotAssignable,
     #[error("a jump outside of any loop")]

@@ -7,6 +7,7 @@ ghost use Rattle.ls_types_elaboration.specs.StaticTypes.{typed_as as typing, as_
 ghost use Rattle.ls_types_elaboration.specs.StaticTypes.{as_array, result_type as the_result_type};
 ghost use Rattle.ls_types_elaboration.specs.Answers.{typed_of, plain_typed, plain_expression};
 
+use crate::mismatch::Mismatch;
 use crate::rule::{Broken, Rule, broken_at};
 use crate::together::passing;
 use ls_checked::tree::Expression;
@@ -14,7 +15,7 @@ use ls_events::value::ValueType;
 use ls_lexer::token::Span;
 
 /// The type of an expression, the type of `null`, or the "type" of a call of a void method (JLS 4.1, 15.1).
-#[derive(Clone, Copy)]
+#[derive(Clone, Copy, PartialEq, Eq)]
 pub enum Static {
     Of(ValueType),
     NullType,
@@ -79,10 +80,14 @@ pub fn comparable(x: Static, y: Static) -> bool
 pub fn as_type(t: ValueType, span: Span, x: Typed) -> Result<Expression, Broken>
     ensures { plain_expression result ≡ as_type t span (typed_of x) }
 {
+    let mismatch = Mismatch::Type {
+        wanted: t,
+        found: x.of,
+    };
     passing(
         x.expression,
         fits(t, x.of),
-        broken_at(Rule::WrongType, span),
+        broken_at(Rule::WrongType(mismatch), span),
     )
 }
 
@@ -100,7 +105,11 @@ pub fn as_value(span: Span, x: Typed) -> Result<Typed, Broken>
     ensures { plain_typed result ≡ as_value span (typed_of x) }
 {
     let value = !is_void(x.of);
-    passing(x, value, broken_at(Rule::WrongType, span))
+    passing(
+        x,
+        value,
+        broken_at(Rule::WrongType(Mismatch::NoValue), span),
+    )
 }
 
 fn is_array(x: Static) -> bool
@@ -116,10 +125,14 @@ fn is_array(x: Static) -> bool
 pub fn as_array(span: Span, x: Typed) -> Result<Expression, Broken>
     ensures { plain_expression result ≡ as_array span (typed_of x) }
 {
+    let mismatch = Mismatch::Type {
+        wanted: ValueType::BooleanArray,
+        found: x.of,
+    };
     passing(
         x.expression,
         is_array(x.of),
-        broken_at(Rule::WrongType, span),
+        broken_at(Rule::WrongType(mismatch), span),
     )
 }
 

@@ -16,6 +16,7 @@ ghost use Rattle.ls_types_expressions.specs.Views.{locals_of};
 ghost use Rattle.ls_types_elaboration.specs.Answers.{Gives, typed_of, member_of as known_member, plain_typed};
 ghost use Rattle.ls_types_tables.specs.ByName.{known_of};
 
+use crate::counting::counts_of;
 use crate::operators::{Spans, binary_of, unary_of};
 use crate::places::span_of;
 use crate::site::Site;
@@ -26,6 +27,7 @@ use ls_together::two;
 use ls_tree::tree::{BinaryOp, Expression as Parsed, Name};
 use ls_types_elaboration::known::{FoundField, local_named};
 use ls_types_elaboration::members::{Member, made};
+use ls_types_elaboration::mismatch::Counts;
 use ls_types_elaboration::numbers::digits_of;
 use ls_types_elaboration::rule::{Broken, CheckFault, Rule, broken_at, refused_at};
 use ls_types_elaboration::static_types::{
@@ -264,7 +266,8 @@ fn own_call(site: Site, n: &Name, arguments: &[Parsed], span: Span) -> Result<Ty
         (a_call (placed_name n.now) (placed_all arguments.now) span)) }
 {
     let m = own_member(site.alloc, site.known, n)?;
-    let es = passed(site, &m.parameters, arguments, span);
+    let counts = counts_of(&m.parameters, arguments);
+    let es = passed(site, counts, &m.parameters, arguments, span);
     let (m, es) = also(m, es)?;
     call_of(site.alloc, m, Expression::Slot(0), es)
 }
@@ -285,7 +288,8 @@ fn call_on(
     let x = typed(site, target)?;
     let m = member_of(site.alloc, site.known, x.of, n);
     let (x, m) = also(x, m)?;
-    let es = passed(site, &m.parameters, arguments, span);
+    let counts = counts_of(&m.parameters, arguments);
+    let es = passed(site, counts, &m.parameters, arguments, span);
     let ((x, m), es) = also((x, m), es)?;
     call_of(site.alloc, m, x.expression, es)
 }
@@ -313,7 +317,8 @@ fn making(site: Site, class: &Name, arguments: &[Parsed], span: Span) -> Result<
         (a_new (placed_name class.now) (placed_all arguments.now) span)) }
 {
     let m = maker_of(site.alloc, site.known, class)?;
-    let es = passed(site, &m.parameters, arguments, span);
+    let counts = counts_of(&m.parameters, arguments);
+    let es = passed(site, counts, &m.parameters, arguments, span);
     let (m, es) = also(m, es)?;
     Ok(typed_as(m.value_type, made(site.alloc, m.makes, es)?))
 }
@@ -325,7 +330,8 @@ fn markable(site: Site, class: &Name, arguments: &[Parsed], span: Span) -> Resul
         (a_new_markable (placed_name class.now) (placed_all arguments.now) span)) }
 {
     let m = markable_maker(site.alloc, site.known, class)?;
-    let es = passed(site, &m.parameters, arguments, span);
+    let counts = counts_of(&m.parameters, arguments);
+    let es = passed(site, counts, &m.parameters, arguments, span);
     let (m, es) = also(m, es)?;
     Ok(typed_as(m.value_type, made(site.alloc, m.makes, es)?))
 }
@@ -334,20 +340,21 @@ fn markable(site: Site, class: &Name, arguments: &[Parsed], span: Span) -> Resul
 #[cycle(expressions)]
 fn passed(
     site: Site,
+    counts: Counts,
     types: &[ValueType],
     es: &[Parsed],
     span: Span,
 ) -> Result<Expressions, CheckFault>
     ensures { Gives all_plain result
-        (passed (known_of site.entry.known) (locals_of site.entry) types.now (placed_all es.now) span) }
+        (passed (known_of site.entry.known) (locals_of site.entry) counts types.now (placed_all es.now) span) }
 {
     match (types, es) {
         ([], []) => Ok(Expressions::End),
-        ([], [_first, ..]) => Err(refused_at(Rule::WrongArguments, span)),
-        ([_, ..], []) => Err(refused_at(Rule::WrongArguments, span)),
+        ([], [_first, ..]) => Err(refused_at(Rule::WrongArguments(counts), span)),
+        ([_, ..], []) => Err(refused_at(Rule::WrongArguments(counts), span)),
         ([t, ts @ ..], [e, es @ ..]) => {
             let a = fitting(site, *t, e)?;
-            let rest = passed(site, ts, es, span);
+            let rest = passed(site, counts, ts, es, span);
             let (a, rest) = also(a, rest)?;
             let (a, rest) = two(site.alloc, a, rest)?;
             Ok(Expressions::More(a, rest))

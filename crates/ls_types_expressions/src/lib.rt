@@ -2,6 +2,7 @@
 #![tactic(auto)]
 
 pub mod assignments;
+mod counting;
 pub mod expressions;
 pub mod operators;
 pub mod places;

@@ -5,6 +5,7 @@ ghost use Rattle.ls_tree.specs.declared.tree.BinaryOp.TheVariants.{And as and_wr
 ghost use Rattle.ls_types_elaboration.specs.Operators.{unary_of, binary_of, computed, compared};
 ghost use Rattle.ls_types_elaboration.specs.StaticTypes.{comparable, Typed as the_typed};
 ghost use Rattle.ls_types_elaboration.specs.Elaborated.{Elaborated, broken};
+ghost use Rattle.ls_types_elaboration.specs.declared.mismatch.Mismatch.TheVariants as mismatches;
 ghost use Rattle.ls_types_elaboration.specs.declared.rule.Rule.TheVariants.{WrongType};
 ghost use Rattle.ls_types_elaboration.specs.Answers.{Gives, typed_of, unless_refused};
 
@@ -13,6 +14,7 @@ use ls_events::value::ValueType;
 use ls_lexer::token::Span;
 use ls_together::two;
 use ls_tree::tree::{BinaryOp, UnaryOp};
+use ls_types_elaboration::mismatch::Mismatch;
 use ls_types_elaboration::rule::{Broken, CheckFault, Rule, broken_at};
 use ls_types_elaboration::static_types::{Static, Typed, as_type, as_value, comparable, typed_as};
 use ls_types_elaboration::together::also;
@@ -67,13 +69,14 @@ fn computed(
 }
 
 fn may_compare(span: Span, x: Static, y: Static) -> Result<(), Broken>
-    ensures { (go : Elaborated the_typed) → (if comparable x y then go else broken WrongType span) ≡
+    ensures { (go : Elaborated the_typed) → (if comparable x y then go else broken (WrongType (mismatches.Operands x y)) span) ≡
         unless_refused result go }
 {
     if comparable(x, y) {
         Ok(())
     } else {
-        Err(broken_at(Rule::WrongType, span))
+        let mismatch = Mismatch::Operands { left: x, right: y };
+        Err(broken_at(Rule::WrongType(mismatch), span))
     }
 }
 

@@ -5,7 +5,10 @@ ghost use Rattle.ls_checked.specs.CheckedTree as checked;
 ghost use Rattle.ls_checked.specs.declared.tree.Operator.TheVariants as operators;
 ghost use Rattle.ls_checked.specs.Plain.{plain, plain_statement};
 ghost use Rattle.ls_types_elaboration.specs.Elaborated.{with_ok, each};
+ghost use Rattle.ls_types_elaboration.specs.StaticTypes.{of_type};
 ghost use Rattle.ls_types_elaboration.specs.Trees.{span_of};
+ghost use Rattle.ls_events.specs.declared.value.ValueType.TheVariants.{Int as int_type};
+ghost use Rattle.ls_types_elaboration.specs.declared.static_types.Static.TheVariants.{Of};
 ghost use Rattle.ls_types_elaboration.specs.TypedExpressions.{typed};
 ghost use Rattle.ls_types_elaboration.specs.TypedStatements.{counter, added, addition, step, simple, simples};
 ghost use Rattle.ls_types_elaboration.specs.TypedStatements.{one_simple, unwrapped};
@@ -24,6 +27,7 @@ use ls_events::value::{Value, ValueType};
 use ls_lexer::token::Span;
 use ls_together::two;
 use ls_tree::tree::{Expression as Parsed, Simple};
+use ls_types_elaboration::mismatch::Mismatch;
 use ls_types_elaboration::rule::{Broken, CheckFault, Rule, broken_at};
 use ls_types_elaboration::static_types::{Static, Typed};
 use ls_types_elaboration::together::also;
@@ -36,6 +40,17 @@ pub enum Counter {
     Field { target: Expression, field: usize },
 }
 
+// A value of another type where an `int` is wanted.
+fn no_integer(found: ValueType, span: Span) -> Broken
+    ensures { result ≡ record { rule = of_type int_type (Of found); span = span } }
+{
+    let mismatch = Mismatch::Type {
+        wanted: ValueType::Int,
+        found: Static::Of(found),
+    };
+    broken_at(Rule::WrongType(mismatch), span)
+}
+
 fn counter_at(span: Span, x: Typed) -> Result<Counter, Broken>
     ensures { plain_counter result ≡ counter span (plain x.expression) x.of }
 {
@@ -46,16 +61,16 @@ fn counter_at(span: Span, x: Typed) -> Result<Counter, Broken>
         Expression::Slot(0) => Err(broken_at(Rule::NotAssignable, span)),
         Expression::Slot(n) => match value_type {
             ValueType::Int => Ok(Counter::Slot(n)),
-            _ => Err(broken_at(Rule::WrongType, span)),
+            _ => Err(no_integer(value_type, span)),
         },
         Expression::Field { target, field, .. } => match value_type {
             ValueType::Int => Ok(Counter::Field {
                 target: Box::into_inner(target),
                 field,
             }),
-            _ => Err(broken_at(Rule::WrongType, span)),
+            _ => Err(no_integer(value_type, span)),
         },
-        Expression::Item(..) => Err(broken_at(Rule::WrongType, span)),
+        Expression::Item(..) => Err(no_integer(value_type, span)),
         _ => Err(broken_at(Rule::NotAssignable, span)),
     }
 }

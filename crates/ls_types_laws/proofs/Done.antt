@@ -11,6 +11,7 @@ use Rattle.ls_types_judgement.specs.Typing.{IsTyped}
 use Rattle.ls_types_elaboration.specs.declared.loops.LoopPart.{LoopPart}
 use Rattle.ls_types_elaboration.specs.declared.loops.LoopPart.TheVariants as parts
 use Rattle.ls_types_elaboration.specs.declared.rule.Rule.TheVariants as rules
+use Rattle.ls_types_elaboration.specs.StaticTypes.{of_type}
 use Rattle.ls_types_elaboration.specs.declared.static_types.Static.{Static}
 use Rattle.ls_types_elaboration.specs.declared.static_types.Static.TheVariants.{Of}
 use Rattle.ls_types_elaboration.specs.Trees
@@ -177,7 +178,7 @@ counter_gives F known slots r s (checked.Slot n) (Of types.Int) h =
     (Ok (OfSlot n)) (λ z. tt) (λ z W g a. add_slot F W r n (h W g a))
 counter_gives F known slots r s (checked.Slot n) (Of t) h =
     either (λ to. Later F known slots (λ W. MayAdd F W r to)) (nat_eq n 0) (broken rules.NotAssignable s)
-    (broken rules.WrongType s) (λ z. tt) (λ z. tt)
+    (broken (of_type types.Int (Of t)) s) (λ z. tt) (λ z. tt)
 counter_gives F known slots r s (checked.Field e c f) (Of types.Int) h = λ W g a. add_field F W r e c f (h W g a)
 counter_gives F known slots r s (checked.Field e c f) (Of t) h = tt
 counter_gives F known slots r s (checked.Item a i) (Of t) h = tt

@@ -18,7 +18,8 @@ use Rattle.ls_types_elaboration.specs.Known.{Known, Local, method_of, number_of}
 use Rattle.ls_types_elaboration.specs.StaticTypes.{typed_as, as_type, as_array}
 use Rattle.ls_types_elaboration.specs.Members.{method_member, member_of, found, maker_of, markable_maker}
 use Rattle.ls_types_elaboration.specs.TypedExpressions.{digits_value, is_integer, integer_constant, field_at, typed}
-use Rattle.ls_types_elaboration.specs.TypedExpressions.{passed, fitting}
+use Rattle.ls_types_elaboration.specs.TypedExpressions.{counts, passed, fitting}
+use Rattle.ls_types_elaboration.specs.declared.mismatch.Counts.{Counts}
 use Rattle.ls_types_laws.proofs.Results.{Gives, bind, either}
 use Rattle.ls_types_laws.proofs.Shown.{Shows, as_type_gives, as_value_gives, as_array_gives, unary_gives, binary_gives}
 use Rattle.ls_types_laws.proofs.Agreement.{Agrees, Ready, MayCall, MayMake, name_gives, field_gives, call_gives}
@@ -69,15 +70,15 @@ mutual
   typed_gives F known locals W a r (Trees.Call n es span) =
       bind (MayCall F W (checked.Slot 0)) (Shows F W) (found (method_member (method_of known known.own n.text)) n.span)
       _ (own_method_gives F known locals W a r n) (λ m may.
-      bind (AreTyped F W m.parameters) (Shows F W) (passed known locals m.parameters es span) _
-      (passed_gives F known locals W a r m.parameters es span) (λ es hs.
+      bind (AreTyped F W m.parameters) (Shows F W) (passed known locals (counts m.parameters es) m.parameters es span) _
+      (passed_gives F known locals W a r (counts m.parameters es) m.parameters es span) (λ es hs.
       call_gives F W m (checked.Slot 0) es may hs))
   typed_gives F known locals W a r (Trees.CallOn target n es span) =
       bind (Shows F W) (Shows F W) (typed known locals target) _ (typed_gives F known locals W a r target) (λ x h.
       bind (MayCall F W x.expression) (Shows F W) (found (member_of known x.static n.text) n.span) _
       (member_gives F known W a x.static x.expression n h) (λ m may.
-      bind (AreTyped F W m.parameters) (Shows F W) (passed known locals m.parameters es span) _
-      (passed_gives F known locals W a r m.parameters es span) (λ es hs.
+      bind (AreTyped F W m.parameters) (Shows F W) (passed known locals (counts m.parameters es) m.parameters es span) _
+      (passed_gives F known locals W a r (counts m.parameters es) m.parameters es span) (λ es hs.
       call_gives F W m x.expression es may hs)))
   typed_gives F known locals W a r (Trees.Item array index span) =
       bind (Shows F W) (Shows F W) (typed known locals array) _ (typed_gives F known locals W a r array) (λ x h.
@@ -88,13 +89,13 @@ mutual
       (as_type_gives F W Int (span_of index) y k) (λ i q. (refl, p, q)))))
   typed_gives F known locals W a r (Trees.New n es span) =
       bind (MayMake F W) (Shows F W) (maker_of known n) _ (maker_gives F known W a n) (λ m may.
-      bind (AreTyped F W m.parameters) (Shows F W) (passed known locals m.parameters es span) _
-      (passed_gives F known locals W a r m.parameters es span) (λ es hs. may es hs))
+      bind (AreTyped F W m.parameters) (Shows F W) (passed known locals (counts m.parameters es) m.parameters es span) _
+      (passed_gives F known locals W a r (counts m.parameters es) m.parameters es span) (λ es hs. may es hs))
   typed_gives F known locals W a r (Trees.NewMarkable n es span) =
       bind (MayMake F W) (Shows F W) (markable_maker (number_of known.names n.text) n.span) _
       (markable_maker_gives F W (number_of known.names n.text) n.span) (λ m may.
-      bind (AreTyped F W m.parameters) (Shows F W) (passed known locals m.parameters es span) _
-      (passed_gives F known locals W a r m.parameters es span) (λ es hs. may es hs))
+      bind (AreTyped F W m.parameters) (Shows F W) (passed known locals (counts m.parameters es) m.parameters es span) _
+      (passed_gives F known locals W a r (counts m.parameters es) m.parameters es span) (λ es hs. may es hs))
   typed_gives F known locals W a r (Trees.NewArray length span) =
       bind (Shows F W) (Shows F W) (typed known locals length) _ (typed_gives F known locals W a r length) (λ x h.
       bind (IsTyped F W (ValueOf Int)) (Shows F W) (as_type Int (span_of length) x) _
@@ -103,17 +104,17 @@ mutual
   passed_gives : (F : checked.File) (known : Known) (locals : List Local) (W : List ValueType) →
       Agrees F known →
       Ready known locals W →
-      (ts : List ValueType) (es : Expressions) (s : Span) →
-      Gives (AreTyped F W ts) (passed known locals ts es s)
-  passed_gives F known locals W a r [] Trees.End s = tt
-  passed_gives F known locals W a r (t ∷ ts) (Trees.More e es) s =
+      (n : Counts) (ts : List ValueType) (es : Expressions) (s : Span) →
+      Gives (AreTyped F W ts) (passed known locals n ts es s)
+  passed_gives F known locals W a r n [] Trees.End s = tt
+  passed_gives F known locals W a r n (t ∷ ts) (Trees.More e es) s =
       bind (Shows F W) (AreTyped F W (t ∷ ts)) (typed known locals e) _ (typed_gives F known locals W a r e) (λ x h.
       bind (IsTyped F W (ValueOf t)) (AreTyped F W (t ∷ ts)) (as_type t (span_of e) x) _
       (as_type_gives F W t (span_of e) x h) (λ v k.
-      bind (AreTyped F W ts) (AreTyped F W (t ∷ ts)) (passed known locals ts es s) _
-      (passed_gives F known locals W a r ts es s) (λ rest ks. (k, ks))))
-  passed_gives F known locals W a r [] (Trees.More e es) s = tt
-  passed_gives F known locals W a r (t ∷ ts) Trees.End s = tt
+      bind (AreTyped F W ts) (AreTyped F W (t ∷ ts)) (passed known locals n ts es s) _
+      (passed_gives F known locals W a r n ts es s) (λ rest ks. (k, ks))))
+  passed_gives F known locals W a r n [] (Trees.More e es) s = tt
+  passed_gives F known locals W a r n (t ∷ ts) Trees.End s = tt
 
 -- each expression that fits gives one of the wanted type
 pub fitting_gives : (F : checked.File) (known : Known) (locals : List Local) (W : List ValueType) →

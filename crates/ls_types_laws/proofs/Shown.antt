@@ -14,12 +14,13 @@ use Rattle.ls_checked.specs.CheckedTree as checked
 use Rattle.ls_meaning.specs.declared.sort.Sort.TheVariants.{NoValue, ValueOf}
 use Rattle.ls_types_judgement.specs.Typing as typing
 use Rattle.ls_types_judgement.specs.Typing.{IsTyped, IsOperand}
+use Rattle.ls_types_elaboration.specs.declared.mismatch.Mismatch.TheVariants as mismatches
 use Rattle.ls_types_elaboration.specs.declared.rule.Rule.TheVariants as rules
 use Rattle.ls_types_elaboration.specs.declared.static_types.Static.{Static}
 use Rattle.ls_types_elaboration.specs.declared.static_types.Static.TheVariants.{Of, NullType, Void}
 use Rattle.ls_types_elaboration.specs.Elaborated.{Elaborated, broken}
 use Rattle.ls_types_elaboration.specs.StaticTypes.{Typed, typed_as, same_type, is_reference, fits, as_type, is_void}
-use Rattle.ls_types_elaboration.specs.StaticTypes.{as_value, is_array, as_array, comparable}
+use Rattle.ls_types_elaboration.specs.StaticTypes.{as_value, is_array, as_array, comparable, of_type}
 use Rattle.ls_types_elaboration.specs.Operators.{unary_of, of_operands, computed, compared, binary_of}
 use Rattle.ls_types_laws.proofs.Results.{Gives, bind, either}
 
@@ -69,14 +70,16 @@ pub as_type_gives : (F : checked.File) (W : List ValueType) (t : ValueType) (s :
     Shows F W x →
     Gives (λ e. IsTyped F W (ValueOf t) e) (as_type t s x)
 as_type_gives F W t s x h =
-    either (λ e. IsTyped F W (ValueOf t) e) (fits t x.static) (Ok x.expression) (broken rules.WrongType s)
+    either (λ e. IsTyped F W (ValueOf t) e) (fits t x.static) (Ok x.expression)
+    (broken (of_type t x.static) s)
     (λ f. fits_typed F W t x.static x.expression f h) (λ f. tt)
 
 -- an expression with a value keeps its type
 pub as_value_gives : (F : checked.File) (W : List ValueType) (s : Span) (x : Typed) →
     Shows F W x →
     Gives (Shows F W) (as_value s x)
-as_value_gives F W s x h = either (Shows F W) (is_void x.static) (broken rules.WrongType s) (Ok x) (λ f. tt) (λ f. h)
+as_value_gives F W s x h = either (Shows F W) (is_void x.static) (broken (rules.WrongType mismatches.NoValue) s) (Ok x)
+    (λ f. tt) (λ f. h)
 
 array_typed : (F : checked.File) (W : List ValueType) (x : Static) (e : checked.Expression) →
     is_array x ≡ true →
@@ -96,7 +99,8 @@ pub as_array_gives : (F : checked.File) (W : List ValueType) (s : Span) (x : Typ
     Shows F W x →
     Gives (λ e. IsTyped F W (ValueOf BooleanArray) e) (as_array s x)
 as_array_gives F W s x h =
-    either (λ e. IsTyped F W (ValueOf BooleanArray) e) (is_array x.static) (Ok x.expression) (broken rules.WrongType s)
+    either (λ e. IsTyped F W (ValueOf BooleanArray) e) (is_array x.static) (Ok x.expression)
+    (broken (of_type BooleanArray x.static) s)
     (λ f. array_typed F W x.static x.expression f h) (λ f. tt)
 
 -- operators
@@ -151,7 +155,7 @@ compared_gives F W op s l r x y is o h k =
     bind (Shows F W) (Shows F W) (as_value l x) _ (as_value_gives F W l x h) (λ a p.
     bind (Shows F W) (Shows F W) (as_value r y) _ (as_value_gives F W r y k) (λ b q.
     either (Shows F W) (comparable a.static b.static) (typed_as Boolean (checked.Binary op a.expression b.expression))
-    (broken rules.WrongType s)
+    (broken (rules.WrongType (mismatches.Operands a.static b.static)) s)
     (λ c. let z : (t : ValueType) × IsTyped F W (ValueOf t) a.expression ×
     IsTyped F W (ValueOf t) b.expression = compared_typed F W a.static b.static a.expression b.expression c p q in
     (z.0, ap (λ u. ValueOf u) is, o z.0, z.1, z.2)) (λ c. tt)))

@@ -1,5 +1,5 @@
 -- Expressions without places.
-use Rattle.std.proofs.Common.{◌≡◌, refl, ap, ◌∙◌, Bool, List, [], ◌∷◌, Option, Some, None, Ok, ℕ}
+use Rattle.std.proofs.Common.{◌≡◌, refl, ap, ◌∙◌, ◌+◌, Bool, List, [], ◌∷◌, Option, Some, None, Ok, ℕ}
 use Rattle.std.specs.Prelude.{if◌then◌else◌, bytes_eq, codes}
 use Rattle.ls_lexer.specs.declared.token.Span.{Span}
 use Rattle.ls_events.specs.declared.value.ValueType.{ValueType}
@@ -11,6 +11,8 @@ use Rattle.ls_tree.specs.declared.tree.BinaryOp.TheVariants as written
 use Rattle.ls_checked.specs.declared.tree.Operator.{Operator}
 use Rattle.ls_checked.specs.declared.tree.Operator.TheVariants as operators
 use Rattle.ls_checked.specs.CheckedTree as checked
+use Rattle.ls_types_elaboration.specs.declared.mismatch.Counts.{Counts}
+use Rattle.ls_types_elaboration.specs.declared.mismatch.Mismatch.TheVariants as mismatches
 use Rattle.ls_types_elaboration.specs.declared.rule.Rule.TheVariants as rules
 use Rattle.ls_types_elaboration.specs.declared.known.FoundField.{FoundField}
 use Rattle.ls_types_elaboration.specs.declared.static_types.Static.{Static}
@@ -20,11 +22,11 @@ use Rattle.ls_types_elaboration.specs.Trees.{Name, Expression, Expressions, span
 use Rattle.ls_types_elaboration.specs.Elaborated.{Elaborated, broken, with_ok}
 use Rattle.ls_types_elaboration.specs.Known.{Known, Local, local_named, field_of, method_of, number_of}
 use Rattle.ls_types_elaboration.specs.StaticTypes.{Typed, typed_as, fits, as_type, is_void, as_value, is_array}
-use Rattle.ls_types_elaboration.specs.StaticTypes.{as_array, comparable}
+use Rattle.ls_types_elaboration.specs.StaticTypes.{as_array, comparable, of_type}
 use Rattle.ls_types_elaboration.specs.Members.{method_member, member_of, found, maker_of, object_maker, markable_maker}
 use Rattle.ls_types_elaboration.specs.Operators.{unary_of, of_operands, computed, compared, binary_of}
 use Rattle.ls_types_elaboration.specs.TypedExpressions.{own_field, local_or, field_in, field_at, is_integer}
-use Rattle.ls_types_elaboration.specs.TypedExpressions.{integer_constant, typed, passed, fitting}
+use Rattle.ls_types_elaboration.specs.TypedExpressions.{argument_count, counts, integer_constant, typed, passed, fitting}
 use Rattle.ls_parser_placing.specs.Unplaced.{nowhere, unplaced, all_unplaced, unplaced_name}
 use Rattle.ls_types_places.proofs.Anywhere.{anywhere}
 use Rattle.ls_types_places.proofs.Steps.{bind, blank, choice}
@@ -48,17 +50,36 @@ span_nowhere (Trees.New n es span) = refl
 span_nowhere (Trees.NewMarkable n es span) = refl
 span_nowhere (Trees.NewArray length span) = refl
 
+-- arguments without places are as many
+argument_count_same : (es : Expressions) → argument_count (all_unplaced es) ≡ argument_count es
+argument_count_same Trees.End = refl
+argument_count_same (Trees.More e es) = ap (λ n. n + 1) (argument_count_same es)
+
+counts_same : (ts : List ValueType) (es : Expressions) → counts ts (all_unplaced es) ≡ counts ts es
+counts_same ts es = ap (λ n. record { wanted = (counts ts es).wanted; found = n }) (argument_count_same es)
+
+-- so what is passed is the same where arguments without places are counted
+counted : (known : Known) (locals : List Local) (ts : List ValueType) (es : Expressions) (span : Span) →
+    passed known locals (counts ts es) ts (all_unplaced es) nowhere ≡
+    anywhere (passed known locals (counts ts es) ts es span) →
+    passed known locals (counts ts (all_unplaced es)) ts (all_unplaced es) nowhere ≡
+    anywhere (passed known locals (counts ts es) ts es span)
+counted known locals ts es span e =
+    ap (λ n. passed known locals n ts (all_unplaced es) nowhere) (counts_same ts es) ∙ e
+
 pub as_type_same : (t : ValueType) (s' s : Span) (x : Typed) → s' ≡ nowhere → as_type t s' x ≡ anywhere (as_type t s x)
-as_type_same t s' s x e = choice (fits t x.static) (Ok x.expression) (Ok x.expression) (broken rules.WrongType s)
-    (broken rules.WrongType s') refl (blank rules.WrongType s' s e)
+as_type_same t s' s x e = choice (fits t x.static) (Ok x.expression) (Ok x.expression)
+    (broken (of_type t x.static) s) (broken (of_type t x.static) s') refl (blank (of_type t x.static) s' s e)
 
 as_value_same : (s' s : Span) (x : Typed) → s' ≡ nowhere → as_value s' x ≡ anywhere (as_value s x)
-as_value_same s' s x e = choice (is_void x.static) (broken rules.WrongType s) (broken rules.WrongType s') (Ok x) (Ok x)
-    (blank rules.WrongType s' s e) refl
+as_value_same s' s x e = choice (is_void x.static) (broken (rules.WrongType mismatches.NoValue) s)
+    (broken (rules.WrongType mismatches.NoValue) s') (Ok x) (Ok x) (blank (rules.WrongType mismatches.NoValue) s' s e)
+    refl
 
 as_array_same : (s' s : Span) (x : Typed) → s' ≡ nowhere → as_array s' x ≡ anywhere (as_array s x)
-as_array_same s' s x e = choice (is_array x.static) (Ok x.expression) (Ok x.expression) (broken rules.WrongType s)
-    (broken rules.WrongType s') refl (blank rules.WrongType s' s e)
+as_array_same s' s x e = choice (is_array x.static) (Ok x.expression) (Ok x.expression)
+    (broken (of_type types.BooleanArray x.static) s) (broken (of_type types.BooleanArray x.static) s') refl
+    (blank (of_type types.BooleanArray x.static) s' s e)
 
 found_same : {A : Type 0} (o : Option A) (s : Span) → found o nowhere ≡ anywhere (found o s)
 found_same None s = refl
@@ -210,14 +231,18 @@ mutual
   typed_same known locals (Trees.Call n es span) =
       bind (found (method_member (method_of known known.own n.text)) n.span) _ _ _
       (found_same (method_member (method_of known known.own n.text)) n.span) (λ m.
-      bind (passed known locals m.parameters es span) (passed known locals m.parameters (all_unplaced es) nowhere) _ _
-      (passed_same known locals m.parameters es span) (λ as'. refl))
+      bind (passed known locals (counts m.parameters es) m.parameters es span)
+      (passed known locals (counts m.parameters (all_unplaced es)) m.parameters (all_unplaced es) nowhere) _ _
+      (counted known locals m.parameters es span
+      (passed_same known locals (counts m.parameters es) m.parameters es span)) (λ as'. refl))
   typed_same known locals (Trees.CallOn target n es span) =
       bind (typed known locals target) (typed known locals (unplaced target)) _ _ (typed_same known locals target) (λ x.
       bind (found (member_of known x.static n.text) n.span) _ _ _ (found_same (member_of known x.static n.text) n.span)
       (λ m.
-      bind (passed known locals m.parameters es span) (passed known locals m.parameters (all_unplaced es) nowhere) _ _
-      (passed_same known locals m.parameters es span) (λ as'. refl)))
+      bind (passed known locals (counts m.parameters es) m.parameters es span)
+      (passed known locals (counts m.parameters (all_unplaced es)) m.parameters (all_unplaced es) nowhere) _ _
+      (counted known locals m.parameters es span
+      (passed_same known locals (counts m.parameters es) m.parameters es span)) (λ as'. refl)))
   typed_same known locals (Trees.Item array index span) =
       bind (typed known locals array) (typed known locals (unplaced array)) _ _ (typed_same known locals array) (λ x.
       bind (as_array (span_of array) x) (as_array (span_of (unplaced array)) x) _ _
@@ -227,30 +252,34 @@ mutual
       (as_type_same types.Int (span_of (unplaced index)) (span_of index) y (span_nowhere index)) (λ i. refl))))
   typed_same known locals (Trees.New n es span) =
       bind (maker_of known n) (maker_of known (unplaced_name n)) _ _ (maker_of_same known n) (λ m.
-      bind (passed known locals m.parameters es span) (passed known locals m.parameters (all_unplaced es) nowhere) _ _
-      (passed_same known locals m.parameters es span) (λ as'. refl))
+      bind (passed known locals (counts m.parameters es) m.parameters es span)
+      (passed known locals (counts m.parameters (all_unplaced es)) m.parameters (all_unplaced es) nowhere) _ _
+      (counted known locals m.parameters es span
+      (passed_same known locals (counts m.parameters es) m.parameters es span)) (λ as'. refl))
   typed_same known locals (Trees.NewMarkable n es span) =
       bind (markable_maker (number_of known.names n.text) n.span)
       (markable_maker (number_of known.names n.text) nowhere) _ _
       (markable_same (number_of known.names n.text) n.span) (λ m.
-      bind (passed known locals m.parameters es span) (passed known locals m.parameters (all_unplaced es) nowhere) _ _
-      (passed_same known locals m.parameters es span) (λ as'. refl))
+      bind (passed known locals (counts m.parameters es) m.parameters es span)
+      (passed known locals (counts m.parameters (all_unplaced es)) m.parameters (all_unplaced es) nowhere) _ _
+      (counted known locals m.parameters es span
+      (passed_same known locals (counts m.parameters es) m.parameters es span)) (λ as'. refl))
   typed_same known locals (Trees.NewArray length span) =
       bind (typed known locals length) (typed known locals (unplaced length)) _ _ (typed_same known locals length) (λ x.
       bind (as_type types.Int (span_of length) x) (as_type types.Int (span_of (unplaced length)) x) _ _
       (as_type_same types.Int (span_of (unplaced length)) (span_of length) x (span_nowhere length)) (λ n. refl))
 
-  passed_same : (known : Known) (locals : List Local) (ts : List ValueType) (es : Expressions) (span : Span)
-      → passed known locals ts (all_unplaced es) nowhere ≡ anywhere (passed known locals ts es span)
-  passed_same known locals [] Trees.End span = refl
-  passed_same known locals [] (Trees.More e es) span = refl
-  passed_same known locals (t ∷ ts) Trees.End span = refl
-  passed_same known locals (t ∷ ts) (Trees.More e es) span =
+  passed_same : (known : Known) (locals : List Local) (n : Counts) (ts : List ValueType) (es : Expressions) (span : Span)
+      → passed known locals n ts (all_unplaced es) nowhere ≡ anywhere (passed known locals n ts es span)
+  passed_same known locals n [] Trees.End span = refl
+  passed_same known locals n [] (Trees.More e es) span = refl
+  passed_same known locals n (t ∷ ts) Trees.End span = refl
+  passed_same known locals n (t ∷ ts) (Trees.More e es) span =
       bind (typed known locals e) (typed known locals (unplaced e)) _ _ (typed_same known locals e) (λ x.
       bind (as_type t (span_of e) x) (as_type t (span_of (unplaced e)) x) _ _
       (as_type_same t (span_of (unplaced e)) (span_of e) x (span_nowhere e)) (λ a.
-      bind (passed known locals ts es span) (passed known locals ts (all_unplaced es) nowhere) _ _
-      (passed_same known locals ts es span) (λ rest. refl)))
+      bind (passed known locals n ts es span) (passed known locals n ts (all_unplaced es) nowhere) _ _
+      (passed_same known locals n ts es span) (λ rest. refl)))
 
 -- an expression without places fits the same type
 pub fitting_same : (known : Known) (locals : List Local) (t : ValueType) (e : Expression) →

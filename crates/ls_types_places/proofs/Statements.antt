@@ -8,7 +8,9 @@ use Rattle.ls_checked.specs.CheckedTree as checked
 use Rattle.ls_types_elaboration.specs.declared.loops.LoopPart.{LoopPart}
 use Rattle.ls_types_elaboration.specs.declared.loops.LoopPart.TheVariants as parts
 use Rattle.ls_types_elaboration.specs.declared.rule.Rule.{Rule}
+use Rattle.ls_types_elaboration.specs.declared.mismatch.Mismatch.TheVariants as mismatches
 use Rattle.ls_types_elaboration.specs.declared.rule.Rule.TheVariants as rules
+use Rattle.ls_types_elaboration.specs.StaticTypes.{of_type}
 use Rattle.ls_types_elaboration.specs.declared.static_types.Static.{Static}
 use Rattle.ls_types_elaboration.specs.declared.static_types.Static.TheVariants.{Of}
 use Rattle.ls_types_elaboration.specs.Trees
@@ -21,7 +23,7 @@ use Rattle.ls_types_elaboration.specs.TypedExpressions.{typed, fitting}
 use Rattle.ls_types_elaboration.specs.Scopes.{Body, Slots, with_unnamed, Scope, most_slots, start_of, with_statement}
 use Rattle.ls_types_elaboration.specs.Scopes.{with_variable, may_declare, initialised, declared, declaration}
 use Rattle.ls_types_elaboration.specs.TypedStatements.{Loops, loop_of, with_slots, loop_named, found_loop, jump}
-use Rattle.ls_types_elaboration.specs.TypedStatements.{label_text, fresh_label, variable, assignment, counter, added}
+use Rattle.ls_types_elaboration.specs.TypedStatements.{label_text, fresh_label, variable, assignment, counter}
 use Rattle.ls_types_elaboration.specs.TypedStatements.{addition, step, simple, one_simple, simples, returned, opened}
 use Rattle.ls_types_elaboration.specs.TypedStatements.{opening, condition, for_loop, closed, followed, monitor_of}
 use Rattle.ls_types_elaboration.specs.TypedStatements.{monitor, statement, items, unwrapped}
@@ -120,7 +122,7 @@ monitor_of_same : (s' s : Span) (e : checked.Expression) (u : Static) →
     s' ≡ nowhere →
     monitor_of s' e u ≡ anywhere (monitor_of s e u)
 monitor_of_same s' s e (Of (types.Class c)) h = refl
-monitor_of_same s' s e _ h = blank rules.WrongType s' s h
+monitor_of_same s' s e x h = blank (rules.WrongType (mismatches.NoObject x)) s' s h
 
 monitor_same : (known : Known) (locals : List Local) (e : Expression) →
     monitor known locals (unplaced e) ≡ anywhere (monitor known locals e)
@@ -153,10 +155,10 @@ counter_same : (s' s : Span) (e : checked.Expression) (u : Static) →
 counter_same s' s (checked.Slot n) (Of types.Int) h = choice (nat_eq n 0) _ _ _ _ (blank rules.NotAssignable s' s h)
     refl
 counter_same s' s (checked.Slot n) (Of t) h = choice (nat_eq n 0) _ _ _ _ (blank rules.NotAssignable s' s h)
-    (blank rules.WrongType s' s h)
+    (blank (of_type types.Int (Of t)) s' s h)
 counter_same s' s (checked.Field e c f) (Of types.Int) h = refl
-counter_same s' s (checked.Field e c f) (Of t) h = blank rules.WrongType s' s h
-counter_same s' s (checked.Item a i) (Of t) h = blank rules.WrongType s' s h
+counter_same s' s (checked.Field e c f) (Of t) h = blank (of_type types.Int (Of t)) s' s h
+counter_same s' s (checked.Item a i) (Of t) h = blank (of_type types.Int (Of t)) s' s h
 counter_same s' s _ _ h = blank rules.NotAssignable s' s h
 
 addition_same : (known : Known) (locals : List Local) (target : Expression) (v v' : Elaborated checked.Expression) →
@@ -202,7 +204,8 @@ returned_same : (known : Known) (locals : List Local) (r : Option ValueType) (v 
     → returned known locals r (option_map unplaced v) nowhere ≡ anywhere (returned known locals r v s)
 returned_same known locals None None s = refl
 returned_same known locals (Some t) None s = refl
-returned_same known locals None (Some e) s = blank rules.WrongType (span_of (unplaced e)) (span_of e) (span_nowhere e)
+returned_same known locals None (Some e) s = blank (rules.WrongType mismatches.Returned) (span_of (unplaced e))
+    (span_of e) (span_nowhere e)
 returned_same known locals (Some t) (Some e) s =
     bind (fitting known locals t e) (fitting known locals t (unplaced e)) _ _ (fitting_same known locals t e)
     (λ v. refl)

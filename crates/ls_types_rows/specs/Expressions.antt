@@ -9,10 +9,12 @@ use Rattle.ls_events.specs.declared.value.ValueType.TheVariants as types
 use Rattle.ls_checked.specs.declared.tree.Operator.{Operator}
 use Rattle.ls_checked.specs.declared.tree.Operator.TheVariants as operators
 use Rattle.ls_checked.specs.CheckedTree as checked
+use Rattle.ls_types_elaboration.specs.declared.mismatch.Mismatch.TheVariants as mismatches
 use Rattle.ls_types_elaboration.specs.declared.rule.Rule.{Rule}
 use Rattle.ls_types_elaboration.specs.declared.rule.Rule.TheVariants as rules
 use Rattle.ls_types_elaboration.specs.declared.static_types.Static.{Static}
-use Rattle.ls_types_elaboration.specs.declared.static_types.Static.TheVariants.{Of, NullType}
+use Rattle.ls_types_elaboration.specs.declared.static_types.Static.TheVariants.{Of, NullType, Void}
+use Rattle.ls_types_elaboration.specs.StaticTypes.{of_type}
 use Rattle.ls_types_elaboration.specs.Trees as parsed
 use Rattle.ls_types_elaboration.specs.TypedExpressions.{typed}
 use Rattle.ls_types_rows.specs.Written.{at, one, yes, nothing, self, named, both, field, call, int, truth, null, known}
@@ -99,11 +101,11 @@ Comparisons =
 -- the first operand of another type is reported
 abbrev pub OperandsOfInts : Type 0
 OperandsOfInts =
-    Breaks (both written.Add (yes 1) (nothing 2) 3) rules.WrongType 1
-    × Breaks (both written.Add (one 1) (yes 2) 3) rules.WrongType 2
-    × Breaks (both written.Less (yes 1) (yes 2) 3) rules.WrongType 1
-    × Breaks (both written.GreaterEqual (one 1) (nothing 2) 3) rules.WrongType 2
-    × Breaks (both written.Subtract (one 1) (call (codes "v") [] 2) 4) rules.WrongType 3
+    Breaks (both written.Add (yes 1) (nothing 2) 3) (of_type types.Int (Of types.Boolean)) 1
+    × Breaks (both written.Add (one 1) (yes 2) 3) (of_type types.Int (Of types.Boolean)) 2
+    × Breaks (both written.Less (yes 1) (yes 2) 3) (of_type types.Int (Of types.Boolean)) 1
+    × Breaks (both written.GreaterEqual (one 1) (nothing 2) 3) (of_type types.Int NullType) 2
+    × Breaks (both written.Subtract (one 1) (call (codes "v") [] 2) 4) (of_type types.Int Void) 3
 
 abbrev pub ShortCircuits : Type 0
 ShortCircuits =
@@ -111,18 +113,18 @@ ShortCircuits =
     (Of types.Boolean)
     × Is (both written.Or (parsed.False (at 1)) (yes 2) 3) (checked.Or (checked.Literal (values.Boolean false)) truth)
     (Of types.Boolean)
-    × Breaks (both written.And (one 1) (yes 2) 3) rules.WrongType 1
-    × Breaks (both written.And (yes 1) (one 2) 3) rules.WrongType 2
-    × Breaks (both written.Or (one 1) (one 2) 3) rules.WrongType 1
-    × Breaks (both written.Or (yes 1) (nothing 2) 3) rules.WrongType 2
+    × Breaks (both written.And (one 1) (yes 2) 3) (of_type types.Boolean (Of types.Int)) 1
+    × Breaks (both written.And (yes 1) (one 2) 3) (of_type types.Boolean (Of types.Int)) 2
+    × Breaks (both written.Or (one 1) (one 2) 3) (of_type types.Boolean (Of types.Int)) 1
+    × Breaks (both written.Or (yes 1) (nothing 2) 3) (of_type types.Boolean NullType) 2
 
 abbrev pub Signs : Type 0
 Signs =
     Is (parsed.Unary Minus (one 1) (at 2)) (checked.Negate (int 1)) (Of types.Int)
     × Is (parsed.Unary Not (yes 1) (at 2)) (checked.Not truth) (Of types.Boolean)
-    × Breaks (parsed.Unary Minus (yes 1) (at 2)) rules.WrongType 1
-    × Breaks (parsed.Unary Not (one 1) (at 2)) rules.WrongType 1
-    × Breaks (parsed.Unary Not (nothing 1) (at 2)) rules.WrongType 1
+    × Breaks (parsed.Unary Minus (yes 1) (at 2)) (of_type types.Int (Of types.Boolean)) 1
+    × Breaks (parsed.Unary Not (one 1) (at 2)) (of_type types.Boolean (Of types.Int)) 1
+    × Breaks (parsed.Unary Not (nothing 1) (at 2)) (of_type types.Boolean NullType) 1
 
 -- `==` of two expressions, with their checked forms
 abbrev pub AreCompared : parsed.Expression → parsed.Expression → checked.Expression → checked.Expression → Type 0
@@ -144,11 +146,18 @@ Comparable =
 -- the whole comparison is refused; only a call without a value is refused at its own place
 abbrev pub NotComparable : Type 0
 NotComparable =
-    Breaks (both written.Equal (one 1) (yes 2) 9) rules.WrongType 9
-    × Breaks (both written.Equal (one 1) (nothing 2) 9) rules.WrongType 9
-    × Breaks (both written.Equal (nothing 1) (yes 2) 9) rules.WrongType 9
-    × Breaks (both written.NotEqual (self 1) (named (codes "o") 2) 9) rules.WrongType 9
-    × Breaks (both written.Equal (named (codes "r") 1) (named (codes "q") 2) 9) rules.WrongType 9
-    × Breaks (both written.Equal (named (codes "l") 1) (self 2) 9) rules.WrongType 9
-    × Breaks (both written.Equal (call (codes "v") [] 1) (call (codes "v") [] 3) 9) rules.WrongType 2
-    × Breaks (both written.NotEqual (one 1) (call (codes "v") [] 3) 9) rules.WrongType 4
+    Breaks (both written.Equal (one 1) (yes 2) 9)
+    (rules.WrongType (mismatches.Operands (Of types.Int) (Of types.Boolean))) 9
+    × Breaks (both written.Equal (one 1) (nothing 2) 9)
+    (rules.WrongType (mismatches.Operands (Of types.Int) NullType)) 9
+    × Breaks (both written.Equal (nothing 1) (yes 2) 9)
+    (rules.WrongType (mismatches.Operands NullType (Of types.Boolean))) 9
+    × Breaks (both written.NotEqual (self 1) (named (codes "o") 2) 9)
+    (rules.WrongType (mismatches.Operands (Of (types.Class 0)) (Of (types.Class 1)))) 9
+    × Breaks (both written.Equal (named (codes "r") 1) (named (codes "q") 2) 9)
+    (rules.WrongType (mismatches.Operands (Of (types.Markable 0)) (Of (types.Markable 1)))) 9
+    × Breaks (both written.Equal (named (codes "l") 1) (self 2) 9)
+    (rules.WrongType (mismatches.Operands (Of types.Lock) (Of (types.Class 0)))) 9
+    × Breaks (both written.Equal (call (codes "v") [] 1) (call (codes "v") [] 3) 9)
+    (rules.WrongType mismatches.NoValue) 2
+    × Breaks (both written.NotEqual (one 1) (call (codes "v") [] 3) 9) (rules.WrongType mismatches.NoValue) 4

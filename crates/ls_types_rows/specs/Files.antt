@@ -8,6 +8,8 @@ use Rattle.ls_checked.specs.declared.tree.Called.TheVariants as called
 use Rattle.ls_checked.specs.CheckedTree as checked
 use Rattle.ls_types_elaboration.specs.declared.rule.Rule.{Rule}
 use Rattle.ls_types_elaboration.specs.declared.rule.Rule.TheVariants as rules
+use Rattle.ls_types_elaboration.specs.StaticTypes.{of_type}
+use Rattle.ls_types_elaboration.specs.declared.static_types.Static.TheVariants.{Of}
 use Rattle.ls_types_elaboration.specs.Trees.{Text, ClassTree}
 use Rattle.ls_types_elaboration.specs.Trees as parsed
 use Rattle.ls_types_elaboration.specs.Elaborated.{Elaborated, with_ok}
@@ -197,7 +199,8 @@ Initialisers =
       methods = checked_method 0 None [] ∷ checked_method 0 None (checked.SetField (checked.Slot 0) 0 (int 1) ∷ []) ∷
           [];
     })
-    × Break (A (parsed.Fields (variable parsed.Int (codes "i") 1 (Some (yes 2))) ∷ [])) rules.WrongType 2
+    × Break (A (parsed.Fields (variable parsed.Int (codes "i") 1 (Some (yes 2))) ∷ []))
+    (of_type types.Int (Of types.Boolean)) 2
     × Break (A (parsed.Fields (variable parsed.Int (codes "i") 1 (Some (named (codes "x") 2))) ∷
     parsed.Constructor (name (codes "A") 3) (parameter parsed.Int (codes "x") 4 ∷ []) parsed.NoItem ∷ []))
     rules.UnknownName 2

@@ -5,7 +5,9 @@ use Rattle.ls_events.specs.declared.value.ValueType.{ValueType}
 use Rattle.ls_events.specs.declared.value.ValueType.TheVariants as types
 use Rattle.ls_checked.specs.declared.tree.Called.TheVariants as called
 use Rattle.ls_checked.specs.CheckedTree as checked
+use Rattle.ls_types_elaboration.specs.declared.mismatch.Mismatch.TheVariants as mismatches
 use Rattle.ls_types_elaboration.specs.declared.rule.Rule.TheVariants as rules
+use Rattle.ls_types_elaboration.specs.declared.static_types.Static.TheVariants.{Of, NullType, Void}
 use Rattle.ls_types_elaboration.specs.Trees as parsed
 use Rattle.ls_types_elaboration.specs.Scopes.{Slots}
 use Rattle.ls_types_elaboration.specs.TypedStatements.{statement}
@@ -71,13 +73,18 @@ OutOfBlock = Breaks
 -- only objects of the file's classes have monitors for texts; the expression is checked before the block
 abbrev pub Locked : Type 0
 Locked =
-    Breaks (parsed.Synchronized (named (codes "l") 1) parsed.NoItem) rules.WrongType 1
-    × Breaks (parsed.Synchronized (named (codes "r") 1) parsed.NoItem) rules.WrongType 1
-    × Breaks (parsed.Synchronized (named (codes "a") 1) parsed.NoItem) rules.WrongType 1
-    × Breaks (parsed.Synchronized (named (codes "x") 1) parsed.NoItem) rules.WrongType 1
-    × Breaks (parsed.Synchronized (nothing 1) parsed.NoItem) rules.WrongType 1
-    × Breaks (parsed.Synchronized (call (codes "v") [] 1) parsed.NoItem) rules.WrongType 2
-    × Breaks (parsed.Synchronized (nothing 1) (items (parsed.Break None (at 2) ∷ []))) rules.WrongType 1
+    Breaks (parsed.Synchronized (named (codes "l") 1) parsed.NoItem)
+    (rules.WrongType (mismatches.NoObject (Of types.Lock))) 1
+    × Breaks (parsed.Synchronized (named (codes "r") 1) parsed.NoItem)
+    (rules.WrongType (mismatches.NoObject (Of (types.Markable 0)))) 1
+    × Breaks (parsed.Synchronized (named (codes "a") 1) parsed.NoItem)
+    (rules.WrongType (mismatches.NoObject (Of types.BooleanArray))) 1
+    × Breaks (parsed.Synchronized (named (codes "x") 1) parsed.NoItem)
+    (rules.WrongType (mismatches.NoObject (Of types.Int))) 1
+    × Breaks (parsed.Synchronized (nothing 1) parsed.NoItem) (rules.WrongType (mismatches.NoObject NullType)) 1
+    × Breaks (parsed.Synchronized (call (codes "v") [] 1) parsed.NoItem) (rules.WrongType (mismatches.NoObject Void)) 2
+    × Breaks (parsed.Synchronized (nothing 1) (items (parsed.Break None (at 2) ∷ [])))
+    (rules.WrongType (mismatches.NoObject NullType)) 1
     × Breaks (parsed.Synchronized (named (codes "z") 1) (items (parsed.Break None (at 2) ∷ []))) rules.UnknownName 1
 
 -- the slot of a monitor is none of the 128

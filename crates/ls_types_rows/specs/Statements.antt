@@ -8,8 +8,11 @@ use Rattle.ls_events.specs.declared.value.ValueType.TheVariants as types
 use Rattle.ls_checked.specs.declared.tree.Called.TheVariants as called
 use Rattle.ls_checked.specs.declared.tree.Operator.TheVariants as operators
 use Rattle.ls_checked.specs.CheckedTree as checked
+use Rattle.ls_types_elaboration.specs.declared.mismatch.Mismatch.TheVariants as mismatches
 use Rattle.ls_types_elaboration.specs.declared.rule.Rule.{Rule}
 use Rattle.ls_types_elaboration.specs.declared.rule.Rule.TheVariants as rules
+use Rattle.ls_types_elaboration.specs.StaticTypes.{of_type}
+use Rattle.ls_types_elaboration.specs.declared.static_types.Static.TheVariants.{Of, NullType, Void}
 use Rattle.ls_types_elaboration.specs.Trees.{Text, Name}
 use Rattle.ls_types_elaboration.specs.Trees as parsed
 use Rattle.ls_types_elaboration.specs.Scopes.{Body, Slots}
@@ -63,12 +66,13 @@ NotAssigned =
     × Breaks (assign (one 1) (one 2)) rules.NotAssignable 1
     × Breaks (assign (call (codes "f") (one 1 ∷ yes 2 ∷ []) 3) (one 5)) rules.NotAssignable 4
     × Breaks (assign (call (codes "v") [] 3) (one 5)) rules.NotAssignable 4
-    × Breaks (assign (named (codes "x") 1) (yes 2)) rules.WrongType 2
-    × Breaks (assign (named (codes "x") 1) (nothing 2)) rules.WrongType 2
-    × Breaks (assign (named (codes "x") 1) (call (codes "v") [] 3)) rules.WrongType 4
-    × Breaks (assign (named (codes "n") 1) (named (codes "o") 2)) rules.WrongType 2
-    × Breaks (assign (named (codes "r") 1) (named (codes "q") 2)) rules.WrongType 2
-    × Breaks (assign (parsed.Item (named (codes "a") 1) (one 2) (at 3)) (one 4)) rules.WrongType 4
+    × Breaks (assign (named (codes "x") 1) (yes 2)) (of_type types.Int (Of types.Boolean)) 2
+    × Breaks (assign (named (codes "x") 1) (nothing 2)) (of_type types.Int NullType) 2
+    × Breaks (assign (named (codes "x") 1) (call (codes "v") [] 3)) (of_type types.Int Void) 4
+    × Breaks (assign (named (codes "n") 1) (named (codes "o") 2)) (of_type (types.Class 0) (Of (types.Class 1))) 2
+    × Breaks (assign (named (codes "r") 1) (named (codes "q") 2)) (of_type (types.Markable 0) (Of (types.Markable 1))) 2
+    × Breaks (assign (parsed.Item (named (codes "a") 1) (one 2) (at 3)) (one 4))
+    (of_type types.Boolean (Of types.Int)) 4
 
 -- parentheses round a left side change nothing, also round a call without a value
 abbrev pub Wrapped : Type 0
@@ -83,7 +87,8 @@ Wrapped =
     × Breaks (parsed.Perform (parsed.Count true false (parsed.Paren (call (codes "v") [] 1) (at 3))))
     rules.NotAssignable 3
     × Breaks (assign (parsed.Paren (named (codes "z") 1) (at 2)) (one 3)) rules.UnknownName 1
-    × Breaks (assign (field (parsed.Paren (call (codes "v") [] 1) (at 3)) (codes "k") 4) (one 6)) rules.WrongType 2
+    × Breaks (assign (field (parsed.Paren (call (codes "v") [] 1) (at 3)) (codes "k") 4) (one 6))
+    (rules.WrongType mismatches.NoValue) 2
 
 -- a call without a value is a statement; the value of any other expression is dropped
 abbrev pub Evaluations : Type 0
@@ -218,10 +223,10 @@ Conditions =
     (checked.Block checked.Done)) []
     × Becomes None [] (parsed.IfElse (yes 1) (set (codes "x") 2) parsed.Empty)
     (checked.If truth (checked.SetSlot 1 (int 1)) (checked.Block checked.Done)) []
-    × Breaks (parsed.If (one 1) parsed.Empty) rules.WrongType 1
-    × Breaks (parsed.If (call (codes "v") [] 1) parsed.Empty) rules.WrongType 2
-    × Breaks (parsed.IfElse (nothing 1) parsed.Empty parsed.Empty) rules.WrongType 1
-    × Breaks (parsed.While None (one 1) parsed.Empty) rules.WrongType 1
+    × Breaks (parsed.If (one 1) parsed.Empty) (of_type types.Boolean (Of types.Int)) 1
+    × Breaks (parsed.If (call (codes "v") [] 1) parsed.Empty) (of_type types.Boolean Void) 2
+    × Breaks (parsed.IfElse (nothing 1) parsed.Empty parsed.Empty) (of_type types.Boolean NullType) 1
+    × Breaks (parsed.While None (one 1) parsed.Empty) (of_type types.Boolean (Of types.Int)) 1
 
 -- `for (int i = 1; true; i++) s`
 abbrev pub labelled_count : Option Name → parsed.Statement → parsed.Statement
@@ -272,7 +277,8 @@ ForLoops =
     (items (set (codes "i") 5 ∷ set (codes "z") 7 ∷ [])))) rules.UnknownName 7
     × Breaks (counting None (parsed.Block (declare (codes "i") 5 parsed.NoItem))) rules.TwiceDeclared 5
     × Breaks (counting (Some (codes "p")) (counting (Some (codes "p")) parsed.Empty)) rules.TwiceDeclared 50
-    × Breaks (parsed.For None (parsed.Performs []) (Some (one 1)) [] parsed.Empty) rules.WrongType 1
+    × Breaks (parsed.For None (parsed.Performs []) (Some (one 1)) [] parsed.Empty)
+    (of_type types.Boolean (Of types.Int)) 1
 
 -- what may be added to: a local or a field, but no element and no variable of another type
 abbrev pub Additions : Type 0
@@ -285,11 +291,12 @@ Additions =
     (checked.SetSlot 1 (checked.Binary operators.Add (checked.Slot 1) (int 1))) []
     × Becomes None [] (parsed.Perform (parsed.Add (field (named (codes "o") 1) (codes "k") 2) (one 3)))
     (checked.AddField (own 6) 1 (int 1)) []
-    × Breaks (parsed.Perform (parsed.Add (named (codes "x") 1) (yes 2))) rules.WrongType 2
+    × Breaks (parsed.Perform (parsed.Add (named (codes "x") 1) (yes 2))) (of_type types.Int (Of types.Boolean)) 2
     × Breaks (parsed.Perform (parsed.Count true false (parsed.Item (named (codes "a") 1) (one 2) (at 3))))
-    rules.WrongType 3
-    × Breaks (parsed.Perform (parsed.Count true false (named (codes "n") 1))) rules.WrongType 1
-    × Breaks (parsed.Perform (parsed.Count true false (field (self 1) (codes "b") 2))) rules.WrongType 3
+    (of_type types.Int (Of types.Boolean)) 3
+    × Breaks (parsed.Perform (parsed.Count true false (named (codes "n") 1))) (of_type types.Int (Of (types.Class 0))) 1
+    × Breaks (parsed.Perform (parsed.Count true false (field (self 1) (codes "b") 2)))
+    (of_type types.Int (Of types.Boolean)) 3
     × Breaks (parsed.Perform (parsed.Count true false (self 1))) rules.NotAssignable 1
     × Breaks (parsed.Perform (parsed.Count true false (one 1))) rules.NotAssignable 1
 
@@ -300,11 +307,11 @@ Returns =
     Becomes None [] (parsed.Return None (at 2)) checked.ReturnNothing []
     × Becomes (Some types.Int) [] (parsed.Return (Some (one 1)) (at 2)) (checked.ReturnValue (int 1)) []
     × Becomes (Some (types.Class 0)) [] (parsed.Return (Some (nothing 1)) (at 2)) (checked.ReturnValue null) []
-    × Breaks (parsed.Return (Some (one 1)) (at 2)) rules.WrongType 1
-    × Breaks (parsed.Return (Some (call (codes "v") [] 1)) (at 3)) rules.WrongType 2
+    × Breaks (parsed.Return (Some (one 1)) (at 2)) (rules.WrongType mismatches.Returned) 1
+    × Breaks (parsed.Return (Some (call (codes "v") [] 1)) (at 3)) (rules.WrongType mismatches.Returned) 2
     × (statement (body (Some types.Int)) [] locals slots (parsed.Return None (at 2)) ≡ Err
-    (record { rule = rules.WrongType; span = at 2 }))
+    (record { rule = rules.WrongType (mismatches.NotReturned types.Int); span = at 2 }))
     × (statement (body (Some types.Int)) [] locals slots (parsed.Return (Some (yes 1)) (at 2)) ≡ Err
-    (record { rule = rules.WrongType; span = at 1 }))
+    (record { rule = of_type types.Int (Of types.Boolean); span = at 1 }))
     × (statement (body (Some types.Int)) [] locals slots (parsed.Return (Some (nothing 1)) (at 2)) ≡ Err
-    (record { rule = rules.WrongType; span = at 1 }))
+    (record { rule = of_type types.Int NullType; span = at 1 }))

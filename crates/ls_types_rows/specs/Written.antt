@@ -6,6 +6,8 @@ use Rattle.ls_tree.specs.declared.tree.BinaryOp.{BinaryOp}
 use Rattle.ls_events.specs.declared.value.Value.TheVariants as values
 use Rattle.ls_events.specs.declared.value.ValueType.TheVariants as types
 use Rattle.ls_checked.specs.CheckedTree as checked
+use Rattle.ls_types_elaboration.specs.declared.rule.Rule.{Rule}
+use Rattle.ls_types_elaboration.specs.declared.rule.Rule.TheVariants as rules
 use Rattle.ls_types_elaboration.specs.Trees.{Text, Name, Declaration, Parameter, ClassTree}
 use Rattle.ls_types_elaboration.specs.Trees as parsed
 use Rattle.ls_types_elaboration.specs.Known.{Known, Local, ClassSign}
@@ -95,6 +97,12 @@ passed (e ∷ es) = checked.More e (passed es)
 abbrev pub block : List checked.Statement → checked.Statements
 block [] = checked.Done
 block (s ∷ ss) = checked.Then s (block ss)
+
+-- ---- what is wrong
+
+-- another number of arguments than is wanted
+abbrev pub arguments : ℕ → ℕ → Rule
+arguments wanted found = rules.WrongArguments (record { wanted = wanted; found = found })
 
 -- ---- two classes
 

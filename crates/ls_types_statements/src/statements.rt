@@ -39,6 +39,7 @@ use ls_tree::tree;
 use ls_tree::tree::{BlockItem, Expression as Parsed, Name, Opening, Simple};
 use ls_types_elaboration::known::Local;
 use ls_types_elaboration::loops::LoopPart;
+use ls_types_elaboration::mismatch::Mismatch;
 use ls_types_elaboration::rule::{Broken, CheckFault, Rule, broken_at, refused_at};
 use ls_types_elaboration::static_types::Static;
 use ls_types_elaboration::together::also;
@@ -242,8 +243,11 @@ fn returned(
 {
     match (answers, value) {
         (None, None) => Ok(Statement::ReturnNothing),
-        (Some(_), None) => Err(refused_at(Rule::WrongType, span)),
-        (None, Some(e)) => Err(refused_at(Rule::WrongType, span_of(e))),
+        (Some(t), None) => {
+            let mismatch = Mismatch::NotReturned(t);
+            Err(refused_at(Rule::WrongType(mismatch), span))
+        }
+        (None, Some(e)) => Err(refused_at(Rule::WrongType(Mismatch::Returned), span_of(e))),
         (Some(t), Some(e)) => {
             let v = fitting(site, t, e)?;
             Ok(Statement::ReturnValue(v))
@@ -275,7 +279,7 @@ fn find_monitor(site: Site, e: &Parsed) -> Result<Monitor, CheckFault>
             class,
             object: x.expression,
         }),
-        _ => Err(refused_at(Rule::WrongType, span_of(e))),
+        other => Err(refused_at(Rule::WrongType(Mismatch::NoObject(other)), span_of(e))),
     }
 }
 

@@ -48,8 +48,9 @@ fn ends_line(part: &[u8]) -> bool
     }
 }
 
-/// The part with a line feed after it, if the part isn't empty and doesn't end in one.
-pub(crate) fn with_feed(alloc: Global, part: &str) -> Result<String, AllocError>
+/// The part with a line feed after it, if the part isn't empty and doesn't end in one. The only refusal is that memory
+/// ran out.
+pub fn with_feed(alloc: Global, part: &str) -> Result<String, AllocError>
     ensures { IfOk result (λ text. string_bytes text ≡ with_feed part.now) }
 {
     let mut text = String::from_str(alloc, part)?;

@@ -1,14 +1,11 @@
-use Rattle.std.proofs.Common.{◌∙◌, ap, subst, sym, Ok, Err}
+use Rattle.std.proofs.Common.{subst, sym, Err}
 use Rattle.ls_faults.specs.Given.{GivesText}
-use Rattle.ls_tool.specs.Output.{AnswersText, RefusesAs, names_of, status_for}
-use Rattle.ls_tool.proofs.Ending.{decide_err, decide_ok, takes}
+use Rattle.ls_tool.specs.Output.{AnswersText, RefusesAs, names_of}
+use Rattle.ls_tool.proofs.Ending.{decide_err, takes}
 use Rattle.ls_tool.proofs.answer.answer_line.Goals as goal
 
 pub returns-in-Ok-clause-decides : goal.returns-in-Ok-clause-decides
-returns-in-Ok-clause-decides g c = λ words asks same. decide_ok words c.args.input.now c.args.line c.in-Ok.text
-    c.status_for-status.result asks (c.status_for-status.ensures.is ∙ ap (status_for c.args.line.request) c.as_str.ensures.value)
-    (subst (λ ns. GivesText (AnswersText ns c.args.line.request c.args.input.now) (Ok c.in-Ok.text)) (sym same)
-    c.in-Ok.ensures.gives)
+returns-in-Ok-clause-decides g c = λ words asks same. c.said_of.ensures.decides words asks same c.in-Ok.ensures.gives
 
 pub returns-in-Err-clause-decides : goal.returns-in-Err-clause-decides
 returns-in-Err-clause-decides g c =

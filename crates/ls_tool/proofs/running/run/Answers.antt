@@ -1,4 +1,4 @@
-use Rattle.std.proofs.Common.{map, refl, subst, true}
+use Rattle.std.proofs.Common.{map, refl, subst}
 use Rattle.std.proofs.KnownBytes.{Keeps-refl}
 use Rattle.std.specs.Prelude.{string_bytes}
 use Rattle.ls_outlets.specs.Written.{IsWritten}
@@ -32,14 +32,19 @@ returns-else-not-write_out-clause-ends g c =
     let new = g.W.Write.contents c.write_out.new.writer in
     let failed = g.W.Outlet.has_failed c.write_out.new.writer in
     let between = g.E.Write.contents c.respond.new.err in
-    let err_failed = g.E.Outlet.has_failed c.respond.new.err in
+    let err = g.E.Write.contents c.tell_beside-is_told.new.err in
+    let err_failed = g.E.Outlet.has_failed c.tell_beside-is_told.new.err in
+    let is_told = c.tell_beside-is_told.result in
+    let told = subst (λ z. IsWritten z is_told between err err_failed) c.as_bytes-in-Ok.ensures.value
+    c.tell_beside-is_told.ensures.told in
     let whole = all_written (string_bytes c.in-Ok.said.text) c.write_out.result old new failed c.if-not-write_out.false
     (subst (λ z. IsWritten z c.write_out.result old new failed) c.as_bytes.ensures.value c.write_out.ensures.written) in
     if_known (g.R.Read.remaining c.args.reader.now) _ _ (λ input d.
-    ends_so words input (record { status = c.in-Ok.said.status; is_told = true }) (left old new failed)
-    (left (g.E.Write.contents c.args.err.now) between err_failed) between err_failed (λ e. e) c.in-Ok.ensures.progress
-    (done words input c.in-Ok.said (record { status = c.in-Ok.said.status; is_told = true }) (left old new failed)
-    (left between between err_failed) refl (Keeps-refl between) whole d)) c.in-Ok.ensures.responds
+    ends_so words input (record { status = c.in-Ok.said.status; is_told = is_told }) (left old new failed)
+    (left (g.E.Write.contents c.args.err.now) err err_failed) between (g.E.Outlet.has_failed c.respond.new.err)
+    c.tell_beside-is_told.ensures.kept c.in-Ok.ensures.progress
+    (done words input c.in-Ok.said (record { status = c.in-Ok.said.status; is_told = is_told }) (left old new failed)
+    (left between err err_failed) refl told whole d)) c.in-Ok.ensures.responds
 
 pub returns-in-Err-Fault-clause-ends : goal.returns-in-Err-Fault-clause-ends
 returns-in-Err-Fault-clause-ends g c =
