@@ -15,8 +15,8 @@ use Rattle.ls_faults.specs.Faults.{lifted_schedule}
 use Rattle.ls_faults.specs.Given.{GivesText}
 use Rattle.ls_faults.proofs.Answering.{Failed, wider}
 use Rattle.ls_faults.specs.declared.fault.ToolFault.{ToolFault}
-use Rattle.ls_views.proofs.ViewedLemmas.{names_are}
-use Rattle.ls_views.specs.Viewed.{thread_names_of}
+use Rattle.ls_commands.proofs.ViewedLemmas.{names_are}
+use Rattle.ls_commands.specs.Viewed.{thread_names_of}
 use Rattle.ls_choosing.specs.Chosen.{AreBadStates, Followed, FollowsTo, NoSchedule, ShowsTo, Wanted}
 
 pub not_both : {b : Bool} → b ≡ true → b ≡ false → ⊥

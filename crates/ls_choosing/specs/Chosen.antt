@@ -25,7 +25,7 @@ use Rattle.ls_choices_page.specs.Setup.{IsLongSetup, IsSetup}
 use Rattle.ls_faults.specs.Faults.{lifted_text, lifted_check, lifted_program, lifted_schedule}
 use Rattle.ls_faults.specs.declared.fault.ToolFault.{ToolFault}
 use Rattle.ls_faults.specs.declared.fault.ToolFault.TheVariants as faults
-use Rattle.ls_views.specs.Viewed.{names_in, thread_names_of}
+use Rattle.ls_commands.specs.Viewed.{names_in, thread_names_of}
 use Rattle.ls_choosing.specs.declared.wanted.Wanted.{Wanted as GivenWanted}
 
 -- the texts of an input, and the most states that are kept

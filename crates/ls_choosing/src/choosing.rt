@@ -8,6 +8,7 @@ ghost use Rattle.ls_choosing.specs.Chosen.{AreBadStates, ChoosesTo, Chooses, Fol
 
 use crate::wanted::Wanted;
 use ls_choices_page::{choices_data, setup_steps};
+use ls_commands::names_in;
 use ls_explore_images::ExploreFault;
 use ls_faults::fault::ToolFault;
 use ls_labels::names::Names;
@@ -17,7 +18,6 @@ use ls_schedule::read_schedule;
 use ls_types::checked::Checked;
 use ls_types_files::check::check;
 use ls_types_reading::program::read_program;
-use ls_views::view::names_in;
 use std::alloc::Global;
 
 /// The most states that may be kept.

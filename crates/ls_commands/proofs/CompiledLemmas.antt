@@ -1,6 +1,6 @@
 -- What `compile` and `replay` may answer.
 use Rattle.std.proofs.Common.{◌≡◌, ◌∙◌, ◌↔◌, ap, sym, subst, refl, ℕ, List, Result, Ok, Err}
-use Rattle.std.specs.Prelude.{IsErrOf, string_bytes, String}
+use Rattle.std.specs.Prelude.{IsErrOf, String}
 use Rattle.std.specs.Global.{Global}
 use Rattle.ls_checked.specs.PlainProgram.{plain_program}
 use Rattle.ls_code.specs.Machine.{machine_history}
@@ -9,20 +9,16 @@ use Rattle.ls_machine.specs.declared.fault.LoadFault.{LoadFault}
 use Rattle.ls_machine.specs.declared.fault.LoadFault.TheVariants as load
 use Rattle.ls_image.specs.Images.{code_of_image, program_of_image}
 use Rattle.ls_image.specs.declared.image.Image.{Image}
-use Rattle.ls_schedule.specs.Answers.{Fails}
-use Rattle.ls_schedule.specs.Reading.{schedule_of, thread_names}
 use Rattle.ls_schedule.specs.Records.{happened, IsRecordOf}
 use Rattle.ls_schedule.specs.declared.replaying.Record.{Record}
 use Rattle.ls_schedule.specs.declared.fault.ScheduleFault.{ScheduleFault}
-use Rattle.ls_schedule.specs.declared.fault.ScheduleFault.TheVariants as schedule
 use Rattle.ls_report.specs.Events.{Text}
 use Rattle.ls_report.specs.Printing.{run_text}
 use Rattle.ls_commands.proofs.Answering.{not_refused}
-use Rattle.ls_commands.specs.Compiled.{Replayed, Runs, NoCells, NoSchedule}
-use Rattle.ls_faults.specs.Faults.{lifted_cells, lifted_schedule}
+use Rattle.ls_commands.specs.Compiled.{Replayed, Runs, NoCells}
+use Rattle.ls_faults.specs.Faults.{lifted_cells}
 use Rattle.ls_faults.specs.Given.{GivesText}
 use Rattle.ls_faults.specs.declared.fault.ToolFault.{ToolFault}
-use Rattle.ls_faults.specs.declared.fault.ToolFault.TheVariants as fault
 
 abbrev Refused : LoadFault → Result Record LoadFault
 Refused f = Err f

@@ -25,8 +25,8 @@ use Rattle.ls_commands.proofs.Answering.{not_refused}
 use Rattle.ls_commands.proofs.ReadBackLemmas.{are_cells}
 use Rattle.ls_commands.specs.Compiled.{file_of_image, plain_program_of}
 use Rattle.ls_commands.specs.Judged.{BadCount, Judged, Judges, NoCells}
-use Rattle.ls_commands.specs.Readable.{RunsAreReadable}
-use Rattle.ls_commands.specs.declared.batch.Sampling.{Sampling}
+use Rattle.ls_commands.specs.ReadableRuns.{RunsAreReadable}
+use Rattle.ls_commands.specs.declared.batching.Sampling.{Sampling}
 
 -- an item of what f makes is made of one
 of_one : {A B : Type 0} (f : A → B) (xs : List A) (k : ℕ) (y : B) →

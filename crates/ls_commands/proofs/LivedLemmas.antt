@@ -1,6 +1,6 @@
 -- What the commands that run live threads may answer.
 use Rattle.ls_events.specs.Limits.{most_steps}
-use Rattle.std.proofs.Common.{◌≡◌, ◌↔◌, ◌⊎◌, ◌<◌, ◌≤◌, ◌∙◌, ◌++◌, ℕ, List, length, Result, Ok, Err, refl, sym, subst}
+use Rattle.std.proofs.Common.{◌≡◌, ◌↔◌, ◌<◌, ◌≤◌, ◌∙◌, ◌++◌, ℕ, List, length, Result, Ok, Err, refl, sym, subst}
 use Rattle.std.proofs.Common.{ap, arith}
 use Rattle.std.specs.Prelude.{IsErrOf}
 use Rattle.ls_code.specs.Machine.{machine_history}

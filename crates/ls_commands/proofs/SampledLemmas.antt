@@ -1,11 +1,10 @@
 -- What `sample` may answer.
-use Rattle.std.proofs.Common.{◌≡◌, ◌↔◌, ◌<◌, ◌≤◌, ◌∙◌, ℕ, List, length, Result, Ok, Err, refl, sym, subst, ap, arith}
+use Rattle.std.proofs.Common.{◌≡◌, ◌↔◌, ◌<◌, ◌≤◌, ℕ, List, length, Result, Ok, Err, refl, sym, subst, ap, arith}
 use Rattle.std.proofs.Common.{inl, inr, ⊎_elim}
 use Rattle.std.specs.Prelude.{All, IsErrOf, String}
 use Rattle.std.proofs.lemmas.Bool.{cases_lt}
 use Rattle.std.specs.Global.{Global}
 use Rattle.ls_checked.specs.CheckedProgram.{ThreadProgram}
-use Rattle.ls_code.specs.Machine.{machine_history}
 use Rattle.ls_machine.specs.Room.{AreBadCells}
 use Rattle.ls_types.specs.CheckedFile.{outcome_of}
 use Rattle.ls_image.specs.Images.{checked_of, code_of_image, Compiles, program_of_image}

@@ -15,7 +15,7 @@ use Rattle.ls_faults.specs.Given.{GivesText}
 use Rattle.ls_commands.proofs.Answering.{not_refused}
 use Rattle.ls_commands.specs.Compiled.{plain_program_of}
 use Rattle.ls_commands.specs.Tallied.{BadCount, NoCells, Tallied, Tallies}
-use Rattle.ls_commands.specs.declared.batch.Sampling.{Sampling}
+use Rattle.ls_commands.specs.declared.batching.Sampling.{Sampling}
 
 module _ (i : Image) (cells : ℕ) (s : Sampling) where
   abbrev Bad : Type 0

@@ -11,7 +11,7 @@ use Rattle.ls_judged_tallies.specs.declared.judging.Judgement.{Judgement}
 use Rattle.ls_report.specs.Events.{Text}
 use Rattle.ls_faults.specs.declared.fault.ToolFault.{ToolFault}
 use Rattle.ls_faults.specs.declared.fault.ToolFault.TheVariants as faults
-use Rattle.ls_commands.specs.declared.batch.Sampling.{Sampling}
+use Rattle.ls_commands.specs.declared.batching.Sampling.{Sampling}
 use Rattle.ls_commands.specs.Compiled.{AnswersOn, file_of_image, plain_program_of}
 
 -- The tally of the seeds' histories, with what there is to say of each: the verdict on set calls, and whether it is

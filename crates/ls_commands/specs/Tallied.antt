@@ -11,7 +11,7 @@ use Rattle.ls_batch.specs.declared.samples.Drawing.{Drawing}
 use Rattle.ls_report.specs.Events.{Text}
 use Rattle.ls_faults.specs.declared.fault.ToolFault.{ToolFault}
 use Rattle.ls_faults.specs.declared.fault.ToolFault.TheVariants as faults
-use Rattle.ls_commands.specs.declared.batch.Sampling.{Sampling}
+use Rattle.ls_commands.specs.declared.batching.Sampling.{Sampling}
 use Rattle.ls_commands.specs.Compiled.{AnswersOn, plain_program_of}
 
 abbrev pub drawing : ℕ → ℕ → Drawing

@@ -1,6 +1,6 @@
 -- What the command `translate` says.
 use Rattle.ls_events.specs.Limits.{most_steps}
-use Rattle.std.specs.Prelude.{ℕ, ◌<◌, ◌≤◌, List, length, Result, Ok, Err}
+use Rattle.std.specs.Prelude.{ℕ, ◌<◌, List, length, Result, Ok, Err}
 use Rattle.ls_machine.specs.Room.{AreBadCells}
 use Rattle.ls_headline.specs.Same.{Fits}
 use Rattle.ls_headline.specs.Translations.{to_machine, to_source}

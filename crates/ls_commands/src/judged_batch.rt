@@ -4,10 +4,10 @@ ghost use Rattle.std.specs.Prelude.{◌≡◌};
 ghost use Rattle.ls_checked.specs.Plain.{plain_file};
 ghost use Rattle.ls_commands.specs.Compiled.{file_of_image};
 ghost use Rattle.ls_commands.specs.Judged.{Judged, JudgesTo};
-ghost use Rattle.ls_commands.specs.Readable.{RunsAreReadable};
+ghost use Rattle.ls_commands.specs.ReadableRuns.{RunsAreReadable};
 ghost use Rattle.ls_faults.specs.Given.{GivesText};
 
-use crate::batch::Sampling;
+use crate::batching::Sampling;
 use ls_batch::laws::seeds_replay;
 use ls_checked::tree::File;
 use ls_compiler::compile::compile;

@@ -10,7 +10,7 @@ use Rattle.ls_orders.specs.Orders.{Fails, order_of}
 use Rattle.ls_orders.specs.Rules.{Judgement, judgement_of}
 use Rattle.ls_orders.specs.declared.fault.OrderFault.{OrderFault}
 use Rattle.ls_orders.specs.declared.fault.OrderFault.TheVariants as order_faults
-use Rattle.ls_views.specs.Check.{with_feed}
+use Rattle.ls_commands.specs.Check.{with_feed}
 use Rattle.ls_explanations.specs.OrderNotes.{order_note}
 use Rattle.ls_faults.specs.Faults.{lifted_history, lifted_order}
 use Rattle.ls_faults.specs.Given.{GivesText}

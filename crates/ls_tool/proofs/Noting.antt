@@ -8,8 +8,8 @@ use Rattle.ls_report.specs.Events.{Text}
 use Rattle.ls_orders.specs.Orders.{order_of}
 use Rattle.ls_orders.specs.declared.fault.OrderFault.{OrderFault}
 use Rattle.ls_parts.specs.Parts.{is_text, parts_of}
-use Rattle.ls_views.specs.Check as check
-use Rattle.ls_views.specs.Check.{ChecksTo, judged_by, with_feed}
+use Rattle.ls_commands.specs.Check as check
+use Rattle.ls_commands.specs.Check.{ChecksTo, judged_by, with_feed}
 use Rattle.ls_command_line.specs.declared.words.CommandLine.{CommandLine}
 use Rattle.ls_command_line.specs.declared.words.Request.{Request}
 use Rattle.ls_command_line.specs.declared.words.Request.TheVariants as requests

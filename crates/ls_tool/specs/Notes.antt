@@ -6,7 +6,7 @@ use Rattle.ls_report.specs.declared.fault.HistoryFault.TheVariants as history_fa
 use Rattle.ls_orders.specs.Orders.{order_of}
 use Rattle.ls_orders.specs.Rules.{judgement_of}
 use Rattle.ls_orders.specs.declared.fault.OrderFault.{OrderFault}
-use Rattle.ls_views.specs.Check.{with_feed}
+use Rattle.ls_commands.specs.Check.{with_feed}
 use Rattle.ls_explanations.specs.OrderNotes.{order_note}
 use Rattle.ls_command_line.specs.declared.words.Request.{Request}
 use Rattle.ls_command_line.specs.declared.words.Request.TheVariants as requests

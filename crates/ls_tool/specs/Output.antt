@@ -9,23 +9,23 @@ use Rattle.std.specs.Option.{option_map}
 use denote.Ref.{Bor}
 use Rattle.std.specs.Io.KnownBytes.{Appends, Keeps}
 use Rattle.ls_report.specs.Events.{Text}
-use Rattle.ls_views.specs.Aimed.{AimsTo}
-use Rattle.ls_views.specs.Check.{ChecksTo}
-use Rattle.ls_views.specs.Ordered.{OrdersTo}
-use Rattle.ls_views.specs.SerialOrdered.{OrdersSerially}
+use Rattle.ls_commands.specs.Aimed.{AimsTo}
+use Rattle.ls_commands.specs.Check.{ChecksTo}
+use Rattle.ls_commands.specs.Ordered.{OrdersTo}
+use Rattle.ls_commands.specs.SerialOrdered.{OrdersSerially}
 use Rattle.ls_commands.specs.Compiled.{CountsTo, ReplaysTo}
 use Rattle.ls_commands.specs.Judged.{JudgesTo}
 use Rattle.ls_commands.specs.Lived.{LivesTo, ReplaysLiveTo}
 use Rattle.ls_commands.specs.Sampled.{SamplesTo}
 use Rattle.ls_commands.specs.Tallied.{drawing, sampling, TalliesTo}
 use Rattle.ls_commands.specs.Translated.{TranslatesTo}
-use Rattle.ls_merging.specs.Merging.{MergesTo}
+use Rattle.ls_commands.specs.Merging.{MergesTo}
 use Rattle.ls_explore_commands.specs.Explored.{ExploresTo}
 use Rattle.ls_explore_reports.specs.declared.printing.Exploring.{Exploring}
 use Rattle.ls_explore_commands.specs.Verdicts.{VerdictsTo}
-use Rattle.ls_views.specs.Viewed.{ViewsTo}
-use Rattle.ls_views.specs.declared.view.View.{View}
-use Rattle.ls_views.specs.declared.view.View.TheVariants as views
+use Rattle.ls_commands.specs.Viewed.{ViewsTo}
+use Rattle.ls_commands.specs.declared.showing.View.{View}
+use Rattle.ls_commands.specs.declared.showing.View.TheVariants as views
 use Rattle.ls_explanations.specs.Explanations.{note}
 use Rattle.ls_explanations.specs.Named.{named_note}
 use Rattle.ls_faults.specs.Faults.{fault_line}
@@ -37,13 +37,14 @@ use Rattle.ls_command_line.specs.Words.{AsksFor}
 use Rattle.ls_command_line.specs.declared.words.CommandLine.{CommandLine}
 use Rattle.ls_command_line.specs.declared.words.Request.{Request}
 use Rattle.ls_command_line.specs.declared.words.Request.TheVariants as requests
+use Rattle.ls_command_line.specs.declared.words.Seeking.{Seeking}
 use Rattle.ls_command_line.specs.declared.words.WordsFault.{WordsFault}
 use Rattle.ls_command_line.specs.declared.words.WordsFault.TheVariants as word_faults
 use Rattle.ls_faults.specs.declared.fault.ToolFault.{ToolFault}
 use Rattle.ls_faults.specs.declared.fault.ToolFault.TheVariants as faults
 use Rattle.ls_tool.specs.Asked.{OnClass}
 use Rattle.ls_tool.specs.Notes.{is_noted, NotesOn}
-use Rattle.ls_tool.specs.Pages.{PagesOnFour, PagesOnThree, PagesOnTwo}
+use Rattle.ls_tool.specs.Pages.{PagesOn}
 use Rattle.ls_tool.specs.Wanted.{wanted_parts}
 use Rattle.ls_find_reports.specs.Statuses.{status_of}
 use Rattle.ls_tool.specs.declared.running.Exit.{Exit}
@@ -53,47 +54,27 @@ use Rattle.ls_tool.specs.declared.said.Telling.TheVariants as tellings
 use Rattle.ls_tool.specs.declared.refusal.Refusal.{Refusal}
 use Rattle.ls_tool.specs.declared.refusal.Refusal.TheVariants as refusals
 
--- what a command may answer on one text: a text or a fault
-abbrev pub OnOne : Request → Text → Result Text ToolFault → Type 0
-OnOne requests.Order history answer = OrdersTo history answer
-OnOne (requests.Find seeking) classes answer = OnClass seeking classes None answer
-OnOne other text answer = answer ≡ Err faults.WrongParts
+-- what may be answered on two texts, and on no other number of them
+abbrev pub OnTwo : (Text → Text → Result Text ToolFault → Type 0) → List Text → Result Text ToolFault → Type 0
+OnTwo May (first ∷ second ∷ []) answer = May first second answer
+OnTwo May other answer = answer ≡ Err faults.WrongParts
 
-abbrev exploring : Option ℕ → ℕ → Bool → Bool → Bool → Exploring
-exploring cells states illegal first order = record {
-  cells = cells;
-  states = states;
-  illegal = illegal;
-  first = first;
-  order = order;
-}
+-- and on three
+abbrev pub OnThree : (Text → Text → Text → Result Text ToolFault → Type 0) → List Text → Result Text ToolFault → Type 0
+OnThree May (classes ∷ program ∷ third ∷ []) answer = May classes program third answer
+OnThree May other answer = answer ≡ Err faults.WrongParts
 
--- and what one that draws schedules by seeds may answer on two
-abbrev pub OnSamples : Request → Text → Text → Result Text ToolFault → Type 0
-OnSamples (requests.Batch seed count steps switch cells false) classes program answer = TalliesTo cells
-    (sampling seed count (drawing steps switch)) classes program answer
-OnSamples (requests.Batch seed count steps switch cells true) classes program answer = JudgesTo cells
-    (sampling seed count (drawing steps switch)) classes program answer
-OnSamples (requests.Sample seed steps switch cells) classes program answer = SamplesTo cells seed (drawing steps switch)
-    classes program answer
-OnSamples other classes program answer = answer ≡ Err faults.WrongParts
+-- what is said of a history, or of a history of a program
+abbrev pub OnOrder : List Text → Result Text ToolFault → Type 0
+OnOrder (history ∷ []) answer = OrdersTo history answer
+OnOrder (classes ∷ program ∷ history ∷ []) answer = OrdersSerially classes program history answer
+OnOrder other answer = answer ≡ Err faults.WrongParts
 
--- and on two
-abbrev pub OnTwo : Request → Text → Text → Result Text ToolFault → Type 0
-OnTwo requests.Check history order answer = ChecksTo history order answer
-OnTwo requests.Compile classes program answer = CountsTo classes program answer
-OnTwo (requests.Live cells limit) classes program answer = LivesTo cells limit classes program answer
-OnTwo (requests.Batch seed count steps switch cells judge) classes program answer = OnSamples
-    (requests.Batch seed count steps switch cells judge) classes program answer
-OnTwo (requests.Sample seed steps switch cells) classes program answer = OnSamples
-    (requests.Sample seed steps switch cells) classes program answer
-OnTwo (requests.Explore cells states illegal first order progress) classes program answer = ExploresTo
-    (exploring cells states illegal first order) classes program answer
-OnTwo (requests.Verdict states false) classes program answer = VerdictsTo states classes program answer
-OnTwo (requests.Verdict states true) classes program answer = answer ≡ Err faults.BadOptions
-OnTwo (requests.Page paging) classes program answer = PagesOnTwo paging classes program answer
-OnTwo (requests.Find seeking) classes menu answer = OnClass seeking classes (Some menu) answer
-OnTwo other first second answer = answer ≡ Err faults.WrongParts
+-- what is found in a class text, with a menu that is written by hand or without
+abbrev pub OnFind : Seeking → List Text → Result Text ToolFault → Type 0
+OnFind seeking (classes ∷ []) answer = OnClass seeking classes None answer
+OnFind seeking (classes ∷ menu ∷ []) answer = OnClass seeking classes (Some menu) answer
+OnFind seeking other answer = answer ≡ Err faults.WrongParts
 
 -- what is shown of a run
 abbrev pub trace_view : Bool → ℕ → ℕ → View
@@ -105,38 +86,61 @@ state_view dot to = if dot then views.Drawing to else views.State to
 abbrev pub states_view : Bool → ℕ → ℕ → View
 states_view dot from to = if dot then views.Drawings from to else views.States from to
 
--- and on three
-abbrev pub OnThree : Request → Text → Text → Text → Result Text ToolFault → Type 0
-OnThree (requests.Replay cells false) classes program schedule answer = ReplaysTo cells classes program schedule answer
-OnThree (requests.Replay cells true) classes program schedule answer = ReplaysLiveTo cells classes program schedule
-    answer
-OnThree requests.Source classes program schedule answer = ViewsTo views.History classes program schedule answer
-OnThree (requests.Trace from to fold) classes program schedule answer = ViewsTo (trace_view fold from to) classes
-    program schedule answer
-OnThree (requests.Page paging) classes program schedule answer = PagesOnThree paging classes program schedule answer
-OnThree (requests.State dot to) classes program schedule answer = ViewsTo (state_view dot to) classes program schedule
-    answer
-OnThree (requests.States dot from to) classes program schedule answer = ViewsTo (states_view dot from to) classes
-    program schedule answer
-OnThree requests.Aim classes program targets answer = AimsTo classes program targets answer
-OnThree requests.Order classes program history answer = OrdersSerially classes program history answer
-OnThree (requests.Translate to cells) classes program schedule answer = TranslatesTo to cells classes program schedule
-    answer
-OnThree other classes program schedule answer = answer ≡ Err faults.WrongParts
+-- what a command that draws schedules by seeds may answer on the parts of an input
+abbrev pub Samples : Request → List Text → Result Text ToolFault → Type 0
+Samples (requests.Batch seed count steps switch cells false) parts answer = OnTwo
+    (TalliesTo cells (sampling seed count (drawing steps switch))) parts answer
+Samples (requests.Batch seed count steps switch cells true) parts answer = OnTwo
+    (JudgesTo cells (sampling seed count (drawing steps switch))) parts answer
+Samples (requests.Sample seed steps switch cells) parts answer = OnTwo (SamplesTo cells seed (drawing steps switch))
+    parts answer
+Samples other parts answer = answer ≡ Err faults.WrongParts
 
--- and on four
-abbrev pub OnFour : Request → Text → Text → Text → Text → Result Text ToolFault → Type 0
-OnFour (requests.Page paging) classes program schedule order answer = PagesOnFour paging classes program schedule order
-    answer
-OnFour other classes program schedule order answer = answer ≡ Err faults.WrongParts
+abbrev exploring : Option ℕ → ℕ → Bool → Bool → Bool → Exploring
+exploring cells states illegal first order = record {
+  cells = cells;
+  states = states;
+  illegal = illegal;
+  first = first;
+  order = order;
+}
 
--- and on the parts of an input
+-- a wrong run alone, where no option is given that goes with the histories
+abbrev pub Verdicts : Bool → ℕ → Text → Text → Result Text ToolFault → Type 0
+Verdicts false states classes program answer = VerdictsTo states classes program answer
+Verdicts true states classes program answer = answer ≡ Err faults.BadOptions
+
+-- and one that goes through all schedules
+abbrev pub Explores : Request → List Text → Result Text ToolFault → Type 0
+Explores (requests.Explore cells states illegal first order progress) parts answer = OnTwo
+    (ExploresTo (exploring cells states illegal first order)) parts answer
+Explores (requests.Verdict states mixed) parts answer = OnTwo (Verdicts mixed states) parts answer
+Explores other parts answer = answer ≡ Err faults.WrongParts
+
+-- what a command may answer on the parts of an input: a text or a fault
 abbrev pub Answers : Request → List Text → Result Text ToolFault → Type 0
-Answers r (text ∷ []) answer = OnOne r text answer
-Answers r (first ∷ second ∷ []) answer = OnTwo r first second answer
-Answers r (classes ∷ program ∷ schedule ∷ []) answer = OnThree r classes program schedule answer
-Answers r (classes ∷ program ∷ schedule ∷ order ∷ []) answer = OnFour r classes program schedule order answer
-Answers r other answer = answer ≡ Err faults.WrongParts
+Answers requests.Check parts answer = OnTwo ChecksTo parts answer
+Answers requests.Order parts answer = OnOrder parts answer
+Answers requests.Compile parts answer = OnTwo CountsTo parts answer
+Answers (requests.Replay cells false) parts answer = OnThree (ReplaysTo cells) parts answer
+Answers (requests.Replay cells true) parts answer = OnThree (ReplaysLiveTo cells) parts answer
+Answers requests.Source parts answer = OnThree (ViewsTo views.History) parts answer
+Answers (requests.Trace from to fold) parts answer = OnThree (ViewsTo (trace_view fold from to)) parts answer
+Answers (requests.Page paging) parts answer = PagesOn paging parts answer
+Answers (requests.State dot to) parts answer = OnThree (ViewsTo (state_view dot to)) parts answer
+Answers (requests.States dot from to) parts answer = OnThree (ViewsTo (states_view dot from to)) parts answer
+Answers requests.Aim parts answer = OnThree AimsTo parts answer
+Answers (requests.Translate to cells) parts answer = OnThree (TranslatesTo to cells) parts answer
+Answers (requests.Live cells limit) parts answer = OnTwo (LivesTo cells limit) parts answer
+Answers (requests.Batch seed count steps switch cells judge) parts answer = Samples
+    (requests.Batch seed count steps switch cells judge) parts answer
+Answers (requests.Sample seed steps switch cells) parts answer = Samples (requests.Sample seed steps switch cells) parts
+    answer
+Answers (requests.Explore cells states illegal first order progress) parts answer = Explores
+    (requests.Explore cells states illegal first order progress) parts answer
+Answers (requests.Verdict states mixed) parts answer = Explores (requests.Verdict states mixed) parts answer
+Answers (requests.Find seeking) parts answer = OnFind seeking parts answer
+Answers (requests.Merge count) parts answer = answer ≡ Err faults.WrongParts
 
 -- and on an input, which is cut into parts unless it is one of tallies
 abbrev pub AnswersInput : Request → Text → Result Text ToolFault → Type 0

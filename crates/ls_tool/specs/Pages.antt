@@ -1,8 +1,8 @@
 -- Which page the command line asks for, by how many parts there are.
-use Rattle.std.specs.Prelude.{◌≡◌, ◌||◌, ℕ, Bool, MatchBool, [], Option, Some, None, Result, Err, is_some}
+use Rattle.std.specs.Prelude.{◌≡◌, ◌||◌, ℕ, Bool, List, MatchBool, [], ◌∷◌, Option, Some, None, Result, Err, is_some}
 use Rattle.ls_report.specs.Events.{Text}
 use Rattle.ls_choosing.specs.Chosen.{ChoosesTo}
-use Rattle.ls_paging.specs.Paged.{PagesTo, PagesWithOrderTo}
+use Rattle.ls_commands.specs.Paged.{PagesTo, PagesWithOrderTo}
 use Rattle.ls_command_line.specs.declared.words.Paging.{Paging}
 use Rattle.ls_faults.specs.declared.fault.ToolFault.{ToolFault}
 use Rattle.ls_faults.specs.declared.fault.ToolFault.TheVariants as faults
@@ -50,3 +50,10 @@ PagesOnThree p classes program schedule answer = MatchBool p.choose
 abbrev pub PagesOnFour : Paging → Text → Text → Text → Text → Result Text ToolFault → Type 0
 PagesOnFour p classes program schedule order answer = MatchBool (p.choose || is_some p.states) (Refused answer)
     (PagesWithOrderTo (first_of p) (last_of p) classes program schedule order answer)
+
+-- by how many parts there are
+abbrev pub PagesOn : Paging → List Text → Result Text ToolFault → Type 0
+PagesOn p (classes ∷ program ∷ []) answer = PagesOnTwo p classes program answer
+PagesOn p (classes ∷ program ∷ schedule ∷ []) answer = PagesOnThree p classes program schedule answer
+PagesOn p (classes ∷ program ∷ schedule ∷ order ∷ []) answer = PagesOnFour p classes program schedule order answer
+PagesOn p other answer = answer ≡ Err faults.WrongParts

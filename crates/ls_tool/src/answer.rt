@@ -1,333 +1,33 @@
 // What the words and the input ask for.
 
-ghost use Rattle.std.specs.Prelude.{◌≡◌, List, Some, map, option_map, string_bytes};
-ghost use Rattle.ls_commands.specs.Tallied.{drawing};
+ghost use Rattle.std.specs.Prelude.{◌≡◌, List, Some, map, string_bytes};
 ghost use Rattle.ls_explore.specs.Watching.{GoesOn};
 ghost use Rattle.ls_faults.specs.Given.{GivesText};
 ghost use Rattle.ls_files.specs.Names.{names_in};
 ghost use Rattle.ls_parts.specs.Cutting.{plain_text};
 ghost use Rattle.ls_report.specs.Events.{Text};
-ghost use Rattle.ls_tool.specs.Asked.{OnClass, choosing_of, range_of};
-ghost use Rattle.ls_tool.specs.Output.{Answers, AnswersInput, AnswersText, Asks, Decides, IsTaken, OnFour, OnOne};
-ghost use Rattle.ls_tool.specs.Output.{OnSamples, OnThree, OnTwo, names_of, read_as};
+ghost use Rattle.ls_tool.specs.Output.{Answers, AnswersInput, AnswersText, Asks, Decides, IsTaken, names_of, read_as};
 
+use crate::asked::on_find;
+use crate::commands::{
+    on_aim, on_check, on_compile, on_live, on_live_replay, on_order, on_replay, on_samples,
+    on_schedules, on_translate, on_view,
+};
 use crate::explained::refusal_of;
 use crate::noted::said_of;
-use crate::pages::{page_on_four, page_on_three, page_on_two};
+use crate::pages::on_page;
 use crate::refusal::Refusal;
 use crate::said::Said;
 use crate::views::{state_view, states_view, trace_view};
-use ls_command_line::{CommandLine, Request, Seeking, read_words};
-use ls_commands::batch::{Drawing, Sampling, batch};
-use ls_commands::judged_batch::judge_batch;
-use ls_commands::live::{live, replay_live};
-use ls_commands::replay::{count, replay};
-use ls_commands::sample::sample;
-use ls_commands::translate::translate;
+use ls_command_line::{CommandLine, Request, read_words};
+use ls_commands::{View, merge};
 use ls_explore::{Nobody, Watch};
-use ls_explore_commands::{Exploring, explore, verdict};
 use ls_faults::fault::ToolFault;
 use ls_files::{asking, names_in, unmarked};
-use ls_find_commands::{Bounds, Choosing, Range, Sought, Texts, find, print_program};
-use ls_merging::merge;
 use ls_parts::{parts_of, text_of};
-use ls_views::aim::aim;
-use ls_views::check::check;
-use ls_views::order::order;
-use ls_views::serial_order::serial_order;
-use ls_views::view::{View, show};
 use std::alloc::Global;
 use std::sync::Wait;
 use std::thread::Threads;
-
-/// What `find` answers on a class text, and on a menu that is written by hand if one is given.
-fn on_class<R: Threads + Sync, W: Watch>(
-    rt: &R,
-    alloc: Global,
-    seeking: Seeking,
-    texts: Texts<'_>,
-    watch: &mut W,
-) -> Result<String, ToolFault>
-    ensures gives { GivesText (OnClass seeking texts.entry.classes.now (option_map plain_text texts.entry.menu)) result }
-    ensures watched { GoesOn W.Since watch.old watch.new }
-{
-    let choosing = choosing_of(seeking);
-    if let Some(number) = seeking.print {
-        return print_program(alloc, choosing, number, texts);
-    }
-    find(rt, alloc, choosing, range_of(seeking), texts, watch)
-}
-
-/// Which class of the text is chosen, and what its programs may be.
-fn choosing_of(seeking: Seeking) -> Choosing
-    ensures { result ≡ choosing_of seeking }
-{
-    Choosing {
-        class: seeking.class,
-        values: seeking.values,
-        bounds: Bounds {
-            threads: seeking.threads,
-            calls: seeking.calls,
-            setup: seeking.setup,
-        },
-    }
-}
-
-/// The numbers of the programs that are looked through.
-fn range_of(seeking: Seeking) -> Range
-    ensures { result ≡ range_of seeking }
-{
-    Range {
-        states: seeking.states as usize,
-        sought: Sought {
-            waiting: seeking.waiting,
-            turning: seeking.turning,
-            set: seeking.set,
-        },
-        from: seeking.from,
-        to: seeking.to,
-    }
-}
-
-/// What the command answers on one text.
-fn on_one<R: Threads + Sync, W: Watch>(
-    rt: &R,
-    alloc: Global,
-    request: Request,
-    text: &str,
-    watch: &mut W,
-) -> Result<String, ToolFault>
-    ensures gives { GivesText (OnOne request text.now) result }
-    ensures watched { GoesOn W.Since watch.old watch.new }
-{
-    match request {
-        Request::Order => order(alloc, text),
-        Request::Find(seeking) => {
-            let texts = Texts {
-                classes: text,
-                menu: None,
-            };
-            on_class(rt, alloc, seeking, texts, watch)
-        }
-        Request::Check
-        | Request::Compile
-        | Request::Replay { .. }
-        | Request::Source
-        | Request::Trace { .. }
-        | Request::Page(_)
-        | Request::State { .. }
-        | Request::States { .. }
-        | Request::Aim
-        | Request::Translate { .. }
-        | Request::Live { .. }
-        | Request::Batch { .. }
-        | Request::Sample { .. }
-        | Request::Explore { .. }
-        | Request::Verdict { .. }
-        | Request::Merge { .. } => Err(ToolFault::WrongParts),
-    }
-}
-
-/// So many steps, each of which draws a thread by chance 1 in a number.
-fn drawing_of(steps: u64, switch: u64) -> Drawing
-    ensures { result ≡ drawing steps switch }
-{
-    Drawing {
-        steps: steps as usize,
-        switch,
-    }
-}
-
-/// What a command that draws schedules by seeds answers on two texts.
-fn on_samples<R: Threads + Sync>(
-    rt: &R,
-    alloc: Global,
-    request: Request,
-    classes: &str,
-    program: &str,
-) -> Result<String, ToolFault>
-    ensures { GivesText (OnSamples request classes.now program.now) result }
-{
-    match request {
-        Request::Batch {
-            seed,
-            count,
-            steps,
-            switch,
-            cells,
-            judge,
-        } => {
-            let sampling = Sampling {
-                first: seed,
-                count: count as usize,
-                drawing: drawing_of(steps, switch),
-            };
-            if judge {
-                return judge_batch(rt, alloc, sampling, cells as usize, classes, program);
-            }
-            batch(rt, alloc, sampling, cells as usize, classes, program)
-        }
-        Request::Sample {
-            seed,
-            steps,
-            switch,
-            cells,
-        } => {
-            let drawing = drawing_of(steps, switch);
-            sample(alloc, cells as usize, seed, drawing, classes, program)
-        }
-        _ => Err(ToolFault::WrongParts),
-    }
-}
-
-/// So many cells, if a number of them is given.
-fn cells_of(cells: Option<u64>) -> Option<usize>
-    ensures { result ≡ cells }
-{
-    match cells {
-        None => None,
-        Some(count) => Some(count as usize),
-    }
-}
-
-/// What the command answers on two texts.
-fn on_two<R: Threads + Wait + Sync, W: Watch>(
-    rt: &R,
-    alloc: Global,
-    request: Request,
-    first: &str,
-    second: &str,
-    watch: &mut W,
-) -> Result<String, ToolFault>
-    ensures gives { GivesText (OnTwo request first.now second.now) result }
-    ensures watched { GoesOn W.Since watch.old watch.new }
-{
-    match request {
-        Request::Check => check(alloc, first, second),
-        Request::Compile => count(alloc, first, second),
-        Request::Live { cells, limit } => {
-            live(rt, alloc, cells as usize, limit as usize, first, second)
-        }
-        Request::Batch { .. } | Request::Sample { .. } => {
-            on_samples(rt, alloc, request, first, second)
-        }
-        Request::Explore {
-            cells,
-            states,
-            illegal,
-            first: one,
-            order,
-            progress: _,
-        } => {
-            let exploring = Exploring {
-                cells: cells_of(cells),
-                states: states as usize,
-                illegal,
-                first: one,
-                order,
-            };
-            explore(alloc, exploring, first, second, watch)
-        }
-        Request::Verdict { states, mixed } => {
-            if mixed {
-                return Err(ToolFault::BadOptions);
-            }
-            verdict(alloc, states as usize, first, second)
-        }
-        Request::Page(paging) => page_on_two(alloc, paging, first, second),
-        Request::Find(seeking) => {
-            let texts = Texts {
-                classes: first,
-                menu: Some(second),
-            };
-            on_class(rt, alloc, seeking, texts, watch)
-        }
-        Request::Order
-        | Request::Replay { .. }
-        | Request::Source
-        | Request::Trace { .. }
-        | Request::State { .. }
-        | Request::States { .. }
-        | Request::Aim
-        | Request::Translate { .. }
-        | Request::Merge { .. } => Err(ToolFault::WrongParts),
-    }
-}
-
-/// What the command answers on three texts.
-fn on_three<R: Threads + Wait + Sync>(
-    rt: &R,
-    alloc: Global,
-    request: Request,
-    classes: &str,
-    program: &str,
-    schedule: &str,
-) -> Result<String, ToolFault>
-    ensures { GivesText (OnThree request classes.now program.now schedule.now) result }
-{
-    match request {
-        Request::Replay { cells, live: false } => {
-            replay(alloc, cells as usize, classes, program, schedule)
-        }
-        Request::Replay { cells, live: true } => {
-            replay_live(rt, alloc, cells as usize, classes, program, schedule)
-        }
-        Request::Source => show(alloc, View::History, classes, program, schedule),
-        Request::Trace { from, to, fold } => {
-            show(
-                alloc,
-                trace_view(fold, from, to),
-                classes,
-                program,
-                schedule,
-            )
-        }
-        Request::Page(paging) => page_on_three(alloc, paging, classes, program, schedule),
-        Request::State { dot, to } => {
-            show(alloc, state_view(dot, to), classes, program, schedule)
-        }
-        Request::States { dot, from, to } => {
-            show(
-                alloc,
-                states_view(dot, from, to),
-                classes,
-                program,
-                schedule,
-            )
-        }
-        Request::Aim => aim(alloc, classes, program, schedule),
-        Request::Order => serial_order(alloc, classes, program, schedule),
-        Request::Translate { to, cells } => {
-            translate(alloc, to, cells as usize, classes, program, schedule)
-        }
-        Request::Check
-        | Request::Compile
-        | Request::Live { .. }
-        | Request::Batch { .. }
-        | Request::Sample { .. }
-        | Request::Explore { .. }
-        | Request::Verdict { .. }
-        | Request::Find(_)
-        | Request::Merge { .. } => Err(ToolFault::WrongParts),
-    }
-}
-
-/// What the command answers on four texts.
-fn on_four(
-    alloc: Global,
-    request: Request,
-    classes: &str,
-    program: &str,
-    schedule: &str,
-    order: &str,
-) -> Result<String, ToolFault>
-    ensures { GivesText (OnFour request classes.now program.now schedule.now order.now) result }
-{
-    match request {
-        Request::Page(paging) => page_on_four(alloc, paging, classes, program, schedule, order),
-        _ => Err(ToolFault::WrongParts),
-    }
-}
 
 /// What the command answers on its parts.
 fn decide<R: Threads + Wait + Sync, W: Watch>(
@@ -340,14 +40,26 @@ fn decide<R: Threads + Wait + Sync, W: Watch>(
     ensures gives { GivesText (Answers request (map plain_text parts.now)) result }
     ensures watched { GoesOn W.Since watch.old watch.new }
 {
-    match parts {
-        [text] => on_one(rt, alloc, request, text, watch),
-        [first, second] => on_two(rt, alloc, request, first, second, watch),
-        [classes, program, schedule] => on_three(rt, alloc, request, classes, program, schedule),
-        [classes, program, schedule, order] => {
-            on_four(alloc, request, classes, program, schedule, order)
-        }
-        _ => Err(ToolFault::WrongParts),
+    match request {
+        Request::Check => on_check(alloc, parts),
+        Request::Order => on_order(alloc, parts),
+        Request::Compile => on_compile(alloc, parts),
+        Request::Replay { cells, live: false } => on_replay(alloc, cells as usize, parts),
+        Request::Replay { cells, live: true } => on_live_replay(rt, alloc, cells as usize, parts),
+        Request::Source => on_view(alloc, View::History, parts),
+        Request::Trace { from, to, fold } => on_view(alloc, trace_view(fold, from, to), parts),
+        Request::State { dot, to } => on_view(alloc, state_view(dot, to), parts),
+        Request::States { dot, from, to } => on_view(alloc, states_view(dot, from, to), parts),
+        Request::Page(paging) => on_page(alloc, paging, parts),
+        Request::Aim => on_aim(alloc, parts),
+        Request::Translate { to, cells } => on_translate(alloc, to, cells as usize, parts),
+        Request::Live { cells, limit } => on_live(rt, alloc, cells as usize, limit as usize, parts),
+        Request::Batch { .. } | Request::Sample { .. } => on_samples(rt, alloc, request, parts),
+        Request::Explore { .. } | Request::Verdict { .. } => on_schedules(
+            alloc, request, parts, watch,
+        ),
+        Request::Find(seeking) => on_find(rt, alloc, seeking, parts, watch),
+        Request::Merge { .. } => Err(ToolFault::WrongParts),
     }
 }
 

@@ -2,6 +2,8 @@
 #![tactic(auto)]
 
 pub mod answer;
+mod asked;
+mod commands;
 mod explained;
 mod noted;
 mod pages;

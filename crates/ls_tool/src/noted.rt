@@ -13,13 +13,13 @@ use crate::explained::refusal_of;
 use crate::refusal::Refusal;
 use crate::said::{Said, status_for};
 use ls_command_line::{CommandLine, Request};
+use ls_commands::with_feed;
 use ls_explanations::order_note;
 use ls_faults::fault::ToolFault;
 use ls_files::unmarked;
 use ls_orders::{check_order, read_order};
 use ls_parts::{parts_of, text_of};
 use ls_report::read_history;
-use ls_views::check::with_feed;
 use std::alloc::Global;
 
 /// What `check` tells beside its verdict: why the order isn't legal.

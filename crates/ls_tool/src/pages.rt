@@ -1,15 +1,16 @@
 // Which page the command line asks for, by how many parts there are.
 
-ghost use Rattle.std.specs.Prelude.{◌≡◌, []};
+ghost use Rattle.std.specs.Prelude.{◌≡◌, [], map};
 ghost use Rattle.ls_faults.specs.Given.{GivesText};
-ghost use Rattle.ls_tool.specs.Pages.{PagesOnFour, PagesOnThree, PagesOnTwo, PagesRun, first_of, has_range, last_of};
-ghost use Rattle.ls_tool.specs.Pages.{states_of};
+ghost use Rattle.ls_parts.specs.Cutting.{plain_text};
+ghost use Rattle.ls_tool.specs.Pages.{PagesOn, PagesOnFour, PagesOnThree, PagesOnTwo, PagesRun, first_of, has_range};
+ghost use Rattle.ls_tool.specs.Pages.{last_of, states_of};
 
 use ls_choosing::choosing::choose;
 use ls_command_line::Paging;
+use ls_commands::{page, page_with_order};
 use ls_faults::fault::ToolFault;
 use ls_page::Window;
-use ls_paging::page::{page, page_with_order};
 use std::alloc::Global;
 
 /// The states that are kept where no number is asked for.
@@ -43,8 +44,8 @@ fn states_of(paging: Paging) -> usize
     paging.states.unwrap_or(STATES) as usize
 }
 
-/// The page of two parts, on which one chooses.
-pub(crate) fn page_on_two(
+// The page of two parts, on which one chooses.
+fn page_on_two(
     alloc: Global,
     paging: Paging,
     classes: &str,
@@ -75,8 +76,8 @@ fn page_of_run(
     page(alloc, window.from, window.to, classes, program, schedule)
 }
 
-/// The page of three parts: on a run, or on which one chooses and begins with the run.
-pub(crate) fn page_on_three(
+// The page of three parts: on a run, or on which one chooses and begins with the run.
+fn page_on_three(
     alloc: Global,
     paging: Paging,
     classes: &str,
@@ -94,8 +95,8 @@ pub(crate) fn page_on_three(
     choose(alloc, states_of(paging), classes, program, schedule)
 }
 
-/// The page of four parts, on a run and an order.
-pub(crate) fn page_on_four(
+// The page of four parts, on a run and an order.
+fn page_on_four(
     alloc: Global,
     paging: Paging,
     classes: &str,
@@ -109,4 +110,18 @@ pub(crate) fn page_on_four(
         return Err(ToolFault::BadOptions);
     }
     page_with_order(alloc, window_of(paging), classes, program, schedule, order)
+}
+
+/// A class text and a program of it; the same and a schedule; or the same and an order.
+pub(crate) fn on_page(alloc: Global, paging: Paging, parts: &[&str]) -> Result<String, ToolFault>
+    ensures { GivesText (PagesOn paging (map plain_text parts.now)) result }
+{
+    match parts {
+        [classes, program] => page_on_two(alloc, paging, classes, program),
+        [classes, program, schedule] => page_on_three(alloc, paging, classes, program, schedule),
+        [classes, program, schedule, order] => {
+            page_on_four(alloc, paging, classes, program, schedule, order)
+        }
+        _ => Err(ToolFault::WrongParts),
+    }
 }

@@ -3,7 +3,7 @@
 ghost use Rattle.std.specs.Prelude.{◌≡◌};
 ghost use Rattle.ls_tool.specs.Output.{state_view, states_view, trace_view};
 
-use ls_views::view::View;
+use ls_commands::View;
 
 /// What each step does.
 pub(crate) fn trace_view(fold: bool, from: u64, to: u64) -> View

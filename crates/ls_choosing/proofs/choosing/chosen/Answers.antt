@@ -3,7 +3,7 @@ use Rattle.ls_types.specs.CheckedFile.{outcome_of}
 use Rattle.ls_types_elaboration.specs.PlacedStatements.{placed_file}
 use Rattle.ls_faults.specs.Faults.{lifted_check, lifted_text}
 use Rattle.ls_faults.proofs.Answering.{fails, wider}
-use Rattle.ls_views.proofs.ViewedLemmas.{err_of}
+use Rattle.ls_commands.proofs.ViewedLemmas.{err_of}
 use Rattle.ls_choosing.specs.Chosen.{Breaks, Checks, Chooses, NoFile, RunsTo, wanted_of}
 use Rattle.ls_choosing.proofs.choosing.chosen.Goals as goal
 

@@ -6,7 +6,7 @@ use Rattle.ls_types_reading.proofs.Standing.{no_program}
 use Rattle.ls_faults.specs.Faults.{lifted_program}
 use Rattle.ls_faults.specs.Given.{GivesText}
 use Rattle.ls_faults.proofs.Answering.{fails, wider}
-use Rattle.ls_views.specs.Viewed.{names_in}
+use Rattle.ls_commands.specs.Viewed.{names_in}
 use Rattle.ls_choosing.specs.Chosen.{FollowsTo, NoProgram, Ran, RunsTo, wanted_of}
 use Rattle.ls_choosing.proofs.choosing.run.Goals as goal
 

@@ -3,7 +3,7 @@ use Rattle.std.proofs.lemmas.Result.{err_from_is_err_and}
 use Rattle.std.specs.Prelude.{Result}
 use Rattle.ls_image.specs.declared.image.Image.{Image}
 use Rattle.ls_report.specs.Events.{Text}
-use Rattle.ls_commands.specs.declared.batch.Sampling.{Sampling}
+use Rattle.ls_commands.specs.declared.batching.Sampling.{Sampling}
 use Rattle.ls_faults.specs.declared.fault.ToolFault.{ToolFault}
 use Rattle.ls_commands.specs.Judged.{Judged}
 use Rattle.ls_commands.proofs.Answering.{not_compiled, on_image}

@@ -1,0 +1,20 @@
+use Rattle.std.proofs.lemmas.Result.{err_from_is_err_and}
+use Rattle.ls_commands.specs.Lived.{ReplayedLiveOf}
+use Rattle.ls_commands.proofs.Answering.{not_compiled, on_image}
+use Rattle.ls_commands.proofs.ReadBackLemmas.{replayed_live_of}
+use Rattle.ls_commands.proofs.live_runs.replay_live.Goals as goal
+
+pub returns-in_err-image : goal.returns-in_err-image
+returns-in_err-image g c =
+    let p = err_from_is_err_and c.from_residual.result c.from_residual.ensures.1 in
+    rw (p.1, p.2) (not_compiled c.args.classes.now c.args.program.now (ReplayedLiveOf c.args.cells c.args.schedule.now)
+    c.in_err-image.field-0.0 c.in_err-image.ensures.refused)
+
+pub returns : goal.returns
+returns g c =
+    let i = c.in_ok-image.image in
+    let compiles = c.in_ok-image.ensures.compiled in
+    on_image c.args.classes.now c.args.program.now (ReplayedLiveOf c.args.cells c.args.schedule.now) i
+    c.replayed_live.result compiles c.in_ok-image.ensures.within
+    (replayed_live_of c.compiled_is_readable.ensures c.args.classes.now c.args.program.now i compiles c.args.cells
+    c.args.schedule.now c.replayed_live.result c.replayed_live.ensures)

@@ -1,0 +1,42 @@
+use Rattle.std.proofs.Common.{◌≡◌, ◌∙◌, ap₂, subst, Ok}
+use Rattle.std.proofs.lemmas.Result.{err_from_is_err_and}
+use Rattle.ls_checked.specs.PlainProgram.{plain_program}
+use Rattle.ls_image.specs.Images.{program_of_image}
+use Rattle.ls_schedule.specs.Answers.{Fails}
+use Rattle.ls_schedule.specs.Reading.{schedule_of, thread_names}
+use Rattle.ls_report.specs.Printing.{run_text}
+use Rattle.ls_commands.specs.Compiled.{NoSchedule, Replayed}
+use Rattle.ls_faults.proofs.Answering.{unread}
+use Rattle.ls_commands.proofs.CompiledLemmas.{cells_fail, schedule_runs}
+use Rattle.ls_commands.proofs.replaying.replayed.Goals as goal
+
+pub returns-in_err-schedule : goal.returns-in_err-schedule
+returns-in_err-schedule c =
+    let p = err_from_is_err_and c.from_residual.result c.from_residual.ensures.1 in
+    let f = c.in_err-schedule.field-0.0 in
+    let s = c.args.schedule.now in
+    rw (p.1, p.2) (unread (Replayed c.args.image.now c.args.cells) NoSchedule
+    (schedule_of (thread_names (program_of_image c.args.image.now)) s) f
+    (subst (λ q. Fails f (schedule_of (thread_names q) s)) c.program.ensures c.in_err-schedule.ensures))
+
+pub returns-in_err-record : goal.returns-in_err-record
+returns-in_err-record c =
+    let p = err_from_is_err_and c.from_residual-in_err-record.result c.from_residual-in_err-record.ensures.1 in
+    let image = c.args.image.now in
+    let s = c.args.schedule.now in
+    let steps = c.in_ok-schedule.schedule in
+    let read = subst (λ q. schedule_of (thread_names q) s ≡ Ok steps) c.program.ensures c.in_ok-schedule.ensures in
+    rw (p.1, p.2) (cells_fail image c.args.cells (schedule_of (thread_names (program_of_image image)) s) steps
+    c.in_err-record.field-0.0 read c.in_err-record.ensures.bad)
+
+pub returns : goal.returns
+returns c =
+    let image = c.args.image.now in
+    let s = c.args.schedule.now in
+    let steps = c.in_ok-schedule.schedule in
+    let read = subst (λ q. schedule_of (thread_names q) s ≡ Ok steps) c.program.ensures c.in_ok-schedule.ensures in
+    let said = c.in_ok-print_history.ensures ∙ ap₂ (λ q es. run_text (plain_program q) es) c.program-2.ensures
+    c.history.ensures in
+    schedule_runs image c.args.cells (schedule_of (thread_names (program_of_image image)) s) steps c.in_ok-record.record
+    _ read
+    c.in_ok-record.ensures.bad c.in_ok-record.ensures.record said

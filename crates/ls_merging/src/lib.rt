@@ -1,6 +1,0 @@
-//! The command `merge`.
-#![tactic(auto)]
-
-mod merging;
-
-pub use merging::merge;

@@ -1,3 +1,0 @@
-pub mod JudgingLemmas
-pub mod PagedLemmas
-pub mod ReadableLemmas

@@ -1,0 +1,94 @@
+// What `find` answers on the parts of an input.
+
+ghost use Rattle.std.specs.Prelude.{◌≡◌, map, option_map};
+ghost use Rattle.ls_explore.specs.Watching.{GoesOn};
+ghost use Rattle.ls_faults.specs.Given.{GivesText};
+ghost use Rattle.ls_parts.specs.Cutting.{plain_text};
+ghost use Rattle.ls_tool.specs.Asked.{OnClass, choosing_of, range_of};
+ghost use Rattle.ls_tool.specs.Output.{OnFind};
+
+use ls_command_line::Seeking;
+use ls_explore::Watch;
+use ls_faults::fault::ToolFault;
+use ls_find_commands::{Bounds, Choosing, Range, Sought, Texts, find, print_program};
+use std::alloc::Global;
+use std::thread::Threads;
+
+/// What `find` answers on a class text, and on a menu that is written by hand if one is given.
+fn on_class<R: Threads + Sync, W: Watch>(
+    rt: &R,
+    alloc: Global,
+    seeking: Seeking,
+    texts: Texts<'_>,
+    watch: &mut W,
+) -> Result<String, ToolFault>
+    ensures gives { GivesText (OnClass seeking texts.entry.classes.now (option_map plain_text texts.entry.menu)) result }
+    ensures watched { GoesOn W.Since watch.old watch.new }
+{
+    let choosing = choosing_of(seeking);
+    if let Some(number) = seeking.print {
+        return print_program(alloc, choosing, number, texts);
+    }
+    find(rt, alloc, choosing, range_of(seeking), texts, watch)
+}
+
+/// Which class of the text is chosen, and what its programs may be.
+fn choosing_of(seeking: Seeking) -> Choosing
+    ensures { result ≡ choosing_of seeking }
+{
+    Choosing {
+        class: seeking.class,
+        values: seeking.values,
+        bounds: Bounds {
+            threads: seeking.threads,
+            calls: seeking.calls,
+            setup: seeking.setup,
+        },
+    }
+}
+
+/// The numbers of the programs that are looked through.
+fn range_of(seeking: Seeking) -> Range
+    ensures { result ≡ range_of seeking }
+{
+    Range {
+        states: seeking.states as usize,
+        sought: Sought {
+            waiting: seeking.waiting,
+            turning: seeking.turning,
+            set: seeking.set,
+        },
+        from: seeking.from,
+        to: seeking.to,
+    }
+}
+
+/// A class text, and a menu that is written by hand if one is given.
+pub(crate) fn on_find<R: Threads + Sync, W: Watch>(
+    rt: &R,
+    alloc: Global,
+    seeking: Seeking,
+    parts: &[&str],
+    watch: &mut W,
+) -> Result<String, ToolFault>
+    ensures gives { GivesText (OnFind seeking (map plain_text parts.now)) result }
+    ensures watched { GoesOn W.Since watch.old watch.new }
+{
+    match parts {
+        [classes] => {
+            let texts = Texts {
+                classes,
+                menu: None,
+            };
+            on_class(rt, alloc, seeking, texts, watch)
+        }
+        [classes, menu] => {
+            let texts = Texts {
+                classes,
+                menu: Some(menu),
+            };
+            on_class(rt, alloc, seeking, texts, watch)
+        }
+        _ => Err(ToolFault::WrongParts),
+    }
+}

@@ -1,6 +1,0 @@
-pub mod AimedLemmas
-pub mod CheckLemmas
-pub mod OrderLemmas
-pub mod SerialLemmas
-pub mod ShowsBack
-pub mod ViewedLemmas
