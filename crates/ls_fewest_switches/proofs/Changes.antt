@@ -19,7 +19,7 @@ change_tells b t = by (eqb_tells t b)
     by (inl (e, same)) = inl (change_same b t e, same)
     by (inr (e, other)) = inr (change_other b t e, other)
 
-triangle : (a b c : ℕ) → change a c ≤ change a b + change b c
+pub triangle : (a b c : ℕ) → change a c ≤ change a b + change b c
 triangle a b c = by (change_tells a b) (change_tells a c)
   where
     by : ((change a b ≡ 0) × (b ≡ a)) ⊎ ((change a b ≡ 1) × (b ≢ a)) →
@@ -27,11 +27,6 @@ triangle a b c = by (change_tells a b) (change_tells a c)
     by (inl (e, same)) d = let is : change b c ≡ change a c = ap (λ n. change n c) same in omega (arith, is)
     by (inr (e, other)) (inl (d, same)) = omega (arith, d)
     by (inr (e, other)) (inr (d, differs)) = omega (arith, d, e)
-
--- a step more doesn't make the changes fewer
-pub no_fewer : (b t : ℕ) (ts : List ℕ) → changes b ts ≤ changes b (t ∷ ts)
-no_fewer b t [] = omega arith
-no_fewer b t (u ∷ us) = let h = triangle b t u in omega (arith, h)
 
 -- ---- a list, item by item
 

@@ -21,6 +21,7 @@ use Rattle.ls_search.specs.Strides.{ActsBy, IsStrideBy}
 use Rattle.ls_search.proofs.Pairs.{keeps_longer, keeps_pushed, map_there, noted_stays, pushed_where}
 use Rattle.ls_search.proofs.Settling.{there_after}
 use Rattle.ls_search.proofs.Strides.{stays, there_still}
+use Rattle.ls_fewest_switches.specs.declared.changing.Counted.{Counted}
 use Rattle.ls_fewest_switches.specs.declared.spots.Found.{Found}
 use Rattle.ls_fewest_switches.specs.declared.spots.Spot.{Spot}
 use Rattle.ls_fewest_switches.specs.Reached.{ActsTo, HasReached, IsLooked, NeverBad, Reached, after_step}
@@ -72,7 +73,7 @@ module _ {S : Type 0} (first : S) (t t' : Table) (grows : Grows t t') (states st
         configuration = stays t t' s.place.store s.place.works.items grows h.numbers i;
         noted = noted_stays first t t' states states' grows more s.place.noted h.noted_there i;
         last = s.last;
-        changes = s.changes;
+        spent = s.spent;
       })
 
   module _ (spots : List Spot) (are : AreSpots threads t states spots) where
@@ -87,9 +88,10 @@ module _ {S : Type 0} (first : S) (t t' : Table) (grows : Grows t t') (states st
     keeps_still = subst (Keeps (reached_of first t states spots)) (sym all_stay) (λ n x e. e)
 
     -- with one more
-    module _ (at : ℕ) (s : Spot) (here : slice_get spots at ≡ Some s) (u : ℕ) (within : u < threads) (step : Step)
+    module _ (counted : Counted) (at : ℕ) (s : Spot) (here : slice_get spots at ≡ Some s) (u : ℕ)
+        (within : u < threads) (step : Step)
         (acts : ActsBy t' s.place.works.items u step (stride t.file (configuration_of t s.place) u)) where
-      next_there : (next : Spot) → IsSpotAfter s u step next → next.place.noted < length states' →
+      next_there : (next : Spot) → IsSpotAfter counted s u step next → next.place.noted < length states' →
           IsSpot t' states' threads next
       next_there next h noted_there =
           let is : IsSpot t states threads s = are at s here in
@@ -106,7 +108,7 @@ module _ {S : Type 0} (first : S) (t t' : Table) (grows : Grows t t') (states st
             width = ap length h.works ∙ length-set s.place.works.items u step.work ∙ is.width;
           }
 
-      pub spots_grow : (new : List Spot) → GrowBy states' spots new at u step → AreSpots threads t' states' new
+      pub spots_grow : (new : List Spot) → GrowBy counted states' spots new at u step → AreSpots threads t' states' new
       spots_grow new (inl same) i x e =
           spot_stays x (are i x (ap (λ (l : List Spot). slice_get l i) (sym same) ∙ e))
       spots_grow new (inr h) i x e =
@@ -117,9 +119,9 @@ module _ {S : Type 0} (first : S) (t t' : Table) (grows : Grows t t') (states st
           by_place (inr (last, same)) =
               let is : h.spot ≡ s = some_is (sym h.here ∙ here) in
               subst (IsSpot t' states' threads) same
-              (next_there h.next (subst (λ (k : Spot). IsSpotAfter k u step h.next) is h.after) h.noted_there)
+              (next_there h.next (subst (λ (k : Spot). IsSpotAfter counted k u step h.next) is h.after) h.noted_there)
 
-      pub keeps_grow : (new : List Spot) → GrowBy states' spots new at u step →
+      pub keeps_grow : (new : List Spot) → GrowBy counted states' spots new at u step →
           Keeps (reached_of first t states spots) (reached_of first t' states' new)
       keeps_grow new (inl same) =
           subst (Keeps (reached_of first t states spots)) (sym (ap (reached_of first t' states') same ∙ all_stay))
@@ -144,10 +146,10 @@ module _ {S : Type 0} (first : S) (t t' : Table) (grows : Grows t t') (states st
 
       -- the state after it is one of these
       next_reached : (next : S → Event → S) (new : List Spot) →
-          LeadsTo next (noted_at first states s) states' new s u step →
-          HasReached (reached_of first t' states' new) (after_step next t.file (reached_at first t states s) u)
+          LeadsTo next counted (noted_at first states s) states' new s u step →
+          HasReached (reached_of first t' states' new) (after_step next t.file counted (reached_at first t states s) u)
       next_reached next new to =
-          let h : IsSpotAfter s u step to.spot = to.after in
+          let h : IsSpotAfter counted s u step to.spot = to.after in
           let has : HasSpot new to.spot = to.has in
           record {
             at = has.at;
@@ -159,35 +161,36 @@ module _ {S : Type 0} (first : S) (t t' : Table) (grows : Grows t t') (states st
                 ∙ get_or_from_slice_get states' to.spot.place.noted _ first to.noted
                 ∙ ap (λ (es : List Event). fold next (noted_at first states s) es) (sym events_are);
             last = has.last ∙ h.last;
-            few = omega (arith, has.few, h.changes);
+            few = omega (arith, has.few, h.spent);
           }
 
       pub acts_on : (next : S → Event → S) (is_bad : S → Bool) (most : ℕ) (new : List Spot) →
-          LeadsOn next is_bad most (noted_at first states s) states' new s u step →
+          LeadsOn next is_bad counted most (noted_at first states s) states' new s u step →
           (p : Reached S) → slice_get (reached_of first t states spots) at ≡ Some p →
-          ActsTo next is_bad t.file most (reached_of first t' states' new) p u
+          ActsTo next is_bad t.file counted most (reached_of first t' states' new) p u
       acts_on next is_bad most new leads p p_here =
           let same : reached_at first t states s ≡ p =
           some_is (sym (map_there (reached_at first t states) spots at s here) ∙ p_here) in
-          subst (λ (q : Reached S). ActsTo next is_bad t.file most (reached_of first t' states' new) q u) same
+          subst (λ (q : Reached S). ActsTo next is_bad t.file counted most (reached_of first t' states' new) q u) same
           (record { acts = subst IsActing (sym did_is) tt; follows = λ acting few. by (leads few) })
         where
-          by : LeadsTo next (noted_at first states s) states' new s u step
+          by : LeadsTo next counted (noted_at first states s) states' new s u step
               ⊎ NeverBad next is_bad (fold next (noted_at first states s) (events_in (event_of u step.action))) →
-              HasReached (reached_of first t' states' new) (after_step next t.file (reached_at first t states s) u)
-              ⊎ NeverBad next is_bad (after_step next t.file (reached_at first t states s) u).noted
+              HasReached (reached_of first t' states' new)
+              (after_step next t.file counted (reached_at first t states s) u)
+              ⊎ NeverBad next is_bad (after_step next t.file counted (reached_at first t states s) u).noted
           by (inl to) = inl (next_reached next new to)
           by (inr never) = inr (subst (λ (es : List Event). NeverBad next is_bad (fold next (noted_at first states s) es))
               (sym events_are) never)
 
 -- what is looked at where a thread doesn't act
 pub still_looks : {S : Type 0} (first : S) (next : S → Event → S) (is_bad : S → Bool) (t t' : Table) (states : List S)
-    (most : ℕ) (list : List (Reached S)) (s : Spot) (u : ℕ) (m : Move) →
+    (counted : Counted) (most : ℕ) (list : List (Reached S)) (s : Spot) (u : ℕ) (m : Move) →
     IsStillMove m →
     IsStrideBy t' (configuration_of t s.place) s.place.works.items u m
     (stride t.file (configuration_of t s.place) u) →
-    IsLooked next is_bad t.file most list (reached_at first t states s) u (looked_of m)
-still_looks first next is_bad t t' states most list s u moves.Ended still is = ap (λ (z : Stride). z.did) is
-still_looks first next is_bad t t' states most list s u moves.Trapped still is = ap (λ (z : Stride). z.did) is
-still_looks first next is_bad t t' states most list s u moves.Waits still is = ap (λ (z : Stride). z.did) is
-still_looks first next is_bad t t' states most list s u (moves.Acts step) still is = absurd still
+    IsLooked next is_bad t.file counted most list (reached_at first t states s) u (looked_of m)
+still_looks first next is_bad t t' states counted most list s u moves.Ended still is = ap (λ (z : Stride). z.did) is
+still_looks first next is_bad t t' states counted most list s u moves.Trapped still is = ap (λ (z : Stride). z.did) is
+still_looks first next is_bad t t' states counted most list s u moves.Waits still is = ap (λ (z : Stride). z.did) is
+still_looks first next is_bad t t' states counted most list s u (moves.Acts step) still is = absurd still

@@ -1,4 +1,5 @@
 pub mod Changes
+pub mod Costs
 pub mod Paths
 pub mod Forward
 pub mod Growing
@@ -8,3 +9,5 @@ pub mod Roots
 pub mod Reaching
 pub mod Running
 pub mod Left
+pub mod Lefts
+pub mod Shorter

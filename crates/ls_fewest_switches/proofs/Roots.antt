@@ -12,8 +12,13 @@ use Rattle.ls_transitions.specs.Tables.{Table, Grows, Keeps}
 use Rattle.ls_search.specs.Places.{AreThere, configuration_at}
 use Rattle.ls_search.proofs.Strides.{stays, there_still}
 use Rattle.ls_transitions.proofs.Keeping.{below}
-use Rattle.ls_fewest_switches.specs.Levels.{HaveAtLeast, IsFirstWithin, IsWithin}
-use Rattle.ls_fewest_switches.specs.Switches.{HasFewestOf, IsSought, NoneWithin, changes, switches}
+use Rattle.ls_fewest_switches.specs.declared.changing.Counted.{Counted}
+use Rattle.ls_fewest_switches.specs.declared.changing.Counted.TheVariants as counts
+use Rattle.ls_fewest_switches.specs.Costs.{costs}
+use Rattle.ls_fewest_switches.specs.Levels.{HaveAtLeast, IsFirstWithin, IsLevel, IsWithin, NoneWithin}
+use Rattle.ls_fewest_switches.specs.declared.levels.Level.{Level}
+use Rattle.ls_fewest_switches.specs.Switches.{HasFewestOf, IsSought, changes, switches}
+use Rattle.ls_fewest_switches.proofs.Costs.{costs_changes}
 use Rattle.ls_fewest_switches.specs.declared.spots.Spot.{Spot}
 use Rattle.ls_fewest_switches.specs.Reached.{Reached}
 use Rattle.ls_fewest_switches.specs.Spots.{AreSpots, IsSpot, reached_at, reached_of}
@@ -42,10 +47,10 @@ module _ {S : Type 0} (first : S) (t : Table) (states : List S) (store : ℕ) (w
 
   pub root_there : (s : Spot) → s.place.store ≡ store → s.place.works.items ≡ works →
       slice_get states s.place.noted ≡ Some first →
-      s.last ≡ 0 → s.changes ≡ 0 → (spots : List Spot) → spots ≡ s ∷ [] → (list : List (Reached S)) →
+      s.last ≡ 0 → s.spent ≡ 0 → (spots : List Spot) → spots ≡ s ∷ [] → (list : List (Reached S)) →
       Keeps (reached_of first t states spots) list → (c : Configuration) → configuration_at t store works ≡ c →
-      slice_get list 0 ≡ Some (record { configuration = c; noted = first; last = 0; changes = 0 })
-  root_there s store_is works_is noted last changes spots are list keeps c is =
+      slice_get list 0 ≡ Some (record { configuration = c; noted = first; last = 0; spent = 0 })
+  root_there s store_is works_is noted last spent spots are list keeps c is =
       let here : slice_get (reached_of first t states spots) 0 ≡ Some (reached_at first t states s) =
       ap (λ (l : List Spot). slice_get (reached_of first t states l) 0) are in
       keeps 0 (reached_at first t states s) here
@@ -53,9 +58,9 @@ module _ {S : Type 0} (first : S) (t : Table) (states : List S) (store : ℕ) (w
         configuration = configuration_at t (store_is i) (works_is i);
         noted = get_or_from_slice_get states s.place.noted first first noted i;
         last = last i;
-        changes = changes i;
+        spent = spent i;
       })
-      ∙ ap (λ (k : Configuration). Some (record { configuration = k; noted = first; last = 0; changes = 0 })) is
+      ∙ ap (λ (k : Configuration). Some (record { configuration = k; noted = first; last = 0; spent = 0 })) is
 
 -- ---- while the table grows
 
@@ -71,32 +76,52 @@ module _ (t t' : Table) (grows : Grows t t') (store store' : ℕ) (works works' 
       (λ i. configuration_at t' (store_is i) (works_is i)) ∙ stays t t' store works grows there ∙ is
 
 -- fewer changes are no more switches
-pub no_more_switches : (few many : List ℕ) → changes 0 few ≤ changes 0 many → switches few ≤ switches many
-no_more_switches few many h = omega (arith, h)
+pub no_more_switches : (few many : List ℕ) → costs counts.Switches 0 few ≤ changes 0 many →
+    switches few ≤ switches many
+no_more_switches few many h = let same = costs_changes 0 few in omega (arith, h, same)
 
--- ---- changes, number by number
+-- ---- costs, number by number
 
 module _ {S : Type 0} (first : S) (next : S → Event → S) (is_bad : S → Bool) (stuck : Bool) (file : File)
-    (program : Program) where
-  -- if no schedule has so few changes, each has one more at least
-  pub least_more : (level : ℕ) → NoneWithin first next is_bad stuck file program level →
-      HaveAtLeast first next is_bad stuck file program (level + 1)
-  least_more level none s sought ends = by_count (cases_lt level (changes 0 s))
+    (program : Program) (counted : Counted) where
+  -- if no schedule costs so little, each costs one more at least
+  pub least_more : (level : ℕ) → NoneWithin first next is_bad stuck file program counted level →
+      HaveAtLeast first next is_bad stuck file program counted (level + 1)
+  least_more level none s sought ends = by_count (cases_lt level (costs counted 0 s))
     where
-      by_count : (level < changes 0 s) ⊎ (changes 0 s ≤ level) → level + 1 ≤ changes 0 s
+      by_count : (level < costs counted 0 s) ⊎ (costs counted 0 s ≤ level) → level + 1 ≤ costs counted 0 s
       by_count (inl more) = omega (arith, more)
       by_count (inr few) = absurd (none s sought ends few)
 
-  -- one with at most so many, where each has so many at least, has the fewest
-  pub first_of : (level : ℕ) (schedule : List ℕ) → IsWithin first next is_bad stuck file program level schedule →
-      HaveAtLeast first next is_bad stuck file program level →
-      IsFirstWithin first next is_bad stuck file program schedule
+  -- one that costs at most so much, where each costs so much at least, costs least
+  pub first_of : (level : ℕ) (schedule : List ℕ) →
+      IsWithin first next is_bad stuck file program counted level schedule →
+      HaveAtLeast first next is_bad stuck file program counted level →
+      IsFirstWithin first next is_bad stuck file program counted schedule
   first_of level schedule w least = record {
     within = record { sought = w.sought; ends = w.ends; few = omega arith; short = w.short };
     fewest = λ s sought ends. let h = least s sought ends in let few = w.few in omega (arith, h, few);
   }
 
-  -- so it has the fewest context switches
-  pub fewest_of : (schedule : List ℕ) → HaveAtLeast first next is_bad stuck file program (changes 0 schedule) →
-      HasFewestOf (IsSought first next is_bad) stuck file program schedule
-  fewest_of schedule least s sought ends = no_more_switches schedule s (least s sought ends)
+-- what is found of the same
+pub level_of : {O S : Type 0} (first : O → S) (next : O → S → Event → S) (is_bad : O → S → Bool) (file : File)
+    (program : Program) (most : ℕ) {o p : O} {b d : Bool} {c k : Counted} {l m : Level} → o ≡ p → b ≡ d → c ≡ k →
+    l ≡ m →
+    IsLevel (first o) (next o) (is_bad o) b file program c most l →
+    IsLevel (first p) (next p) (is_bad p) d file program k most m
+level_of {O = O} first next is_bad file program most {p = p} {b = b} {d = d} {c = c} {k = k} {l = l} observer stuck
+    counted
+    same h =
+    subst (λ (n : Level). IsLevel (first p) (next p) (is_bad p) d file program k most n) same
+    (subst (λ (j : Counted). IsLevel (first p) (next p) (is_bad p) d file program j most l) counted
+    (subst (λ (q : Bool). IsLevel (first p) (next p) (is_bad p) q file program c most l) stuck
+    (subst (λ (q : O). IsLevel (first q) (next q) (is_bad q) b file program c most l) observer h)))
+
+-- where changes of thread are counted, it has the fewest context switches
+pub fewest_of : {S : Type 0} (first : S) (next : S → Event → S) (is_bad : S → Bool) (stuck : Bool) (file : File)
+    (program : Program) (schedule : List ℕ) →
+    HaveAtLeast first next is_bad stuck file program counts.Switches (costs counts.Switches 0 schedule) →
+    HasFewestOf (IsSought first next is_bad) stuck file program schedule
+fewest_of first next is_bad stuck file program schedule least s sought ends =
+    let h = least s sought ends in
+    no_more_switches schedule s (omega (arith, h, costs_changes 0 s))

@@ -1,4 +1,4 @@
--- What is found with at most so many changes of thread.
+-- What is found of schedules that cost so little.
 use Rattle.std.specs.Prelude.{◌≡◌, ◌<◌, ◌≤◌, ℕ, Bool, List, length}
 use Rattle.ls_events.specs.Limits.{most_steps}
 use Rattle.ls_events.specs.declared.event.Event.{Event}
@@ -10,37 +10,44 @@ use Rattle.ls_meaning.specs.Still.{IsOver}
 use Rattle.ls_source.specs.Progress.{Progress}
 use Rattle.ls_fewest_switches.specs.declared.levels.Level.{Level}
 use Rattle.ls_fewest_switches.specs.declared.levels.Level.TheVariants as levels
-use Rattle.ls_fewest_switches.specs.Switches.{EndsSo, IsSought, NoneWithin, changes}
+use Rattle.ls_fewest_switches.specs.declared.changing.Counted.{Counted}
+use Rattle.ls_fewest_switches.specs.Costs.{costs}
+use Rattle.ls_fewest_switches.specs.Switches.{EndsSo, IsSought}
 
 module _ {S : Type 0} (first : S) (next : S → Event → S) (is_bad : S → Bool) (stuck : Bool) (file : File)
-    (program : Program) where
-  -- a schedule whose history is looked for, with an end as is asked and so few changes
+    (program : Program) (counted : Counted) where
+  -- no schedule whose history is looked for, and that ends as is asked, costs so little
+  abbrev pub NoneWithin : ℕ → Type 0
+  NoneWithin most = (s : List ℕ) → IsSought first next is_bad (source_history file program s) →
+      EndsSo stuck file program s → costs counted 0 s ≤ most → ⊥
+
+  -- a schedule whose history is looked for, with an end as is asked, that costs so little
   pub record IsWithin (most : ℕ) (schedule : List ℕ) : Type 0 where
     pub sought : IsSought first next is_bad (source_history file program schedule)
     pub ends : EndsSo stuck file program schedule
-    pub few : changes 0 schedule ≤ most
+    pub few : costs counted 0 schedule ≤ most
     pub short : length schedule ≤ most_steps
 
   -- there is none, or it is this one, or nothing is said
   abbrev pub IsLevel : ℕ → Level → Type 0
-  IsLevel most levels.Nothing = NoneWithin first next is_bad stuck file program most
+  IsLevel most levels.Nothing = NoneWithin most
   IsLevel most (levels.Steps steps) = IsWithin most steps.items
   IsLevel most levels.Cut = Unit {0}
 
-  -- each that is looked for has so many changes at least
+  -- each that is looked for costs so much at least
   abbrev pub HaveAtLeast : ℕ → Type 0
   HaveAtLeast count = (s : List ℕ) → IsSought first next is_bad (source_history file program s) →
-      EndsSo stuck file program s → count ≤ changes 0 s
+      EndsSo stuck file program s → count ≤ costs counted 0 s
 
-  -- such a schedule, with no more changes than any
+  -- such a schedule, that costs no more than any
   pub record IsFirstWithin (schedule : List ℕ) : Type 0 where
-    pub within : IsWithin (changes 0 schedule) schedule
-    pub fewest : HaveAtLeast (changes 0 schedule)
+    pub within : IsWithin (costs counted 0 schedule) schedule
+    pub fewest : HaveAtLeast (costs counted 0 schedule)
 
-  -- of the numbers of changes below one: there is none with any of them, or it is this one, or nothing is said
+  -- of the costs below one: there is none with any of them, or it is this one, or nothing is said
   abbrev pub IsBelow : ℕ → Level → Type 0
   IsBelow count levels.Nothing = HaveAtLeast count
-  IsBelow count (levels.Steps steps) = IsFirstWithin steps.items × (changes 0 steps.items < count)
+  IsBelow count (levels.Steps steps) = IsFirstWithin steps.items × (costs counted 0 steps.items < count)
   IsBelow count levels.Cut = Unit {0}
 
 -- no thread of a run acts, and one waits

@@ -1,6 +1,9 @@
 pub mod Switches
+pub mod Costs
+pub mod Shortest
 pub mod Reached
 pub mod Spots
 pub mod Levels
 pub mod Wording
 pub mod Along
+pub mod Among

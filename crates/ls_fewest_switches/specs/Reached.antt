@@ -1,4 +1,4 @@
--- States that are reached, with what is noted of the history so far, and how often the thread has changed.
+-- States that are reached, with what is noted of the history so far, and what the steps so far cost.
 use Rattle.std.specs.Prelude.{◌≡◌, ◌⊎◌, ◌≤◌, ◌<◌, ◌+◌, ℕ, Bool, true, false, List, Some, length, slice_get}
 use Rattle.std.specs.List.{fold}
 use Rattle.ls_events.specs.declared.event.Event.{Event}
@@ -11,18 +11,19 @@ use Rattle.ls_search.specs.Answers.{IsStuck}
 use Rattle.ls_search.specs.declared.places.Looked.{Looked}
 use Rattle.ls_search.specs.declared.places.Looked.TheVariants as looked
 use Rattle.ls_search.specs.declared.places.Seen.{Seen}
-use Rattle.ls_fewest_switches.specs.Switches.{change}
+use Rattle.ls_fewest_switches.specs.declared.changing.Counted.{Counted}
+use Rattle.ls_fewest_switches.specs.Costs.{cost, kept_last}
 
 pub record Reached (S : Type 0) : Type 0 where
   pub configuration : Configuration
   -- what is noted of the history so far
   pub noted : S
-  -- the thread of the step before
+  -- what is kept of the thread of the step before
   pub last : ℕ
-  -- how often the thread has changed
-  pub changes : ℕ
+  -- what the steps so far cost
+  pub spent : ℕ
 
--- one of them is this state, reached with no more changes
+-- one of them is this state, reached at no higher cost
 pub record HasReached {S : Type 0} (list : List (Reached S)) (r : Reached S) : Type 0 where
   pub at : ℕ
   pub one : Reached S
@@ -30,14 +31,14 @@ pub record HasReached {S : Type 0} (list : List (Reached S)) (r : Reached S) : T
   pub configuration : one.configuration ≡ r.configuration
   pub noted : one.noted ≡ r.noted
   pub last : one.last ≡ r.last
-  pub few : one.changes ≤ r.changes
+  pub few : one.spent ≤ r.spent
 
-abbrev pub after_step : {S : Type 0} → (S → Event → S) → File → Reached S → ℕ → Reached S
-after_step next file p u = record {
+abbrev pub after_step : {S : Type 0} → (S → Event → S) → File → Counted → Reached S → ℕ → Reached S
+after_step next file counted p u = record {
   configuration = (stride file p.configuration u).after;
   noted = fold next p.noted (events_of u (stride file p.configuration u).did);
-  last = u;
-  changes = p.changes + change p.last u;
+  last = kept_last counted u;
+  spent = p.spent + cost counted p.last u;
 }
 
 -- whatever comes after it, the history isn't one that is looked for
@@ -49,12 +50,13 @@ abbrev pub EndsAt : Bool → File → Configuration → Type 0
 EndsAt true file c = IsStuck file c
 EndsAt false file c = Unit {0}
 
-module _ {S : Type 0} (next : S → Event → S) (is_bad : S → Bool) (file : File) (most : ℕ) where
-  -- If a thread acts, and the thread has changed at most so often then, the state after that is one of the list, or none
-  -- that it leads to is looked for.
+module _ {S : Type 0} (next : S → Event → S) (is_bad : S → Bool) (file : File) (counted : Counted)
+    (most : ℕ) where
+  -- If a thread acts, and the steps cost at most so much then, the state after that is one of the list, or none that it
+  -- leads to is looked for.
   abbrev pub IsFollowed : List (Reached S) → Reached S → ℕ → Type 0
-  IsFollowed list p u = IsActing (stride file p.configuration u).did → (after_step next file p u).changes ≤ most →
-      HasReached list (after_step next file p u) ⊎ NeverBad next is_bad (after_step next file p u).noted
+  IsFollowed list p u = IsActing (stride file p.configuration u).did → (after_step next file counted p u).spent ≤ most →
+      HasReached list (after_step next file counted p u) ⊎ NeverBad next is_bad (after_step next file counted p u).noted
 
   pub record ActsTo (list : List (Reached S)) (p : Reached S) (u : ℕ) : Type 0 where
     pub acts : IsActing (stride file p.configuration u).did

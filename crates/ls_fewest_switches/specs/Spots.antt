@@ -14,7 +14,8 @@ use Rattle.ls_transitions.specs.declared.moves.Move.TheVariants as moves
 use Rattle.ls_transitions.specs.Tables.{Table}
 use Rattle.ls_fewest_switches.specs.declared.spots.Found.{Found}
 use Rattle.ls_fewest_switches.specs.declared.spots.Spot.{Spot}
-use Rattle.ls_fewest_switches.specs.Switches.{change}
+use Rattle.ls_fewest_switches.specs.declared.changing.Counted.{Counted}
+use Rattle.ls_fewest_switches.specs.Costs.{cost, kept_last}
 use Rattle.ls_fewest_switches.specs.Reached.{NeverBad, Reached}
 
 -- what the numbers of what is noted stand for
@@ -30,7 +31,7 @@ reached_at first t states s = record {
   configuration = configuration_of t s.place;
   noted = noted_at first states s;
   last = s.last;
-  changes = s.changes;
+  spent = s.spent;
 }
 
 abbrev pub reached_of : {S : Type 0} → S → Table → List S → List Spot → List (Reached S)
@@ -52,7 +53,7 @@ AreSpots threads t states spots = (at : ℕ) (s : Spot) → slice_get spots at �
 abbrev pub AreFound : {N S : Type 0} → (N → S) → ℕ → Table → Found N → Type 0
 AreFound stands threads t f = AreSpots threads t (states_in stands f) f.spots.spots.items
 
--- one of them is this state, reached with no more changes
+-- one of them is this state, reached at no higher cost
 pub record HasSpot (spots : List Spot) (s : Spot) : Type 0 where
   pub at : ℕ
   pub one : Spot
@@ -61,49 +62,50 @@ pub record HasSpot (spots : List Spot) (s : Spot) : Type 0 where
   pub works : one.place.works.items ≡ s.place.works.items
   pub noted : one.place.noted ≡ s.place.noted
   pub last : one.last ≡ s.last
-  pub few : one.changes ≤ s.changes
+  pub few : one.spent ≤ s.spent
 
 -- the same, or one more
 abbrev pub Pushed : List Spot → List Spot → Spot → Type 0
 Pushed old new s = (new ≡ old) ⊎ (new ≡ old ++ s ∷ [])
 
 -- the state after a step of a thread, but for what is noted
-pub record IsSpotAfter (s : Spot) (thread : ℕ) (step : Step) (after : Spot) : Type 0 where
+pub record IsSpotAfter (counted : Counted) (s : Spot) (thread : ℕ) (step : Step) (after : Spot) : Type 0 where
   pub store : after.place.store ≡ step.store
   pub works : after.place.works.items ≡ slice_set s.place.works.items thread step.work
-  pub last : after.last ≡ thread
-  pub changes : after.changes ≡ s.changes + change s.last thread
+  pub last : after.last ≡ kept_last counted thread
+  pub spent : after.spent ≡ s.spent + cost counted s.last thread
 
 -- the state after a step at the one at a place is new
-pub record IsPushedAfter {S : Type 0} (states : List S) (old new : List Spot) (at thread : ℕ) (step : Step) : Type 0
-  where
-    pub spot : Spot
-    pub here : slice_get old at ≡ Some spot
-    pub next : Spot
-    pub after : IsSpotAfter spot thread step next
-    pub noted_there : next.place.noted < length states
-    pub more : new ≡ old ++ next ∷ []
+pub record IsPushedAfter {S : Type 0} (counted : Counted) (states : List S) (old new : List Spot) (at thread : ℕ)
+    (step : Step) : Type 0 where
+  pub spot : Spot
+  pub here : slice_get old at ≡ Some spot
+  pub next : Spot
+  pub after : IsSpotAfter counted spot thread step next
+  pub noted_there : next.place.noted < length states
+  pub more : new ≡ old ++ next ∷ []
 
-abbrev pub GrowBy : {S : Type 0} → List S → List Spot → List Spot → ℕ → ℕ → Step → Type 0
-GrowBy states old new at thread step = (new ≡ old) ⊎ IsPushedAfter states old new at thread step
+abbrev pub GrowBy : {S : Type 0} → Counted → List S → List Spot → List Spot → ℕ → ℕ → Step → Type 0
+GrowBy counted states old new at thread step = (new ≡ old) ⊎ IsPushedAfter counted states old new at thread step
 
 -- what is noted after a step, where this was noted before it
 abbrev pub noted_after : {S : Type 0} → (S → Event → S) → S → ℕ → Step → S
 noted_after next m thread step = fold next m (events_in (event_of thread step.action))
 
 -- one of these is the state after a step at this one
-pub record LeadsTo {S : Type 0} (next : S → Event → S) (m : S) (states : List S) (new : List Spot) (s : Spot) (thread : ℕ)
-    (step : Step) : Type 0 where
+pub record LeadsTo {S : Type 0} (next : S → Event → S) (counted : Counted) (m : S) (states : List S) (new : List Spot)
+    (s : Spot) (thread : ℕ) (step : Step) : Type 0 where
   pub spot : Spot
-  pub after : IsSpotAfter s thread step spot
+  pub after : IsSpotAfter counted s thread step spot
   pub noted : slice_get states spot.place.noted ≡ Some (noted_after next m thread step)
   pub has : HasSpot new spot
 
--- The state after a step at this one is one of these, if the thread has changed at most so often, or none that it leads to
--- is looked for.
-abbrev pub LeadsOn : {S : Type 0} → (S → Event → S) → (S → Bool) → ℕ → S → List S → List Spot → Spot → ℕ → Step → Type 0
-LeadsOn next is_bad most m states new s thread step = s.changes + change s.last thread ≤ most →
-    LeadsTo next m states new s thread step ⊎ NeverBad next is_bad (noted_after next m thread step)
+-- The state after a step at this one is one of these, if the steps cost at most so much, or none that it leads to is
+-- looked for.
+abbrev pub LeadsOn : {S : Type 0} → (S → Event → S) → (S → Bool) → Counted → ℕ → S → List S → List Spot → Spot → ℕ →
+    Step → Type 0
+LeadsOn next is_bad counted most m states new s thread step = s.spent + cost counted s.last thread ≤ most →
+    LeadsTo next counted m states new s thread step ⊎ NeverBad next is_bad (noted_after next m thread step)
 
 -- a move that doesn't act
 abbrev pub IsStillMove : Move → Type 0

@@ -44,9 +44,3 @@ HasFewestStuck file program schedule =
 -- an observer calls the history bad
 abbrev pub IsSought : {S : Type 0} → S → (S → Event → S) → (S → Bool) → List Event → Type 0
 IsSought first next is_bad h = is_bad (fold next first h) ≡ true
-
--- no schedule whose history is so, and that ends as is asked, has at most so many changes
-abbrev pub NoneWithin : {S : Type 0} → S → (S → Event → S) → (S → Bool) → Bool → File → Program → ℕ → Type 0
-NoneWithin first next is_bad stuck file program most =
-    (s : List ℕ) → IsSought first next is_bad (source_history file program s) → EndsSo stuck file program s →
-    changes 0 s ≤ most → ⊥

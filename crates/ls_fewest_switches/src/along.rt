@@ -1,6 +1,6 @@
 // The observer of one history.
 
-ghost use Rattle.std.specs.Prelude.{◌≡◌, List, Option, Some, drop};
+ghost use Rattle.std.specs.Prelude.{◌≡◌, ◌+◌, IfSome, List, Option, Some, drop};
 ghost use Rattle.ls_events.specs.declared.event.Event.{Event as EventValue};
 ghost use Rattle.ls_fewest_switches.specs.Along.{is_whole, left_after, left_from};
 
@@ -19,8 +19,9 @@ pub(crate) struct Along<'a> {
 }
 
 /// How many events of a history have come after one event more, or nothing if it isn't the next.
-fn come_after(history: &[Event], done: usize, event: &Event) -> Option<usize>
-    ensures { left_from history.now result ≡ left_after (Some (drop done history.now)) event.now }
+pub(crate) fn come_after(history: &[Event], done: usize, event: &Event) -> Option<usize>
+    ensures left { left_from history.now result ≡ left_after (Some (drop done history.now)) event.now }
+    ensures one { IfSome result (λ count. count ≡ done + 1) }
 {
     events_are_tested();
     match history.get(done) {
@@ -35,7 +36,7 @@ fn come_after(history: &[Event], done: usize, event: &Event) -> Option<usize>
 }
 
 /// Whether a history is over where so many events have come.
-fn is_over(history: &[Event], done: usize) -> bool
+pub(crate) fn is_over(history: &[Event], done: usize) -> bool
     ensures { result ≡ is_whole (left_from history.now (Some done)) }
 {
     if done >= history.len() {

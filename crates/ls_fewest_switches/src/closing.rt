@@ -1,4 +1,4 @@
-// The search for an end with so many changes of thread.
+// The search for an end of schedules that cost so little.
 
 ghost use Rattle.std.specs.Prelude.{◌≡◌, ◌⊎◌, ◌<◌, IfOk, IfSome, OnOk, Some, false, length, map, slice_get};
 ghost use Rattle.std.specs.Prelude.{slice_index_or, true};
@@ -21,7 +21,7 @@ use std::alloc::AllocError;
 /// How a search ends.
 #[derive(Copy)]
 pub enum Closing {
-    /// No end is reached with so many changes of thread.
+    /// No schedule that costs so little reaches an end.
     Closed,
     /// The state at this place is an end.
     Ends(usize),
@@ -60,7 +60,7 @@ fn expand<'a, O: Observer>(
         slice_get (reached_in (O.first ground.now.observer.now) (O.stands ground.now.observer.now)
         (table_of transitions.old) found.old) at ≡ Some p →
         IsExpanded (O.next ground.now.observer.now) (O.bad ground.now.observer.now) (table_of transitions.old).file
-        ground.now.most
+        ground.now.counted ground.now.most
         (reached_in (O.first ground.now.observer.now) (O.stands ground.now.observer.now) (table_of transitions.new)
         found.new) ground.now.threads p seen)) }
 {
@@ -115,7 +115,7 @@ pub(crate) fn close<'a, O: Observer>(
         found.new)) }
     ensures closed { IfOk result (λ c. c ≡ Closed →
         IsClosed (O.next ground.now.observer.now) (O.bad ground.now.observer.now) (table_of transitions.old).file
-        ground.now.most ground.now.stuck
+        ground.now.counted ground.now.most ground.now.stuck
         (reached_in (O.first ground.now.observer.now) (O.stands ground.now.observer.now) (table_of transitions.new)
         found.new)) }
 {

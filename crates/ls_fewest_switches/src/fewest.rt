@@ -9,7 +9,7 @@ ghost use Rattle.ls_fewest_switches.specs.Reached.{NeverBad};
 ghost use Rattle.ls_fewest_switches.specs.Switches.{EndsSo, HasFewest, HasFewestOf, IsSought, switches};
 
 use crate::along::Along;
-use crate::changing::changes;
+use crate::changing::{Counted, changes};
 use crate::following::Ground;
 use crate::levels::{Level, within};
 use ls_checked::program::Program;
@@ -50,7 +50,7 @@ pub fn switches(schedule: &Schedule) -> usize
     changes(schedule.steps()).saturating_sub(1)
 }
 
-/// The schedule with the fewest changes of thread that is looked for, if it has fewer than so many and not too many states
+/// The schedule that costs least of those that are looked for, if it costs less than so much and not too many states
 /// are needed.
 fn least_below<O: Observer>(
     ground: Ground<'_, O, O::Noted>,
@@ -62,7 +62,8 @@ fn least_below<O: Observer>(
     requires lost { IfSome ground.lost (λ n. NeverBad (O.next ground.observer.now) (O.bad ground.observer.now)
         (O.stands ground.observer.now n)) }
     ensures { IfOk result (IsBelow (O.first ground.entry.observer.now) (O.next ground.entry.observer.now)
-        (O.bad ground.entry.observer.now) ground.entry.stuck (plain_file file.now) (plain_program program.now) count) }
+        (O.bad ground.entry.observer.now) ground.entry.stuck (plain_file file.now) (plain_program program.now)
+        ground.entry.counted count) }
 {
     let mut ground = ground;
     let playing = Playing::new(ground.alloc, file, program)?;
@@ -120,6 +121,7 @@ pub fn simplest(
         lost: Some(None),
         threads: program.threads.len() as u8,
         limit: target.limit,
+        counted: Counted::Switches,
         most,
         stuck: target.stuck,
     };
@@ -165,6 +167,7 @@ pub fn simplest_bad<O: Observer>(
         lost: None,
         threads: program.threads.len() as u8,
         limit: target.limit,
+        counted: Counted::Switches,
         most,
         stuck: target.stuck,
     };

@@ -1,4 +1,4 @@
-// Steps of threads that change so seldom.
+// Steps of schedules that cost so little.
 
 ghost use Rattle.std.specs.Prelude.{◌≡◌, ◌<◌, [], IfNone, IfOk, IfSome, IsTrue, OnOk, Some, length, map};
 ghost use Rattle.std.specs.Prelude.{slice_get, slice_set};
@@ -11,7 +11,7 @@ ghost use Rattle.ls_fewest_switches.specs.Spots.{AreFound, GrowBy, IsStillMove, 
 ghost use Rattle.ls_fewest_switches.specs.Spots.{noted_at, reached_in, states_in};
 ghost use Rattle.ls_fewest_switches.specs.declared.spots.Spot.{Spot as SpotValue};
 
-use crate::changing::changes_after;
+use crate::changing::{Counted, kept_last, spent_after};
 use crate::spots::{Found, Spot};
 use ls_observers::observer::Observer;
 use ls_search::advancing::take;
@@ -34,7 +34,8 @@ pub struct Ground<'a, O, N> {
     pub threads: u8,
     /// The most states.
     pub limit: usize,
-    /// How often the thread may change.
+    pub counted: Counted,
+    /// How much a schedule may cost.
     pub most: usize,
     /// Whether no thread may act at the end, and one must wait.
     pub stuck: bool,
@@ -88,8 +89,8 @@ pub(crate) fn spot_at(spots: &[Spot], at: usize) -> &Spot
     &spots[at]
 }
 
-/// Keeps the state after a step of a thread at the state at a place, if the thread hasn't changed too often then, and it
-/// may lead to what is looked for. Answers false where there are as many as there may be.
+/// Keeps the state after a step of a thread at the state at a place, if the steps don't cost too much then, and it may
+/// lead to what is looked for. Answers false where there are as many as there may be.
 fn reach<O: Observer>(
     ground: &Ground<'_, O, O::Noted>,
     found: &mut Found<O::Noted>,
@@ -106,16 +107,17 @@ fn reach<O: Observer>(
         (O.bad ground.now.observer.now) (O.stands ground.now.observer.now n)) }
     ensures keeps { Keeps (states_in (O.stands ground.now.observer.now) found.old)
         (states_in (O.stands ground.now.observer.now) found.new) }
-    ensures grow { OnOk result (GrowBy (states_in (O.stands ground.now.observer.now) found.new)
+    ensures grow { OnOk result (GrowBy ground.now.counted (states_in (O.stands ground.now.observer.now) found.new)
         found.old.spots.spots.items found.new.spots.spots.items at thread step.now) }
     ensures leads { IfOk result (λ kept. IsTrue kept → (s : SpotValue) →
         slice_get found.old.spots.spots.items at ≡ Some s →
-        LeadsOn (O.next ground.now.observer.now) (O.bad ground.now.observer.now) ground.now.most
+        LeadsOn (O.next ground.now.observer.now) (O.bad ground.now.observer.now) ground.now.counted ground.now.most
         (noted_at (O.first ground.now.observer.now) (states_in (O.stands ground.now.observer.now) found.old) s)
         (states_in (O.stands ground.now.observer.now) found.new) found.new.spots.spots.items s thread step.now) }
 {
     let spot = spot_at(&found.spots.spots, at);
-    let Some(changes) = changes_after(spot.changes, spot.last, thread, ground.most) else {
+    let counted = ground.counted;
+    let Some(spent) = spent_after(counted, spot.spent, spot.last, thread, ground.most) else {
         return Ok(true);
     };
     let noted = note(
@@ -132,8 +134,9 @@ fn reach<O: Observer>(
     let place = place_after(ground.alloc, &spot.place, thread, step, noted)?;
     let next = Spot {
         place,
-        last: thread,
-        changes,
+        last: kept_last(counted, thread),
+        thread,
+        spent,
         before: at,
     };
     let kept = found.spots.keep(ground.alloc, ground.limit, next)?;
@@ -194,7 +197,7 @@ pub(crate) fn look<'a, O: Observer>(
         slice_get (reached_in (O.first ground.now.observer.now) (O.stands ground.now.observer.now)
         (table_of transitions.old) found.old) at ≡ Some p →
         IsLooked (O.next ground.now.observer.now) (O.bad ground.now.observer.now) (table_of transitions.old).file
-        ground.now.most
+        ground.now.counted ground.now.most
         (reached_in (O.first ground.now.observer.now) (O.stands ground.now.observer.now) (table_of transitions.new)
         found.new) p thread l)) }
 {

@@ -1,4 +1,4 @@
-// The search for a schedule with so many changes of thread.
+// The search for a schedule that costs so little.
 
 ghost use Rattle.std.specs.Prelude.{◌≡◌, IfOk, IfSome, length};
 ghost use Rattle.ls_checked.specs.CheckedProgram.{Program as ProgramValue};
@@ -9,12 +9,11 @@ ghost use Rattle.ls_search_laws.specs.Configuration.{configuration_of};
 ghost use Rattle.ls_search.specs.Places.{AreThere, configuration_at};
 ghost use Rattle.ls_transitions.specs.Seen.{table_of};
 ghost use Rattle.ls_transitions.specs.Tables.{Grows};
-ghost use Rattle.ls_fewest_switches.specs.Switches.{NoneWithin};
-ghost use Rattle.ls_fewest_switches.specs.Levels.{IsLevel};
+ghost use Rattle.ls_fewest_switches.specs.Levels.{IsLevel, NoneWithin};
 ghost use Rattle.ls_fewest_switches.specs.Reached.{NeverBad};
 ghost use Rattle.ls_fewest_switches.specs.declared.levels.Level.TheVariants.{Nothing};
 
-use crate::changing::changes;
+use crate::changing::costs;
 use crate::checking::is_such;
 use crate::closing::{Closing, close};
 use crate::following::Ground;
@@ -50,14 +49,14 @@ fn path_to(alloc: Global, spots: &[Spot], at: usize) -> Result<Vec<u8>, AllocErr
         if spot.before >= place {
             break;
         }
-        steps.push(spot.last)?;
+        steps.push(spot.thread)?;
         place = spot.before;
     }
     steps.reverse();
     Ok(steps)
 }
 
-/// What was found with at most so many changes of thread.
+/// What was found of the schedules that cost so little.
 #[derive(Drop)]
 pub enum Level {
     /// There is no such schedule.
@@ -68,7 +67,7 @@ pub enum Level {
     Cut,
 }
 
-/// How the search for a schedule with at most so many changes of thread ends, and the steps to the end that it reaches.
+/// How the search for a schedule that costs so little ends, and the steps to the end that it reaches.
 fn reached_by<'a, O: Observer>(
     ground: &Ground<'_, O, O::Noted>,
     numbered: &mut Numbered<'a>,
@@ -84,7 +83,8 @@ fn reached_by<'a, O: Observer>(
         configuration_at (table_of numbered.old.transitions) numbered.old.store numbered.old.works.items ≡
         configuration_of (table_of numbered.old.transitions).file program (start program) →
         NoneWithin (O.first ground.now.observer.now) (O.next ground.now.observer.now) (O.bad ground.now.observer.now)
-        ground.now.stuck (table_of numbered.old.transitions).file program ground.now.most) }
+        ground.now.stuck (table_of numbered.old.transitions).file program ground.now.counted
+        ground.now.most) }
 {
     let mut pool = Pool::new(ground.alloc);
     let noted = ground.observer.start(ground.alloc)?;
@@ -97,7 +97,8 @@ fn reached_by<'a, O: Observer>(
     let root = Spot {
         place,
         last: 0,
-        changes: 0,
+        thread: 0,
+        spent: 0,
         before: 0,
     };
     let spots = Spots::first(ground.alloc, root)?;
@@ -112,7 +113,7 @@ fn reached_by<'a, O: Observer>(
     }
 }
 
-/// Looks for a schedule with at most so many changes of thread.
+/// Looks for a schedule that costs so little.
 pub(crate) fn within<'a, O: Observer>(
     ground: &Ground<'_, O, O::Noted>,
     file: &File,
@@ -132,13 +133,13 @@ pub(crate) fn within<'a, O: Observer>(
     ensures works { numbered.new.works.items ≡ numbered.old.works.items }
     ensures level { IfOk result (IsLevel (O.first ground.now.observer.now) (O.next ground.now.observer.now)
         (O.bad ground.now.observer.now) ground.now.stuck (plain_file file.now) (plain_program program.now)
-        ground.now.most) }
+        ground.now.counted ground.now.most) }
 {
     match reached_by(ground, numbered)? {
         Level::Nothing => Ok(Level::Nothing),
         Level::Cut => Ok(Level::Cut),
         Level::Steps(steps) => {
-            if steps.len() > MOST_STEPS || changes(&steps) > ground.most {
+            if steps.len() > MOST_STEPS || costs(ground.counted, &steps) > ground.most {
                 return Ok(Level::Cut);
             }
             let observer = ground.observer;

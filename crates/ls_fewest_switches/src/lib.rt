@@ -1,7 +1,9 @@
-//! Schedules with the fewest context switches: of those that have the same history, and of those whose histories are bad.
+//! Schedules with the fewest context switches or steps, of those that have the same history, one of several, or a bad
+//! one.
 #![tactic(auto)]
 
 mod along;
+mod among;
 mod anything;
 mod changing;
 mod checking;
@@ -9,10 +11,12 @@ mod closing;
 mod fewest;
 mod following;
 mod levels;
+mod shortest;
 mod spots;
 mod stuck;
 mod wording;
 
 pub use fewest::{SimpleRun, Target, simplest, simplest_bad, switches};
+pub use shortest::{ShortRun, shortest_among};
 pub use stuck::simplest_stuck;
 pub use wording::push_switches;

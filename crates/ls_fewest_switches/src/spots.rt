@@ -10,14 +10,16 @@ use ls_transitions::hints::Hints;
 use std::alloc::{AllocError, Global};
 
 /// A state that was reached, with the number of what is noted of its history. It comes after the one at an earlier place,
-/// by a step of the last thread. The first state comes after none.
+/// by a step of the thread. The first state comes after none.
 #[derive(Drop)]
 pub struct Spot {
     pub place: Place,
-    /// The thread of the step before. It is the setup where there was none.
+    /// What is kept of the thread of the step before. It is 0 where there was none.
     pub last: u8,
-    /// How often the thread has changed.
-    pub changes: usize,
+    /// The thread of the step before. It is the setup where there was none.
+    pub thread: u8,
+    /// What the steps so far cost.
+    pub spent: usize,
     pub before: usize,
 }
 
@@ -54,22 +56,22 @@ fn are_same_works(works: &[usize], others: &[usize]) -> bool
     works == others
 }
 
-/// Whether a state is the other, and was reached with no more changes.
+/// Whether a state is the other, and was reached at no higher cost.
 fn is_no_worse(spot: &Spot, other: &Spot) -> bool
     ensures store { IsTrue result → spot.now.place.store ≡ other.now.place.store }
     ensures works { IsTrue result → spot.now.place.works.items ≡ other.now.place.works.items }
     ensures noted { IsTrue result → spot.now.place.noted ≡ other.now.place.noted }
     ensures last { IsTrue result → spot.now.last ≡ other.now.last }
-    ensures few { IsTrue result → spot.now.changes ≤ other.now.changes }
+    ensures few { IsTrue result → spot.now.spent ≤ other.now.spent }
 {
     spot.last == other.last
-        && spot.changes <= other.changes
+        && spot.spent <= other.spent
         && spot.place.store == other.place.store
         && spot.place.noted == other.place.noted
         && are_same_works(&spot.place.works, &other.place.works)
 }
 
-/// Whether the state at a place is this one, and was reached with no more changes.
+/// Whether the state at a place is this one, and was reached at no higher cost.
 fn is_at(spots: &[Spot], at: usize, spot: &Spot) -> bool
     ensures { IsTrue result → HasSpot spots.now spot.now }
 {
@@ -92,7 +94,7 @@ impl Spots {
         Ok(Spots { spots, hints })
     }
 
-    /// Whether a state is there that was reached with no more changes. True only where it is.
+    /// Whether a state is there that was reached at no higher cost. True only where it is.
     fn has(&self, sum: u64, spot: &Spot) -> bool
         ensures { IsTrue result → HasSpot self.now.spots.items spot.now }
     {
@@ -109,8 +111,8 @@ impl Spots {
         false
     }
 
-    /// Keeps a state, unless it is there and was reached with no more changes. Answers false where there are as many as
-    /// there may be.
+    /// Keeps a state, unless it is there and was reached at no higher cost. Answers false where there are as
+    /// many as there may be.
     pub(crate) fn keep(
         &mut self,
         alloc: Global,

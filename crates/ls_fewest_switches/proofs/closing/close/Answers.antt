@@ -25,7 +25,7 @@ loop-at-init g c =
       grows = grows_not t;
       spots = c.requires.spots;
       keeps = λ n x e. e;
-      passed = passed_none next is_bad t.file c.args.ground.now.most c.args.ground.now.stuck
+      passed = passed_none next is_bad t.file c.args.ground.now.counted c.args.ground.now.most c.args.ground.now.stuck
           (reached_in first stands t c.args.found.now);
     }
 
@@ -37,7 +37,8 @@ returns-then-at-len-clause-closed g c = λ is.
     let is_bad = g.O.Observer.bad c.args.ground.now.observer.now in
     let t : Table = table_of c.args.transitions.now in
     let list = reached_in first stands (table_of c.loop-at.transitions) c.loop-at.found in
-    passed_fewer next is_bad t.file c.args.ground.now.most c.args.ground.now.stuck list c.loop-at.at (length list)
+    passed_fewer next is_bad t.file c.args.ground.now.counted c.args.ground.now.most c.args.ground.now.stuck list
+    c.loop-at.at (length list)
     (omega (
       arith,
       c.if-at-len.true,
@@ -105,15 +106,17 @@ loop-at-preserved g c =
       grows = grows;
       spots = c.in_ok-seen.ensures.spots;
       keeps = keeps_both old mid new inv.keeps keeps;
-      passed = passed_more next is_bad t.file c.args.ground.now.most c.args.ground.now.stuck mid new
+      passed = passed_more next is_bad t.file c.args.ground.now.counted c.args.ground.now.most c.args.ground.now.stuck
+          mid new
           c.loop-at.at keeps within inv.passed
-          (λ p e. passed_here next is_bad t.file c.args.ground.now.most first new_t grows.file
+          (λ p e. passed_here next is_bad t.file c.args.ground.now.counted c.args.ground.now.most first new_t grows.file
           (states_in stands c.expand.new.found) c.args.ground.now.threads spots c.in_ok-seen.ensures.spots
           c.args.ground.now.stuck c.loop-at.at s here p (keeps c.loop-at.at p e) c.in-Some.seen
-          (subst (λ (f : File). IsExpanded next is_bad f c.args.ground.now.most new
+          (subst (λ (f : File). IsExpanded next is_bad f c.args.ground.now.counted c.args.ground.now.most new
           c.args.ground.now.threads p c.in-Some.seen) inv.grows.file
           (of_some (λ (k : Seen). (q : Reached g.O.Observer.State) → slice_get mid c.loop-at.at ≡ Some q →
-          IsExpanded next is_bad mid_t.file c.args.ground.now.most new c.args.ground.now.threads q k)
+          IsExpanded next is_bad mid_t.file c.args.ground.now.counted c.args.ground.now.most new
+          c.args.ground.now.threads q k)
           c.in_ok-seen.field-0 c.in-Some.seen c.in-Some.is c.in_ok-seen.ensures.expanded p e))
           (c.is_end.ensures c.if-is_end.false));
     }

@@ -14,6 +14,6 @@ invariant-loop-at g l =
       keeps : Keeps (reached_in first stands (table_of l.fn.transitions) l.fn.found)
           (reached_in first stands (table_of l.transitions) l.found);
       passed : ArePassed (g.O.Observer.next l.ground.observer.now) (g.O.Observer.bad l.ground.observer.now)
-          (table_of l.fn.transitions).file l.ground.most l.ground.stuck
+          (table_of l.fn.transitions).file l.ground.counted l.ground.most l.ground.stuck
           (reached_in first stands (table_of l.transitions) l.found) l.at;
     }

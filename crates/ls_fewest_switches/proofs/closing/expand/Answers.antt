@@ -35,7 +35,7 @@ loop-thread-init g c =
       grows = grows;
       spots = spots_stay first t t' grows states states (λ n x e. e) c.args.ground.now.threads spots c.requires.spots;
       keeps = keeps_still first t t' grows states states (λ n x e. e) c.args.ground.now.threads spots c.requires.spots;
-      here = λ p e. expanded_none next is_bad t.file c.args.ground.now.most
+      here = λ p e. expanded_none next is_bad t.file c.args.ground.now.counted c.args.ground.now.most
           (reached_in first stands t' c.args.found.now) p (record { acts = false; waits = false }) refl;
       ended_is = λ p e.
           c.in_ok-ended.ensures.ended
@@ -75,7 +75,8 @@ loop-thread-preserved g c =
       spots = c.in_ok-looked.ensures.spots;
       keeps = keeps_both old mid new inv.keeps keeps;
       here = λ p e.
-          here_more next is_bad t.file c.args.ground.now.most mid_t.file inv.grows.file mid new keeps
+          here_more next is_bad t.file c.args.ground.now.counted c.args.ground.now.most mid_t.file inv.grows.file mid
+          new keeps
           c.args.at c.loop-thread.thread p c.loop-thread.seen c.seen_with-seen.result c.in_ok-looked.field-0
           c.in-Some.looked (inv.here p e) c.in-Some.is c.in_ok-looked.ensures.looked (inv.keeps c.args.at p e)
           c.seen_with-seen.ensures;
@@ -106,6 +107,7 @@ returns-clause-expanded g c = λ p e.
     let is_bad = g.O.Observer.bad c.args.ground.now.observer.now in
     let inv = c.loop-thread.invariant in
     let all : c.loop-thread.thread ≡ c.args.ground.now.threads = omega arith in
-    subst (λ (n : ℕ). IsExpanded next is_bad (table_of c.args.transitions.now).file c.args.ground.now.most
+    subst (λ (n : ℕ). IsExpanded next is_bad (table_of c.args.transitions.now).file c.args.ground.now.counted
+    c.args.ground.now.most
     (reached_in first stands (table_of c.loop-thread.transitions) c.loop-thread.found) n p
     c.loop-thread.seen) all (inv.here p e)

@@ -19,7 +19,7 @@ invariant-loop-thread g l =
       here : (p : Reached g.O.Observer.State) →
           slice_get (reached_in first stands (table_of l.fn.transitions) l.fn.found) l.at ≡ Some p →
           IsExpanded (g.O.Observer.next l.ground.observer.now) (g.O.Observer.bad l.ground.observer.now)
-          (table_of l.fn.transitions).file l.ground.most
+          (table_of l.fn.transitions).file l.ground.counted l.ground.most
           (reached_in first stands (table_of l.transitions) l.found) l.thread p l.seen;
       ended_is : (p : Reached g.O.Observer.State) →
           slice_get (reached_in first stands (table_of l.fn.transitions) l.fn.found) l.at ≡ Some p →

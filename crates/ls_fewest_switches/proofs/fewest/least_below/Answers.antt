@@ -1,4 +1,4 @@
-use Rattle.std.proofs.Common.{Bool, length, refl, sym, ap, ◌∙◌, subst, arith}
+use Rattle.std.proofs.Common.{length, refl, sym, ap, ◌∙◌, arith}
 use Rattle.std.proofs.lemmas.List.{length-map}
 use Rattle.ls_checked.specs.CheckedTree.{File}
 use Rattle.ls_checked.specs.CheckedProgram.{Program}
@@ -10,8 +10,7 @@ use Rattle.ls_source.specs.Progress.{Progress, begun}
 use Rattle.ls_source.specs.Stands.{StandsFor}
 use Rattle.ls_transitions.specs.Tables.{Table}
 use Rattle.ls_transitions.specs.Seen.{table_of}
-use Rattle.ls_fewest_switches.specs.Levels.{IsLevel}
-use Rattle.ls_fewest_switches.proofs.Roots.{first_of, least_more, still_at, still_there}
+use Rattle.ls_fewest_switches.proofs.Roots.{first_of, least_more, level_of, still_at, still_there}
 use Rattle.ls_fewest_switches.proofs.fewest.least_below.Goals as goal
 
 pub loop-level-init : goal.loop-level-init
@@ -24,6 +23,7 @@ loop-level-init g c =
       lost = refl;
       threads = refl;
       stuck = refl;
+      counted = refl;
       there = c.in_ok-numbered.ensures.there;
       width = c.in_ok-numbered.ensures.width
           ∙ c.in_ok-playing.playing.works
@@ -50,6 +50,7 @@ loop-level-preserved g c =
       lost = inv.lost;
       threads = inv.threads;
       stuck = inv.stuck;
+      counted = inv.counted;
       there = still_there t t' c.within.ensures.grows c.loop-level.numbered.store c.within.new.numbered.store
           c.loop-level.numbered.works.items c.within.new.numbered.works.items c.within.ensures.store
           c.within.ensures.works inv.there;
@@ -58,13 +59,9 @@ loop-level-preserved g c =
       start = still_at t t' c.within.ensures.grows c.loop-level.numbered.store c.within.new.numbered.store
           c.loop-level.numbered.works.items c.within.new.numbered.works.items c.within.ensures.store
           c.within.ensures.works inv.there (configuration_of file program (start program)) inv.start;
-      least = least_more first next is_bad c.args.ground.stuck file program c.loop-level.level
-          (subst (λ l. IsLevel first next is_bad c.args.ground.stuck file program c.loop-level.level l) c.in-Nothing.is
-          (subst (λ (b : Bool). IsLevel first next is_bad b file program c.loop-level.level c.in_ok-within.field-0)
-          inv.stuck
-          (subst (λ o. IsLevel (g.O.Observer.first o.now) (g.O.Observer.next o.now) (g.O.Observer.bad o.now)
-          c.loop-level.ground.stuck file program c.loop-level.level c.in_ok-within.field-0) inv.observer
-          c.in_ok-within.ensures.level)));
+      least = least_more first next is_bad c.args.ground.stuck file program c.args.ground.counted c.loop-level.level
+          (level_of g.O.Observer.first g.O.Observer.next g.O.Observer.bad file program c.loop-level.level
+          (ap (λ o. o.now) inv.observer) inv.stuck inv.counted c.in-Nothing.is c.in_ok-within.ensures.level);
     }
 
 pub returns-in-Steps : goal.returns-in-Steps
@@ -75,13 +72,11 @@ returns-in-Steps g c =
     let next = g.O.Observer.next c.args.ground.observer.now in
     let is_bad = g.O.Observer.bad c.args.ground.observer.now in
     let inv = c.loop-level.invariant in
-    let w = subst (λ l. IsLevel first next is_bad c.args.ground.stuck file program c.loop-level.level l) c.in-Steps.is
-    (subst (λ (b : Bool). IsLevel first next is_bad b file program c.loop-level.level c.in_ok-within.field-0) inv.stuck
-    (subst (λ o. IsLevel (g.O.Observer.first o.now) (g.O.Observer.next o.now) (g.O.Observer.bad o.now)
-    c.loop-level.ground.stuck file program c.loop-level.level c.in_ok-within.field-0) inv.observer
-    c.in_ok-within.ensures.level)) in
+    let w = level_of g.O.Observer.first g.O.Observer.next g.O.Observer.bad file program c.loop-level.level
+    (ap (λ o. o.now) inv.observer) inv.stuck inv.counted c.in-Steps.is c.in_ok-within.ensures.level in
     let few = w.few in
     let below = c.loop-level-test.true in (
-      first_of first next is_bad c.args.ground.stuck file program c.loop-level.level c.in-Steps.steps.items w inv.least,
+      first_of first next is_bad c.args.ground.stuck file program c.args.ground.counted c.loop-level.level
+          c.in-Steps.steps.items w inv.least,
       omega (arith, few, below),
     )

@@ -14,11 +14,13 @@ invariant-loop-level g l = record {
   lost : l.ground.lost ≡ l.fn.ground.lost;
   threads : l.ground.threads ≡ l.fn.ground.threads;
   stuck : l.ground.stuck ≡ l.fn.ground.stuck;
+  counted : l.ground.counted ≡ l.fn.ground.counted;
   there : AreThere (table_of l.numbered.transitions) l.numbered.store l.numbered.works.items;
   width : length l.numbered.works.items ≡ length l.program.threads.items;
   file : (table_of l.numbered.transitions).file ≡ plain_file l.file;
   start : configuration_at (table_of l.numbered.transitions) l.numbered.store l.numbered.works.items ≡
       configuration_of (plain_file l.file) (plain_program l.program) (start (plain_program l.program));
   least : HaveAtLeast (g.O.Observer.first l.fn.ground.observer.now) (g.O.Observer.next l.fn.ground.observer.now)
-      (g.O.Observer.bad l.fn.ground.observer.now) l.fn.ground.stuck (plain_file l.file) (plain_program l.program) l.level;
+      (g.O.Observer.bad l.fn.ground.observer.now) l.fn.ground.stuck (plain_file l.file) (plain_program l.program)
+      l.fn.ground.counted l.level;
 }

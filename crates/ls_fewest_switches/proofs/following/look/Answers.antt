@@ -60,11 +60,13 @@ returns-in_default-clause-looked g c = λ p p_here.
     ap (λ l. slice_get l c.args.at) (sym c.deref.ensures.value) ∙ c.spot_at-spot.ensures in
     let same : reached_at first t states s ≡ p = some_is (sym (map_there (reached_at first t states) spots c.args.at s here) ∙ p_here) in
     let list = reached_of first t' states spots in
-    subst (λ q. IsLooked next is_bad t.file c.args.ground.now.most list q c.args.thread
+    subst (λ q. IsLooked next is_bad t.file c.args.ground.now.counted c.args.ground.now.most list q c.args.thread
     c.looked_of.result) same
-    (subst (λ (l : Looked). IsLooked next is_bad t.file c.args.ground.now.most list (reached_at first t states s)
+    (subst (λ (l : Looked). IsLooked next is_bad t.file c.args.ground.now.counted c.args.ground.now.most list
+    (reached_at first t states s)
     c.args.thread l) (sym c.looked_of.ensures)
-    (still_looks first next is_bad t t' states c.args.ground.now.most list s c.args.thread c.in_ok-made.made
+    (still_looks first next is_bad t t' states c.args.ground.now.counted c.args.ground.now.most list s c.args.thread
+    c.in_ok-made.made
     c.in_default.ensures.none c.in_ok-made.ensures.stride))
 
 pub reach-requires-clause-within : goal.reach-requires-clause-within
@@ -88,7 +90,8 @@ returns-then-not-kept-clause-spots g c =
     (stride t.file (configuration_of t s.place) c.args.thread)) c.in-Some.ensures.some c.in_ok-made.ensures.stride in
     spots_grow first t t' c.step_from.ensures.grows states states' c.reach.ensures.keeps
     c.args.ground.now.threads c.args.found.now.spots.spots.items c.requires.spots
-    c.args.at s here c.args.thread c.requires.within c.in-Some.step acts c.reach.new.found.spots.spots.items
+    c.args.ground.now.counted c.args.at s here c.args.thread c.requires.within c.in-Some.step acts
+    c.reach.new.found.spots.spots.items
     c.in_ok-kept.ensures.grow
 
 pub returns-then-not-kept-clause-keeps : goal.returns-then-not-kept-clause-keeps
@@ -107,7 +110,8 @@ returns-then-not-kept-clause-keeps g c =
     (stride t.file (configuration_of t s.place) c.args.thread)) c.in-Some.ensures.some c.in_ok-made.ensures.stride in
     keeps_grow first t t' c.step_from.ensures.grows states states' c.reach.ensures.keeps
     c.args.ground.now.threads c.args.found.now.spots.spots.items c.requires.spots
-    c.args.at s here c.args.thread c.requires.within c.in-Some.step acts c.reach.new.found.spots.spots.items
+    c.args.ground.now.counted c.args.at s here c.args.thread c.requires.within c.in-Some.step acts
+    c.reach.new.found.spots.spots.items
     c.in_ok-kept.ensures.grow
 
 pub returns-clause-spots : goal.returns-clause-spots
@@ -126,7 +130,8 @@ returns-clause-spots g c =
     (stride t.file (configuration_of t s.place) c.args.thread)) c.in-Some.ensures.some c.in_ok-made.ensures.stride in
     spots_grow first t t' c.step_from.ensures.grows states states' c.reach.ensures.keeps
     c.args.ground.now.threads c.args.found.now.spots.spots.items c.requires.spots
-    c.args.at s here c.args.thread c.requires.within c.in-Some.step acts c.reach.new.found.spots.spots.items
+    c.args.ground.now.counted c.args.at s here c.args.thread c.requires.within c.in-Some.step acts
+    c.reach.new.found.spots.spots.items
     c.in_ok-kept.ensures.grow
 
 pub returns-clause-keeps : goal.returns-clause-keeps
@@ -145,7 +150,8 @@ returns-clause-keeps g c =
     (stride t.file (configuration_of t s.place) c.args.thread)) c.in-Some.ensures.some c.in_ok-made.ensures.stride in
     keeps_grow first t t' c.step_from.ensures.grows states states' c.reach.ensures.keeps
     c.args.ground.now.threads c.args.found.now.spots.spots.items c.requires.spots
-    c.args.at s here c.args.thread c.requires.within c.in-Some.step acts c.reach.new.found.spots.spots.items
+    c.args.ground.now.counted c.args.at s here c.args.thread c.requires.within c.in-Some.step acts
+    c.reach.new.found.spots.spots.items
     c.in_ok-kept.ensures.grow
 
 pub returns-clause-looked : goal.returns-clause-looked
@@ -166,6 +172,6 @@ returns-clause-looked g c = λ p p_here.
     (stride t.file (configuration_of t s.place) c.args.thread)) c.in-Some.ensures.some c.in_ok-made.ensures.stride in
     acts_on first t t' c.step_from.ensures.grows states states' c.reach.ensures.keeps
     c.args.ground.now.threads c.args.found.now.spots.spots.items c.requires.spots
-    c.args.at s here c.args.thread c.requires.within c.in-Some.step acts next is_bad
+    c.args.ground.now.counted c.args.at s here c.args.thread c.requires.within c.in-Some.step acts next is_bad
     c.args.ground.now.most c.reach.new.found.spots.spots.items
     (c.in_ok-kept.ensures.leads c.if-not-kept.false s here) p p_here

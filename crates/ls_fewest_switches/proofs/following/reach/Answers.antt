@@ -1,4 +1,4 @@
-use Rattle.std.proofs.Common.{◌≡◌, List, Some, map, refl, sym, ap, ◌∙◌, subst}
+use Rattle.std.proofs.Common.{◌≡◌, List, Some, map, sym, ap, ◌∙◌, subst}
 use Rattle.std.specs.Prelude.{slice_get}
 use Rattle.ls_fewest_switches.specs.declared.spots.Spot.{Spot}
 use Rattle.ls_fewest_switches.specs.Spots.{IsSpotAfter, noted_after, noted_at}
@@ -20,22 +20,24 @@ returns-clause-grow g c =
     let new : List Spot = c.keep.new.self.spots.items in
     let then_at : Spot = record {
       place = c.in_ok-place.place;
-      last = c.args.thread;
-      changes = c.in-Some.changes;
+      last = c.kept_last.result;
+      thread = c.args.thread;
+      spent = c.in-Some.spent;
       before = c.args.at;
     } in
-    let after : IsSpotAfter spot c.args.thread c.args.step.now then_at = record {
+    let after : IsSpotAfter c.args.ground.now.counted spot c.args.thread c.args.step.now then_at = record {
       store = c.in_ok-place.ensures.store;
       works = c.in_ok-place.ensures.works;
-      last = refl;
-      changes = c.in-Some.ensures.some;
+      last = c.kept_last.ensures;
+      spent = c.in-Some.ensures.some;
     } in
     let noted : slice_get states' then_at.place.noted
     ≡ Some (noted_after next (noted_at first states spot) c.args.thread c.args.step.now) =
     subst (λ n. slice_get states' n
     ≡ Some (noted_after next (noted_at first states spot) c.args.thread c.args.step.now)) (sym c.in_ok-place.ensures.noted)
     c.in_ok-noted.ensures.number in
-    grow_of first next is_bad c.args.ground.now.most states states' old new c.args.at c.args.thread c.args.step.now spot
+    grow_of first next is_bad c.args.ground.now.counted c.args.ground.now.most states states' old new c.args.at
+    c.args.thread c.args.step.now spot
     here then_at after noted c.in_ok-kept.ensures.pushed
 
 pub returns-clause-leads : goal.returns-clause-leads
@@ -53,22 +55,25 @@ returns-clause-leads g c = λ kept s there.
     let new : List Spot = c.keep.new.self.spots.items in
     let then_at : Spot = record {
       place = c.in_ok-place.place;
-      last = c.args.thread;
-      changes = c.in-Some.changes;
+      last = c.kept_last.result;
+      thread = c.args.thread;
+      spent = c.in-Some.spent;
       before = c.args.at;
     } in
-    let after : IsSpotAfter spot c.args.thread c.args.step.now then_at = record {
+    let after : IsSpotAfter c.args.ground.now.counted spot c.args.thread c.args.step.now then_at = record {
       store = c.in_ok-place.ensures.store;
       works = c.in_ok-place.ensures.works;
-      last = refl;
-      changes = c.in-Some.ensures.some;
+      last = c.kept_last.ensures;
+      spent = c.in-Some.ensures.some;
     } in
     let noted : slice_get states' then_at.place.noted
     ≡ Some (noted_after next (noted_at first states spot) c.args.thread c.args.step.now) =
     subst (λ n. slice_get states' n
     ≡ Some (noted_after next (noted_at first states spot) c.args.thread c.args.step.now)) (sym c.in_ok-place.ensures.noted)
     c.in_ok-noted.ensures.number in
-    leads_of first next is_bad c.args.ground.now.most states states' old new c.args.at c.args.thread c.args.step.now spot
+    leads_of first next is_bad c.args.ground.now.counted c.args.ground.now.most states states' old new c.args.at
+    c.args.thread c.args.step.now spot
     here
-    (leads_some first next is_bad c.args.ground.now.most states states' old new c.args.at c.args.thread c.args.step.now
+    (leads_some first next is_bad c.args.ground.now.counted c.args.ground.now.most states states' old new c.args.at
+    c.args.thread c.args.step.now
     spot here then_at after noted (c.in_ok-kept.ensures.there kept)) s there

@@ -27,7 +27,7 @@ returns-in-Closed-clause-none g c = λ is program begins.
     let is_bad = g.O.Observer.bad c.args.ground.now.observer.now in
     let t : Table = table_of c.args.numbered.now.transitions in
     let list = reached_in first stands (table_of c.close.new.transitions) c.close.new.found in
-    none_within first next is_bad t.file c.args.ground.now.most c.args.ground.now.stuck list
+    none_within first next is_bad t.file c.args.ground.now.counted c.args.ground.now.most c.args.ground.now.stuck list
     (c.in_ok-close.ensures.closed c.in-Closed.is) program
     (root_there first t _ c.args.numbered.now.store c.args.numbered.now.works.items _ refl
     (c.in_ok-copy_works.ensures ∙ c.deref.ensures.value)
