@@ -125,6 +125,18 @@ so_here i k names slice judged of_names of_slice so =
     subst (λ (ns : Names). All (IsSo ns.file ns.program k) slice) (sym of_names)
     (subst (λ js. All (IsSo (file_of i) (program_of i) k) js) (sym of_slice) so)
 
+-- what complete rows tell, of the file and the program of an image
+pub whole_here : (i : Image) (names : Names) (rows : List Told) (slice judged : List Judged) →
+    names ≡ names_in i →
+    slice ≡ judged →
+    rows_of judged ≡ rows →
+    TellWhole (file_of i) (program_of i) rows →
+    TellWhole names.file names.program (rows_of slice)
+whole_here i names rows slice judged of_names of_slice of_rows whole =
+    subst (λ (ns : Names). TellWhole ns.file ns.program (rows_of slice)) (sym of_names)
+    (subst (λ js. TellWhole (file_of i) (program_of i) (rows_of js)) (sym of_slice)
+    (subst (TellWhole (file_of i) (program_of i)) (sym of_rows) whole))
+
 any_default : (xs : List Told) (n : ℕ) (d e : Told) → n < length xs → slice_index_or xs n d ≡ slice_index_or xs n e
 any_default [] n d e h = absurd (omega arith)
 any_default (x ∷ xs) zero d e h = refl

@@ -1,30 +1,24 @@
 -- Rows without a legal order, and the one that is cut first.
-use Rattle.std.proofs.Common.{◌≡◌, ◌∙◌, ◌<◌, ◌≤◌, ◌+◌, ◌&&◌, Option, ℕ, zero, suc, Bool, true, false, cond, List, [], ◌∷◌, ◌++◌, None, Some}
-use Rattle.std.proofs.Common.{length, filter, map, take, refl, sym, ap, subst, arith, get_or, slice_get, Contains, true≢false}
+use Rattle.std.proofs.Common.{◌≡◌, ◌∙◌, ◌<◌, ◌≤◌, ◌+◌, ◌&&◌, Option, ℕ, suc, Bool, true, false, cond, List, [], ◌∷◌, ◌++◌, None, Some}
+use Rattle.std.proofs.Common.{length, filter, take, refl, sym, ap, subst, arith, get_or, slice_get, true≢false}
 use Rattle.std.proofs.lemmas.List.{get_or-map, length-map, length-take-le, map-append, take_more}
 use Rattle.std.proofs.lemmas.Option.{same_Some, slice_get-get_or, slice_get-map, slice_get_within}
-use Rattle.std.specs.Prelude.{All, IfOk, Result, Ok, Err, codes, option_map}
+use Rattle.std.specs.Prelude.{All, IfOk, IsErrOf, Result, Ok, Err, option_map}
 use Rattle.ls_events.specs.declared.event.Event.{Event as RunEvent}
 use Rattle.ls_checked.specs.CheckedTree.{File}
 use Rattle.ls_checked.specs.CheckedProgram.{Program}
 use Rattle.ls_meaning.specs.Runs.{source_history}
-use Rattle.ls_cuts.specs.Cuts.{IsCut, IsLeast, IsLeastOf, history_to}
+use Rattle.ls_cuts.specs.Cuts.{IsCut, IsLeast, IsLeastOf}
 use Rattle.ls_cuts.specs.declared.least.Cut.{Cut}
 use Rattle.ls_verdicts.specs.Hopeless.{IsIllegal}
 use Rattle.ls_verdicts.specs.Verdicts.{IsVerdict}
 use Rattle.ls_verdicts.specs.declared.verdicts.Verdict.{Verdict}
 use Rattle.ls_verdicts.specs.declared.verdicts.Verdict.TheVariants as verdicts
 use Rattle.ls_verdicts.proofs.Illegal.{only_verdict}
-use Rattle.ls_cuts.proofs.Acting.{goes_on}
 use Rattle.ls_events.specs.Limits.{most_steps}
-use Rattle.ls_explore.specs.Rows.{ActAll}
 use Rattle.ls_explore_images.specs.Tellings.{schedule_of}
-use Rattle.ls_labels.specs.Names.{Names}
-use Rattle.ls_report.specs.Events.{Text}
-use Rattle.ls_report.specs.Printing.{run_text}
-use Rattle.ls_schedule.specs.Printing.{schedule_text}
-use Rattle.ls_explore_reports.specs.Below.{HasNames, IsBelow}
-use Rattle.ls_explore_reports.specs.Cuts.{ABeginning, IsCutText, IsLeastCut, IsSo, beginning_text, parts_text, schedules_of}
+use Rattle.ls_explore_reports.specs.Cuts.{IsLeastCut, IsSo, schedules_of}
+use Rattle.ls_explore_reports.specs.Shortest.{IsCutOf}
 use Rattle.ls_explore_reports.specs.Judged.{Judged, count_illegal, is_illegal, rows_of}
 use Rattle.ls_explore_reports.specs.Long.{HasLong}
 
@@ -83,11 +77,6 @@ module _ (file : File) (program : Program) (k : ℕ) where
       place_within = let lt = slice_get_within (schedules_of k judged) c.place so.schedule so.there in
           let same = length-map judged (λ (j : Judged). schedule_of k j.row) in omega arith
 
-      pub names_of_cut : (row : Judged) → so.schedule ≡ schedule_of k row.row →
-          HasNames program (history_to file program (schedule_of k row.row) c.steps)
-      names_of_cut row same = subst (λ ts. HasNames program (history_to file program ts c.steps)) same
-          (so.cut.illegal.0, so.cut.illegal.1)
-
       module _ (row : Judged) (at : row ≡ get_or judged c.place row) where
         pub schedule_is : so.schedule ≡ schedule_of k row.row
         schedule_is = same_Some so.schedule (schedule_of k row.row) (sym so.there
@@ -110,6 +99,20 @@ module _ (file : File) (program : Program) (k : ℕ) where
               (illegal_so (get_or judged n d) (all n d lt) e) m less;
         }
 
+        -- and its first steps are those of an illegal row
+        pub cut_of : (schedule : List ℕ) → schedule ≡ take c.steps (schedule_of k row.row) →
+            IsCutOf file program judged schedule
+        cut_of schedule first = record {
+          row = row;
+          there = least_cut.there;
+          illegal = least_cut.illegal;
+          whole = schedule_of k row.row;
+          history = row_so.history;
+          steps = c.steps;
+          cut = cut_is;
+          first = first;
+        }
+
 -- the schedules of one row more
 pub schedules_more : (k : ℕ) (judged : List Judged) (i : ℕ) (j : Judged) → i < length judged → j ≡ get_or judged i j →
     schedules_of k (take (i + 1) judged) ≡ schedules_of k (take i judged) ++ schedule_of k j.row ∷ []
@@ -127,6 +130,13 @@ as_many_schedules k judged i le = length-map (take i judged) (λ (j : Judged). s
 pub if_ok : {A E : Type 0} (r : Result A E) (P Q : A → Type 0) → ((x : A) → P x → Q x) → IfOk r P → IfOk r Q
 if_ok (Ok x) P Q f h = f x h
 if_ok (Err e) P Q f h = tt
+
+-- the same error of a result of another type
+pub as_error : {A B E : Type 0} (e f : E) → IsErrOf {T = A} (Err e) f → IsErrOf {T = B} (Err e) f
+as_error {A} {B} {E} e f h = ap (λ (x : E). Err x) (inner h)
+  where
+    inner : IsErrOf {T = A} (Err e) f → e ≡ f
+    inner k = cc
 
 pub some_wanted : (wanted : Bool) (o : Option Cut) (c : Cut) → (wanted ≡ false → o ≡ None) → o ≡ Some c → wanted ≡ true
 some_wanted true o c none some = refl
@@ -153,26 +163,3 @@ long_there k judged n row lt at long = (row.row, (n, few, is), long)
 
     is : get_or (rows_of judged) n row.row ≡ row.row
     is = get_or-map (λ (j : Judged). j.row) judged n row row.row lt ∙ ap (λ (j : Judged). j.row) (sym at)
-
--- the parts are those of a schedule
-pub of_parts : (names : Names) (threads : List Text) (schedule : List ℕ) (text steps lines below : Text) →
-    text ≡ parts_text (codes "goes on, illegal") steps lines below → steps ≡ schedule_text threads schedule →
-    lines ≡ run_text names.program (source_history names.file names.program schedule) →
-    text ≡ beginning_text names threads schedule below
-of_parts names threads schedule text steps lines below is of_steps of_lines = is
-    ∙ ap (λ (s : Text). parts_text (codes "goes on, illegal") s lines below) of_steps
-    ∙ ap (λ (l : Text). parts_text (codes "goes on, illegal") (schedule_text threads schedule) l below) of_lines
-
--- the text of a beginning is one of a cut
-pub cut_text : (names : Names) (threads : List Text) (k : ℕ) (orders : Bool) (row : Judged) (steps : ℕ)
-    (first : List ℕ) (text : Text) → first ≡ take steps (schedule_of k row.row) →
-    steps < length (schedule_of k row.row) → ActAll names.file names.program (schedule_of k row.row) →
-    (below : Text) × IsBelow orders names.file names.program (source_history names.file names.program first) below
-    × (text ≡ beginning_text names threads first below) →
-    IsCutText names threads k orders row steps text
-cut_text names threads k orders row steps first text is lt acts so =
-    subst (λ (t : Text). IsCutText names threads k orders row steps t)
-    (sym (so.2 ∙ ap (λ (ts : List ℕ). beginning_text names threads ts so.0) is))
-    (ABeginning so.0 lt (goes_on names.file names.program (schedule_of k row.row) steps lt acts)
-    (subst (λ (ts : List ℕ). IsBelow orders names.file names.program (source_history names.file names.program ts) so.0)
-    is so.1))

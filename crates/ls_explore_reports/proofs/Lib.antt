@@ -5,3 +5,8 @@ pub mod Others
 pub mod Known
 pub mod Meant
 pub mod CutRows
+pub mod FirstSteps
+pub mod HopelessRows
+pub mod CutTexts
+pub mod ListedBeginnings
+pub mod GoingOn

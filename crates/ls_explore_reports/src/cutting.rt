@@ -9,17 +9,18 @@ ghost use Rattle.ls_cuts.specs.Cuts.{IsLeastOf};
 ghost use Rattle.ls_labels.specs.Names.{names_of};
 ghost use Rattle.ls_meaning.specs.Runs.{source_history};
 ghost use Rattle.ls_schedule.specs.Reading.{thread_names};
-ghost use Rattle.ls_explore.specs.Rows.{ActAll};
 ghost use Rattle.ls_explore_images.specs.Tellings.{schedule_of};
 ghost use Rattle.ls_explore_reports.specs.Below.{HasNames, IsBelow};
-ghost use Rattle.ls_explore_reports.specs.Cuts.{IsCutText, IsSo, beginning_text, parts_text, schedules_of};
+ghost use Rattle.ls_explore_reports.specs.Cuts.{IsSo, beginning_text, known_text, parts_text, schedules_of};
+ghost use Rattle.ls_explore_reports.specs.Cuts.{with_known};
+ghost use Rattle.ls_explore_reports.specs.Printing.{row_text};
 ghost use Rattle.ls_explore_reports.specs.Judged.{rows_of};
 ghost use Rattle.ls_explore_reports.specs.Long.{HasLong};
 ghost use Rattle.ls_translation.specs.declared.fault.TranslationFault.TheVariants.{Memory, ResultTooLong};
 
 use crate::below::{below, known_if};
 use crate::judging::{JudgedRow, is_illegal};
-use crate::printing::{push_row, schedule_of};
+use crate::printing::{push_row_with, schedule_of};
 use ls_cuts::{Cut, least_with};
 use ls_events::schedule::Schedule;
 use ls_labels::names::Names;
@@ -122,13 +123,24 @@ fn push_parts(
     out.push_str("\n")
 }
 
-/// The text of a schedule with which the history ceases to have a legal order. With `orders` what the command `order`
-/// tells of the history stands below it.
-fn beginning(
+/// Adds what is said where it is known that no shorter schedule has a history without a legal order.
+fn push_known(out: &mut String, known: bool) -> Result<(), AllocError>
+    ensures { OnOk result (string_bytes out.new ≡ string_bytes out.old ++ known_text known) }
+{
+    if known {
+        out.push_str("no shorter schedule is illegal\n")?;
+    }
+    Ok(())
+}
+
+/// The text of a schedule whose history has no legal order, and after which a thread acts. With `orders` what the
+/// command `order` tells of the history stands below it. Below that it is said if it is known that none is shorter.
+pub(crate) fn beginning(
     alloc: Global,
     names: Names<'_>,
     schedule: &Schedule,
     orders: bool,
+    known: bool,
 ) -> Result<String, AllocError>
     requires { HasNames (plain_program names.program.now)
         (source_history (plain_file names.file.now) (plain_program names.program.now) schedule.now) }
@@ -136,11 +148,12 @@ fn beginning(
         IsBelow orders (plain_file names.entry.file.now) (plain_program names.entry.program.now)
         (source_history (plain_file names.entry.file.now) (plain_program names.entry.program.now) schedule.now) below
         × (string_bytes text ≡ beginning_text (names_of names.entry) (thread_names names.entry.program.now) schedule.now
-        below)) }
+        (below ++ known_text known))) }
 {
     let history = play(alloc, names.file, names.program, schedule.steps())?;
-    let known = known_if(alloc, names.file, names.program, orders)?;
-    let below = below(alloc, &known, history.as_slice())?;
+    let serial = known_if(alloc, names.file, names.program, orders)?;
+    let mut below = below(alloc, &serial, history.as_slice())?;
+    push_known(&mut below, known)?;
     let steps = print_schedule(alloc, schedule, names.program)?;
     let lines = print_history(alloc, history.as_slice(), names.program)?;
     let mut out = String::new(alloc);
@@ -156,7 +169,11 @@ fn beginning(
 }
 
 /// The first steps of a schedule.
-fn first_steps(alloc: Global, schedule: &Schedule, count: usize) -> Result<Schedule, AllocError>
+pub(crate) fn first_steps(
+    alloc: Global,
+    schedule: &Schedule,
+    count: usize,
+) -> Result<Schedule, AllocError>
     requires { count ≤ length schedule.now }
     ensures { IfOk result (λ s. s ≡ take count schedule.now) }
 {
@@ -165,32 +182,23 @@ fn first_steps(alloc: Global, schedule: &Schedule, count: usize) -> Result<Sched
     Ok(Schedule::of(steps))
 }
 
-/// The text of so many steps of a row's schedule.
-pub(crate) fn cut_row(
+/// The text of a row. Below it it is said if it is known that no shorter schedule has a history without a legal order.
+pub(crate) fn whole_row(
     alloc: Global,
     names: Names<'_>,
     setup: usize,
     judged: &JudgedRow<'_>,
-    steps: usize,
-    orders: bool,
+    known: bool,
 ) -> Result<String, TranslationFault>
-    requires within { steps ≤ length (schedule_of setup judged.now.row) }
-    requires named { HasNames (plain_program names.program.now) (source_history (plain_file names.file.now)
-        (plain_program names.program.now) (take steps (schedule_of setup judged.now.row))) }
-    requires acts { ActAll (plain_file names.file.now) (plain_program names.program.now)
-        (schedule_of setup judged.now.row) }
-    ensures text { IfOk result (λ text. IsCutText (names_of names.entry) (thread_names names.entry.program.now) setup
-        orders judged.now steps (string_bytes text)) }
+    ensures text { IfOk result (λ text. string_bytes text ≡ row_text (names_of names.entry)
+        (thread_names names.entry.program.now) setup (with_known known judged.now)) }
     ensures only { IfErr result (λ e. (e ≡ Memory) ⊎ (e ≡ ResultTooLong)) }
     ensures long { IsErrOf result ResultTooLong → most_steps < length (schedule_of setup judged.now.row) }
 {
-    let schedule = schedule_of(alloc, setup, judged.row())?;
-    if steps < schedule.len() {
-        let first = first_steps(alloc, &schedule, steps)?;
-        let text = beginning(alloc, names, &first, orders)?;
-        return Ok(text);
-    }
+    let mut below = String::new(alloc);
+    below.push_str(judged.below())?;
+    push_known(&mut below, known)?;
     let mut out = String::new(alloc);
-    push_row(alloc, &mut out, names, setup, judged)?;
+    push_row_with(alloc, &mut out, names, setup, judged, below.as_str())?;
     Ok(out)
 }

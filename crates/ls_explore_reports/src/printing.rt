@@ -244,16 +244,18 @@ fn push_verdict(out: &mut String, verdict: Verdict, linearity: Linearity) -> Res
     out.push_str(linear_part(verdict, linearity))
 }
 
-/// A row: how it ends and the verdict, its schedule, its history's lines, what stands below it, an empty line.
-pub(crate) fn push_row(
+/// A row: how it ends and the verdict, its schedule, its history's lines, what is to stand below it, an empty line.
+pub(crate) fn push_row_with(
     alloc: Global,
     out: &mut String,
     names: Names<'_>,
     setup: usize,
     judged: &JudgedRow<'_>,
+    below: &str,
 ) -> Result<(), TranslationFault>
     ensures text { OnOk result (string_bytes out.new ≡ string_bytes out.old ++
-        row_text (names_of names.entry) (thread_names names.entry.program.now) setup judged.now) }
+        row_text (names_of names.entry) (thread_names names.entry.program.now) setup
+        (record judged.now { below = below.now })) }
     ensures only { IfErr result (λ e. (e ≡ Memory) ⊎ (e ≡ ResultTooLong)) }
     ensures long { IsErrOf result ResultTooLong → most_steps < length (schedule_of setup judged.now.row) }
 {
@@ -267,9 +269,25 @@ pub(crate) fn push_row(
     out.push_str("\n")?;
     out.push_str(steps.as_str())?;
     out.push_str(history.as_str())?;
-    out.push_str(judged.below())?;
+    out.push_str(below)?;
     out.push_str("\n")?;
     Ok(())
+}
+
+/// A row, with what stands below it.
+fn push_row(
+    alloc: Global,
+    out: &mut String,
+    names: Names<'_>,
+    setup: usize,
+    judged: &JudgedRow<'_>,
+) -> Result<(), TranslationFault>
+    ensures text { OnOk result (string_bytes out.new ≡ string_bytes out.old ++
+        row_text (names_of names.entry) (thread_names names.entry.program.now) setup judged.now) }
+    ensures only { IfErr result (λ e. (e ≡ Memory) ⊎ (e ≡ ResultTooLong)) }
+    ensures long { IsErrOf result ResultTooLong → most_steps < length (schedule_of setup judged.now.row) }
+{
+    push_row_with(alloc, out, names, setup, judged, judged.below())
 }
 
 /// Whether a history of a set has no legal order, or a history isn't linearizable.

@@ -12,7 +12,7 @@ use Rattle.ls_explore_reports.specs.Judged.{AreHistories, IsJudged}
 use Rattle.ls_explore_reports.specs.Cuts.{IsExploredText}
 use Rattle.ls_explore_commands.specs.Explored.{names_in}
 use Rattle.ls_explore_commands.proofs.ExploredLemmas.{below_so, explore_fails, explore_tells, judged_so, linear_so}
-use Rattle.ls_explore_commands.proofs.ExploredLemmas.{long_fails, rows_named, rows_so, so_here}
+use Rattle.ls_explore_commands.proofs.ExploredLemmas.{long_fails, rows_named, rows_so, so_here, whole_here}
 use Rattle.ls_explore_commands.proofs.command.explored.Goals as goal
 
 pub returns-in_err-found-clause-gives : goal.returns-in_err-found-clause-gives
@@ -36,10 +36,15 @@ print_exploration-requires g c =
     let judged = c.in_ok-judged.judged.items in
     let verdicts = subst (λ (q : Program). All (IsJudged (plain_program q)) judged) c.program.ensures
     c.in_ok-judged.ensures.verdicts in
-    so_here i found.setup (names_of c.names_in.result) c.as_slice-2.result.now judged c.names_in.ensures.names
-    c.as_slice-2.ensures.value
-    (rows_so i found.setup found.rows.items judged (c.in_ok-judged.ensures.rows ∙ c.as_slice.ensures.value)
-    c.in_ok-found.ensures.found.truth verdicts)
+    let of_rows = c.in_ok-judged.ensures.rows ∙ c.as_slice.ensures.value in
+    record {
+      so = so_here i found.setup (names_of c.names_in.result) c.as_slice-2.result.now judged c.names_in.ensures.names
+          c.as_slice-2.ensures.value
+          (rows_so i found.setup found.rows.items judged of_rows c.in_ok-found.ensures.found.truth verdicts);
+      whole = λ complete roomy. whole_here i (names_of c.names_in.result) found.rows.items c.as_slice-2.result.now judged
+          c.names_in.ensures.names c.as_slice-2.ensures.value of_rows
+          (c.in_ok-found.ensures.found.whole complete roomy);
+    }
 
 pub returns-in_err-text-clause-gives : goal.returns-in_err-text-clause-gives
 returns-in_err-text-clause-gives g c =

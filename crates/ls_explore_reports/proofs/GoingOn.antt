@@ -1,0 +1,60 @@
+-- Schedules each of whose steps acts, one step more.
+use Rattle.std.proofs.Common.{◌≡◌, ◌∙◌, ◌+◌, ◌<◌, ◌≤◌, ◌&&◌, ◌++◌, ◌∷◌, ℕ, Bool, true, false, List, []}
+use Rattle.std.proofs.Common.{Option, None, Some, length, take, get_or, arith}
+use Rattle.std.specs.Prelude.{is_some}
+use Rattle.std.proofs.Common.{refl, sym, ap, subst}
+use Rattle.std.proofs.lemmas.List.{take_more}
+use Rattle.ls_checked.specs.CheckedTree.{File}
+use Rattle.ls_checked.specs.CheckedProgram.{Program}
+use Rattle.ls_labels.specs.Names.{Names}
+use Rattle.ls_meaning.specs.declared.step.Did.{Did}
+use Rattle.ls_meaning.specs.Still.{IsActing}
+use Rattle.ls_run_search.specs.Runs.{progress_at}
+use Rattle.ls_source.specs.Progress.{Progress}
+use Rattle.ls_source_rows.proofs.Reached.{acts_more}
+use Rattle.ls_fewest_switches.proofs.Ending.{did_at}
+use Rattle.ls_explore.specs.Rows.{ActAll}
+use Rattle.ls_explore_reports.specs.Shortest.{ActsNext, IsKnown, IsShortestIllegal}
+use Rattle.ls_explore_reports.specs.declared.printing.Exploring.{Exploring}
+
+-- if the next step acts, each of one step more does
+pub acts_next : (file : File) (program : Program) (steps : List ℕ) (i d : ℕ) (r : Progress) (did : Did) →
+    i < length steps →
+    ActAll file program (take i steps) →
+    r ≡ progress_at file program (take i steps) →
+    did ≡ did_at r (get_or steps i d) → IsActing did → ActAll file program (take (i + 1) steps)
+acts_next file program steps i d r did lt all at is acts =
+    subst (ActAll file program) (sym (take_more steps i d lt))
+    (acts_more file program (take i steps) (get_or steps i d) all
+    (subst IsActing (is ∙ ap (λ (q : Progress). did_at q (get_or steps i d)) at) acts))
+
+-- a thread that acts after the run after a schedule acts after the schedule
+pub goes_after : (file : File) (program : Program) (steps : List ℕ) (r : Progress) →
+    r ≡ progress_at file program steps → ActAll file program steps → ActsNext r →
+    (t : ℕ) × ActAll file program (steps ++ t ∷ [])
+goes_after file program steps r at all acts = (
+  acts.0,
+  acts_more file program steps acts.0 all (subst (λ (q : Progress). IsActing (did_at q acts.0)) at acts.1),
+)
+
+-- it is known only if all these say so
+pub known_of : (names : Names) (e : Exploring) (schedule : List ℕ) (known shortest whole decided : Bool) →
+    known ≡ (shortest && (whole && decided)) →
+    e.cells ≡ None →
+    (shortest ≡ true → whole ≡ true → decided ≡ true → IsShortestIllegal names.file names.program schedule) →
+    IsKnown known names e schedule
+known_of names e schedule known true true true is none so =
+    subst (λ b. IsKnown b names e schedule) (sym is) (none, so refl refl refl)
+known_of names e schedule known false whole decided is none so = subst (λ b. IsKnown b names e schedule) (sym is) tt
+known_of names e schedule known true false decided is none so = subst (λ b. IsKnown b names e schedule) (sym is) tt
+known_of names e schedule known true true false is none so = subst (λ b. IsKnown b names e schedule) (sym is) tt
+
+-- a schedule that is no longer is a shortest one too
+pub as_short : (file : File) (program : Program) (one other : List ℕ) → length other ≤ length one →
+    IsShortestIllegal file program one →
+    IsShortestIllegal file program other
+as_short file program one other le short = λ s i. let few = short s i in omega (arith, few, le)
+
+pub no_cells : (o : Option ℕ) → is_some o ≡ false → o ≡ None
+no_cells None e = refl
+no_cells (Some n) e = absurd cc

@@ -1,0 +1,13 @@
+use Rattle.std.proofs.Common.{◌≡◌, take}
+use Rattle.ls_checked.specs.Plain.{plain_file}
+use Rattle.ls_checked.specs.PlainProgram.{plain_program}
+use Rattle.ls_run_search.specs.Runs.{progress_at}
+use Rattle.ls_source.specs.Shown.{progress_of}
+use Rattle.ls_explore.specs.Rows.{ActAll}
+use Rattle.ls_explore_reports.proofs.shortest.run_along.Given as goal
+
+abbrev pub invariant-loop-thread : goal.invariant-loop-thread
+invariant-loop-thread l = record {
+  run : progress_of l.run ≡ progress_at (plain_file l.file) (plain_program l.program) (take l.thread-index l.steps);
+  acts : ActAll (plain_file l.file) (plain_program l.program) (take l.thread-index l.steps);
+}
