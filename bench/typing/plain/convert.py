@@ -14,7 +14,7 @@ HERE = pathlib.Path(__file__).resolve().parent
 CRATES = HERE.parents[2] / "crates"
 OUT = pathlib.Path(sys.argv[1])
 NAMES = ("ls_lexer", "ls_events", "ls_tree", "ls_parser_tokens", "ls_parser_expressions", "ls_parser_declarations",
-         "ls_parser_statements", "ls_parser", "ls_checked", "ls_types_elaboration", "ls_types_tables", "ls_types_signs",
+         "ls_parser_statements", "ls_parser", "ls_checked", "ls_types_elaboration", "ls_types_tables",
          "ls_together", "ls_types_expressions", "ls_types_statements", "ls_types", "ls_types_files")
 # crates whose code stands in their root
 ROOTS = ("ls_together",)

@@ -17,7 +17,6 @@ mod ls_together;
 mod ls_tree;
 mod ls_types;
 mod ls_types_files;
-mod ls_types_signs;
 mod ls_types_tables;
 mod memory;
 

@@ -60,7 +60,7 @@ fn timed(alloc: Global, code: &Code, part: Part, steps: u64, way: Way) -> Result
         _ => (1, 65536, steps),
     };
     let schedule = scheduled(alloc, part == Part::Turns)?;
-    let mut mixed = 0_u64;
+    let mut hash = 0_u64;
     for _ in 0..machines {
         let mut machine = Machine::load(alloc, code, cells)?;
         let _ = machine.step(0);
@@ -68,9 +68,9 @@ fn timed(alloc: Global, code: &Code, part: Part, steps: u64, way: Way) -> Result
             Way::Step => step(&mut machine, each, part == Part::Turns),
             Way::Run => run(&mut machine, &schedule, each, part == Part::Turns),
         }
-        mixed = mixed.wrapping_add(machine.mix());
+        hash = hash.wrapping_add(machine.hash());
     }
-    Ok(mixed)
+    Ok(hash)
 }
 
 /// The way of a name.

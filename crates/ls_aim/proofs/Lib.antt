@@ -3,3 +3,4 @@ pub mod Finding
 pub mod Dividing
 pub mod Going
 pub mod Taking
+pub mod MetLemmas

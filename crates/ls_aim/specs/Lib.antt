@@ -5,3 +5,4 @@ pub mod Runs
 pub mod Aims
 pub mod Answers
 pub mod Seen
+pub mod Met

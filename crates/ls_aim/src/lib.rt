@@ -5,6 +5,7 @@ mod aiming;
 pub mod fault;
 mod items;
 mod labels;
+pub mod laws;
 mod reading;
 mod runner;
 mod texts;

@@ -8,7 +8,7 @@ use Rattle.std.proofs.lemmas.List.{length-map, map-append, take_all, take_more}
 use Rattle.std.proofs.lemmas.List.FromFn.{length-range_with_len}
 use Rattle.std.proofs.lemmas.Bool.{cases_lt}
 use Rattle.ls_batch.specs.Samples.{IsBadCount}
-use Rattle.ls_batch.specs.declared.samples.Drawing.{Drawing}
+use Rattle.ls_batch.specs.declared.samples.Sampler.{Sampler}
 use Rattle.ls_batch_tally.specs.declared.counting.Counts.{Counts}
 use Rattle.ls_batch_tally.specs.Numbers.{Key}
 use Rattle.ls_batch_tally.specs.Counted.{AreCounts, both, count_at, counted, Run, run, runs_from}
@@ -116,7 +116,7 @@ pub histories_len : (h : ℕ → History) (first count : ℕ) →
 histories_len h first count = length-map (range_with_len 0 count) (λ i. h (first + i)) ∙ length-range_with_len 0 count
 
 -- where the count isn't bad
-pub within : (first count : ℕ) (d : Drawing) (b : Bool) →
+pub within : (first count : ℕ) (d : Sampler) (b : Bool) →
     b ≡ false →
     (IsTrue b ↔ IsBadCount first count d) →
     (count ≤ 100000) × (first + count ≤ 2 ^ 64)

@@ -7,7 +7,7 @@ use Rattle.std.proofs.lemmas.Nat.{mod_below}
 use Rattle.rand_xoshiro.specs.SplitMix64.{mix_u64}
 use Rattle.ls_code.specs.Machine.{Machine, machine_step, machine_run}
 use Rattle.ls_batch.specs.Samples.{draws, next_thread, sample_of}
-use Rattle.ls_batch.specs.declared.samples.Drawing.{Drawing}
+use Rattle.ls_batch.specs.declared.samples.Sampler.{Sampler}
 
 -- the thread that the generator at x gives after a step of `last`
 abbrev pub next_at : ℕ → ℕ → ℕ → ℕ → ℕ
@@ -46,7 +46,7 @@ drawn_step threads switch last n m x e y xs all len is next h =
     (sym (first_drawn threads switch last n m x e y len is next)) ∙ h)
 
 -- all entries
-pub drawn_all : (threads last n x seed : ℕ) (d : Drawing) (xs : List ℕ) →
+pub drawn_all : (threads last n x seed : ℕ) (d : Sampler) (xs : List ℕ) →
     0 < threads →
     n ≡ 0 →
     xs ++ draws threads d.switch last n x ≡ draws threads d.switch 0 d.steps seed →
@@ -69,7 +69,7 @@ run_step threads switch last n m x e y s t all len is next stepped h =
     (ap (machine_run s) (sym (first_drawn threads switch last n m x e y len is next)) ∙ h)
 
 -- the whole run
-pub drawn_run : (threads last n x seed : ℕ) (d : Drawing) (s t : Machine) →
+pub drawn_run : (threads last n x seed : ℕ) (d : Sampler) (s t : Machine) →
     0 < threads →
     n ≡ 0 →
     machine_run t (draws threads d.switch last n x) ≡ machine_run s (draws threads d.switch 0 d.steps seed)
@@ -106,7 +106,7 @@ drawn_there threads switch last (suc n) x some there =
     All-cons (λ t. t < threads + 1) _ _ next (drawn_there threads switch (next_at threads switch last x) n (mix_u64 x).1
     some next)
 
-pub sample_there : (seed threads : ℕ) (d : Drawing) → All (λ t. t < threads + 1) (sample_of seed threads d)
+pub sample_there : (seed threads : ℕ) (d : Sampler) → All (λ t. t < threads + 1) (sample_of seed threads d)
 sample_there seed zero d = All-nil (λ t. t < 0 + 1)
 sample_there seed (suc threads) d = drawn_there (suc threads) d.switch 0 d.steps seed (omega arith) (omega arith)
 
@@ -117,6 +117,6 @@ drawn_count threads switch last zero x = refl
 drawn_count threads switch last (suc n) x = ap suc (drawn_count threads switch (next_at threads switch last x) n
     (mix_u64 x).1)
 
-pub sample_count : (seed threads : ℕ) (d : Drawing) → length (sample_of seed threads d) ≤ d.steps
+pub sample_count : (seed threads : ℕ) (d : Sampler) → length (sample_of seed threads d) ≤ d.steps
 sample_count seed zero d = omega arith
 sample_count seed (suc threads) d = let all = drawn_count (suc threads) d.switch 0 d.steps seed in omega arith

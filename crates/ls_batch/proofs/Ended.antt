@@ -14,7 +14,7 @@ use Rattle.ls_code.specs.declared.step.Mode.TheVariants as mode
 use Rattle.ls_code.specs.declared.step.ThreadState.TheVariants as state
 use Rattle.ls_batch.specs.Ended.{IsOver, IsThread, OverStays, takes_steps}
 use Rattle.ls_batch.specs.Samples.{draws, next_thread, sample_of}
-use Rattle.ls_batch.specs.declared.samples.Drawing.{Drawing}
+use Rattle.ls_batch.specs.declared.samples.Sampler.{Sampler}
 
 not_due : (m : Machine) (n : ℕ) (t : Thread) (set : Bool) (k : Mode) →
     takes_steps (if set then mode_state k else state.NotStarted) ≡ false
@@ -104,7 +104,7 @@ one_over m k over last t some le = elim (cases_lt k t) [
   | inr within ↦ over t some within
 ]
 
-pub sample_is : (threads seed : ℕ) (d : Drawing) →
+pub sample_is : (threads seed : ℕ) (d : Sampler) →
     0 < threads →
     draws threads d.switch 0 d.steps seed ≡ sample_of seed threads d
 sample_is zero seed d some = absurd (omega arith)

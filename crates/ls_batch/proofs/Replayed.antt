@@ -8,7 +8,7 @@ use Rattle.ls_code.specs.Code.{Code}
 use Rattle.ls_code.specs.Machine.{Machine, loaded, machine_state, machine_step, machine_run}
 use Rattle.ls_batch.specs.Samples.{goes_on, played, sample_of, settled, settling, threads_of}
 use Rattle.ls_batch.specs.Replays.{Replays}
-use Rattle.ls_batch.specs.declared.samples.Drawing.{Drawing}
+use Rattle.ls_batch.specs.declared.samples.Sampler.{Sampler}
 use Rattle.ls_machine.specs.Back.{RunsKeep}
 use Rattle.ls_batch.proofs.Drawn.{sample_count, sample_there}
 use Rattle.ls_batch.proofs.Settled.{settled_none, settled_on, settled_stop, settling_none, settling_on, settling_stop}
@@ -50,7 +50,7 @@ settles zero m =
     }
 settles (suc n) m = settles_more n m (settles n (machine_step m 0).machine) (goes_on (machine_state m 0)) refl
 
-played_is : (m : Machine) (threads seed : ℕ) (d : Drawing) →
+played_is : (m : Machine) (threads seed : ℕ) (d : Sampler) →
     played m threads seed d ≡ machine_run (settled 100000 m) (sample_of seed threads d)
 unfolding played
 played_is m threads seed d = refl
@@ -65,7 +65,7 @@ seed_count taken steps sample few short =
     let zeros = length-replicate {A = ℕ} taken 0 in
     omega (arith, both, zeros, few, short)
 
-pub seeds_replay : (code : Code) (cells seed : ℕ) (d : Drawing) → Replays code cells seed d
+pub seeds_replay : (code : Code) (cells seed : ℕ) (d : Sampler) → Replays code cells seed d
 seeds_replay code cells seed d =
     let m = loaded code cells in
     let sample = sample_of seed (threads_of code) d in
@@ -83,7 +83,7 @@ seeds_replay code cells seed d =
     }
 
 -- a seed's run from its start keeps the code and the number of cells
-pub played_keeps : (m : Machine) (threads seed : ℕ) (d : Drawing) →
+pub played_keeps : (m : Machine) (threads seed : ℕ) (d : Sampler) →
     RunsKeep →
     ((played m threads seed d).code ≡ m.code) × ((played m threads seed d).cells.limit ≡ m.cells.limit)
 played_keeps m threads seed d keep =

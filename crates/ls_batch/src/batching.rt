@@ -4,12 +4,12 @@ ghost use Rattle.std.specs.Prelude.{◌≡◌, ◌↔◌, ℕ, ◌+◌, ◌≤�
 ghost use Rattle.std.specs.List.{range_with_len};
 ghost use Rattle.ls_image.specs.Images.{RunsAsItsTexts, code_of_image};
 ghost use Rattle.ls_machine.specs.Room.{AreBadCells};
-ghost use Rattle.ls_batch.specs.Samples.{IsBadCount, IsBadDrawing, histories_of};
+ghost use Rattle.ls_batch.specs.Samples.{IsBadCount, IsBadSampler, histories_of};
 ghost use Rattle.ls_batch_tally.specs.Tallies.{IsTally};
 
 use crate::fault::BatchFault;
 use crate::gathering::counts_of;
-use crate::samples::Drawing;
+use crate::samples::Sampler;
 use ls_batch_tally::Tally;
 use ls_code::code::Code;
 use ls_image::image::Image;
@@ -32,14 +32,14 @@ pub(crate) fn are_bad_cells(code: &Code, cells: usize) -> bool
 }
 
 /// Whether there are too many steps, or the chance is none or too small.
-fn is_bad_drawing(drawing: Drawing) -> bool
-    ensures { IsTrue result ↔ IsBadDrawing drawing }
+fn is_bad_drawing(drawing: Sampler) -> bool
+    ensures { IsTrue result ↔ IsBadSampler drawing }
 {
     drawing.steps > MOST_STEPS || drawing.switch == 0 || drawing.switch > MOST_SWITCH
 }
 
 /// Whether there are no seeds, too many or one past the greatest, or the drawing is bad.
-pub(crate) fn is_bad_count(first_seed: u64, count: usize, drawing: Drawing) -> bool
+pub(crate) fn is_bad_count(first_seed: u64, count: usize, drawing: Sampler) -> bool
     ensures { IsTrue result ↔ IsBadCount first_seed count drawing }
 {
     count == 0
@@ -75,7 +75,7 @@ pub fn batch(
     cells: usize,
     first_seed: u64,
     count: usize,
-    drawing: Drawing,
+    drawing: Sampler,
 ) -> Result<Tally, BatchFault>
     ensures bad_cells { IsErrOf result BatchFault.BadCells ↔ AreBadCells (code_of_image image.now).names cells }
     ensures bad_count { IsErrOf result BatchFault.BadCount ↔ (¬ AreBadCells (code_of_image image.now).names cells ×

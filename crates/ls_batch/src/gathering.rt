@@ -8,7 +8,7 @@ ghost use Rattle.ls_batch.specs.Gathered.{runs_of};
 ghost use Rattle.ls_batch_tally.specs.Counted.{AreCounts, Run};
 
 use crate::runs::{load, one_run, threads_of};
-use crate::samples::Drawing;
+use crate::samples::Sampler;
 use ls_batch_tally::{Counts, joined};
 use ls_code::code::Code;
 use rayon::current_num_threads;
@@ -36,7 +36,7 @@ fn run_part(
     code: &Code,
     cells: usize,
     seeds: &[u64],
-    drawing: Drawing,
+    drawing: Sampler,
 ) -> Result<Counts, AllocError>
     requires cells { ¬ AreBadCells code.now.names cells }
     requires chance { 0 < drawing.switch }
@@ -59,7 +59,7 @@ fn run_parts(
     code: &Code,
     cells: usize,
     seeds: &[u64],
-    drawing: Drawing,
+    drawing: Sampler,
 ) -> Result<Vec<Result<Counts, AllocError>>, AllocError>
     requires cells { ¬ AreBadCells code.now.names cells }
     requires chance { 0 < drawing.switch }
@@ -101,7 +101,7 @@ pub(crate) fn counts_of(
     code: &Code,
     cells: usize,
     seeds: &[u64],
-    drawing: Drawing,
+    drawing: Sampler,
 ) -> Result<Counts, AllocError>
     requires cells { ¬ AreBadCells code.now.names cells }
     requires chance { 0 < drawing.switch }

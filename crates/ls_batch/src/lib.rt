@@ -15,5 +15,5 @@ pub use batching::batch;
 pub use fault::BatchFault;
 pub use ls_batch_tally::{Entry, Tally};
 pub use printing::print_tally;
-pub use samples::{Drawing, sample};
+pub use samples::{Sampler, sample};
 pub use schedules::sampled;

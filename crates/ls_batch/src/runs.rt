@@ -5,7 +5,7 @@ ghost use Rattle.ls_code.specs.Machine.{loaded, machine_state};
 ghost use Rattle.ls_machine.specs.Room.{AreBadCells};
 ghost use Rattle.ls_batch.specs.Samples.{goes_on, history_of, played, settled, settling, threads_of};
 
-use crate::samples::{Drawing, run_sample};
+use crate::samples::{Sampler, run_sample};
 use ls_code::code::Code;
 use ls_code::step::ThreadState;
 use ls_machine::laws::runs_keep;
@@ -51,7 +51,7 @@ pub(crate) fn settle(machine: &mut Machine, most: usize) -> usize
 
 /// Runs a loaded machine by a seed: its setup, then the seed's sample.
 #[tactic(auto, unfolding(crate::specs::Samples::played))]
-fn run_seed(machine: &mut Machine, threads: usize, seed: u64, drawing: Drawing)
+fn run_seed(machine: &mut Machine, threads: usize, seed: u64, drawing: Sampler)
     requires { 0 < drawing.switch }
     ensures { machine.new ≡ played machine.old threads seed drawing }
 {
@@ -72,7 +72,7 @@ pub(crate) fn load(alloc: Global, code: &Code, cells: usize) -> Result<Machine, 
 }
 
 /// Runs a machine by a seed, from its start.
-pub(crate) fn one_run(machine: &mut Machine, threads: usize, seed: u64, drawing: Drawing)
+pub(crate) fn one_run(machine: &mut Machine, threads: usize, seed: u64, drawing: Sampler)
     requires threads { threads ≡ threads_of machine.old.code }
     requires chance { 0 < drawing.switch }
     ensures history { machine.new.history ≡ history_of machine.old.code machine.old.cells.limit seed drawing }

@@ -17,15 +17,15 @@ use std::alloc::{AllocError, Global};
 /// How samples are drawn: how many steps each has, and by which chance a step's thread is drawn anew, 1 in `switch`.
 /// With 1 each step's thread is.
 #[derive(Copy)]
-pub struct Drawing {
+pub struct Sampler {
     pub steps: usize,
     pub switch: u64,
 }
 
-impl Clone for Drawing {
+impl Clone for Sampler {
     ghost use Rattle.std.specs.Prelude.{◌≡◌, IfOk};
 
-    fn clone(&self) -> Result<Drawing, AllocError>
+    fn clone(&self) -> Result<Sampler, AllocError>
         ensures { IfOk result (λ copy. copy ≡ self.now) }
     {
         Ok(*self)
@@ -58,7 +58,7 @@ pub fn sample(
     alloc: Global,
     seed: u64,
     threads: u8,
-    drawing: Drawing,
+    drawing: Sampler,
 ) -> Result<Schedule, AllocError>
     requires steps { drawing.steps ≤ most_steps }
     requires chance { 0 < drawing.switch }
@@ -81,7 +81,7 @@ pub fn sample(
 /// Takes the steps of a seed's sample, until none of the threads takes steps any more: the rest would change nothing.
 /// Whether one does is looked at after each 64 steps. It takes no memory.
 #[tactic(auto, using(crate::proofs::Drawn::drawn_run))]
-pub(crate) fn run_sample(machine: &mut Machine, seed: u64, threads: usize, drawing: Drawing)
+pub(crate) fn run_sample(machine: &mut Machine, seed: u64, threads: usize, drawing: Sampler)
     requires { 0 < drawing.switch }
     ensures { machine.new ≡ machine_run machine.old (sample_of seed threads drawing) }
 {

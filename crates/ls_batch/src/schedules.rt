@@ -10,7 +10,7 @@ use crate::batching::{are_bad_cells, is_bad_count};
 use crate::fault::BatchFault;
 use crate::laws::seeds_replay;
 use crate::runs::{MOST_SETUP_STEPS, load, settle, threads_of};
-use crate::samples::{Drawing, sample};
+use crate::samples::{Sampler, sample};
 use ls_code::code::Code;
 use ls_events::schedule::Schedule;
 use ls_image::image::Image;
@@ -40,7 +40,7 @@ fn schedule_of(
     code: &Code,
     cells: usize,
     seed: u64,
-    drawing: Drawing,
+    drawing: Sampler,
 ) -> Result<Schedule, AllocError>
     requires cells { ¬ AreBadCells code.now.names cells }
     requires steps { drawing.steps ≤ 900000 }
@@ -62,7 +62,7 @@ pub fn sampled(
     image: &Image,
     cells: usize,
     seed: u64,
-    drawing: Drawing,
+    drawing: Sampler,
 ) -> Result<Schedule, BatchFault>
     ensures bad_cells { IsErrOf result BatchFault.BadCells ↔ AreBadCells (code_of_image image.now).names cells }
     ensures bad_count { IsErrOf result BatchFault.BadCount ↔ (¬ AreBadCells (code_of_image image.now).names cells ×

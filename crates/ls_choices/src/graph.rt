@@ -30,9 +30,9 @@ fn first_point<'a>(alloc: Global, names: Names<'a>, first: &[u8]) -> Result<Poin
     let mut path = Vec::new(alloc);
     path.extend_from_slice(first)?;
     let moment = Moment::after(alloc, names, first)?;
-    let sum = moment.sum();
+    let hash = moment.hash();
     let mut points = Points::new(alloc);
-    points.add(alloc, sum, path, moment)?;
+    points.add(alloc, hash, path, moment)?;
     Ok(points)
 }
 

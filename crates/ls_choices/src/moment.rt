@@ -10,8 +10,8 @@ use ls_meaning::step::Did;
 use ls_source::playing::Playing;
 use ls_source::thread::Thread;
 use ls_trace::teller::{no_steps, note};
+use ls_transitions::hashing;
 use ls_transitions::stores::is_same_store;
-use ls_transitions::sums;
 use ls_transitions::threads::is_same_thread;
 use std::alloc::{AllocError, Global};
 
@@ -148,15 +148,15 @@ impl<'a> Moment<'a> {
     }
 
     /// A number by which the same moments are looked for. Nothing depends on it.
-    pub fn sum(&self) -> u64 {
-        let mut sum = sums::of_store(&self.playing.stage.store);
+    pub fn hash(&self) -> u64 {
+        let mut hash = hashing::hash_of_store(&self.playing.stage.store);
         for thread in &self.playing.threads {
-            let work = sums::of_thread(thread);
-            sum = sums::of_key(1, sum as usize, work as usize);
+            let work = hashing::hash_of_thread(thread);
+            hash = hashing::hash_of_key(1, hash as usize, work as usize);
         }
         for call in &self.calls {
-            sum = sums::of_key(2, sum as usize, *call);
+            hash = hashing::hash_of_key(2, hash as usize, *call);
         }
-        sum
+        hash
     }
 }

@@ -1,7 +1,7 @@
 // The states that have a number.
 
 use crate::moment::Moment;
-use ls_transitions::hints::Hints;
+use ls_transitions::hash_index::HashIndex;
 use std::alloc::{AllocError, Global};
 
 /// A state with the schedule by which it was found.
@@ -15,7 +15,7 @@ pub struct Point<'a> {
 #[derive(Drop)]
 pub struct Points<'a> {
     pub points: Vec<Point<'a>>,
-    hints: Hints,
+    hints: HashIndex,
 }
 
 impl<'a> Points<'a> {
@@ -31,15 +31,15 @@ impl<'a> Points<'a> {
     {
         Points {
             points: Vec::new(alloc),
-            hints: Hints::new(alloc),
+            hints: HashIndex::new(alloc),
         }
     }
 
     // The number of a state that is like a moment.
-    fn find(&self, sum: u64, moment: &Moment<'a>) -> Option<usize>
+    fn find(&self, hash: u64, moment: &Moment<'a>) -> Option<usize>
         ensures { IfSome result (λ n. IsFound self.now.points.items moment.now n) }
     {
-        let mut hint = self.hints.last(sum);
+        let mut hint = self.hints.last(hash);
         for _ in 0..self.points.len() {
             let place = hint?;
             let point = self.points.get(place)?;
@@ -55,7 +55,7 @@ impl<'a> Points<'a> {
     pub(crate) fn add(
         &mut self,
         alloc: Global,
-        sum: u64,
+        hash: u64,
         path: Vec<u8>,
         moment: Moment<'a>,
     ) -> Result<usize, AllocError>
@@ -64,7 +64,7 @@ impl<'a> Points<'a> {
         ensures number { IfOk result (λ n. n ≡ length self.old.points.items) }
     {
         let number = self.points.len();
-        self.hints.add(alloc, sum)?;
+        self.hints.add(alloc, hash)?;
         self.points.push(Point { path, moment })?;
         Ok(number)
     }
@@ -86,14 +86,14 @@ impl<'a> Points<'a> {
         ensures full { IfOk result (λ o. o ≡ None → most ≤ length self.new.points.items) }
         ensures few { OnOk result (length self.old.points.items ≤ most → length self.new.points.items ≤ most) }
     {
-        let sum = moment.sum();
-        if let Some(number) = self.find(sum, &moment) {
+        let hash = moment.hash();
+        if let Some(number) = self.find(hash, &moment) {
             return Ok(Some(number));
         }
         if self.points.len() >= most {
             return Ok(None);
         }
-        let number = self.add(alloc, sum, path, moment)?;
+        let number = self.add(alloc, hash, path, moment)?;
         Ok(Some(number))
     }
 }

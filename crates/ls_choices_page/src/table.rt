@@ -1,13 +1,13 @@
 // Texts by number.
 
-use ls_transitions::hints::Hints;
+use ls_transitions::hash_index::HashIndex;
 use std::alloc::{AllocError, Global};
 
 /// Texts, each once. The number of a text is its place.
 #[derive(Drop)]
 pub(crate) struct Table {
     pub(crate) texts: Vec<String>,
-    hints: Hints,
+    hints: HashIndex,
 }
 
 // A number by which the same texts are looked for. Nothing depends on it.
@@ -30,7 +30,7 @@ impl Table {
     {
         Table {
             texts: Vec::new(alloc),
-            hints: Hints::new(alloc),
+            hints: HashIndex::new(alloc),
         }
     }
 

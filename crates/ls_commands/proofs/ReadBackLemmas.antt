@@ -8,7 +8,7 @@ use Rattle.ls_checked.specs.PlainProgram.{plain_thread}
 use Rattle.ls_code.specs.Limits.{most_cells}
 use Rattle.ls_code.specs.Code.{Code}
 use Rattle.ls_code.specs.Machine.{machine_history}
-use Rattle.ls_headline.specs.Same.{IsCells}
+use Rattle.ls_preservation.specs.Same.{IsCells}
 use Rattle.ls_machine.specs.Room.{AreBadCells}
 use Rattle.ls_types.specs.CheckedFile.{outcome_of}
 use Rattle.ls_image.specs.Images.{checked_of, code_of_image, Compiles, program_of_image}

@@ -14,7 +14,7 @@ use Rattle.ls_batch.specs.Replays.{SeedsReplay}
 use Rattle.ls_batch.specs.Samples.{history_of, IsBadCount, seed_schedule}
 use Rattle.ls_batch.specs.declared.fault.BatchFault.{BatchFault}
 use Rattle.ls_batch.specs.declared.fault.BatchFault.TheVariants as batch
-use Rattle.ls_batch.specs.declared.samples.Drawing.{Drawing}
+use Rattle.ls_batch.specs.declared.samples.Sampler.{Sampler}
 use Rattle.ls_report.specs.Events.{Text}
 use Rattle.ls_report.specs.Printing.{run_text}
 use Rattle.ls_text_laws.specs.Schedules.{SchedulesReadBack}
@@ -27,7 +27,7 @@ use Rattle.ls_commands.proofs.ReadBackLemmas.{names_count}
 use Rattle.ls_commands.specs.Compiled.{names_of_image, plain_program_of, Replayed, Runs}
 use Rattle.ls_commands.specs.Sampled.{BadCount, NoCells, ReplaysAsSeed, Sampled, SampledOf, Samples, sample_text}
 
-module _ (i : Image) (cells seed : ℕ) (d : Drawing) where
+module _ (i : Image) (cells seed : ℕ) (d : Sampler) where
   abbrev Bad : Type 0
   Bad = AreBadCells (code_of_image i).names cells
 

@@ -7,13 +7,13 @@ use Rattle.ls_report.specs.declared.fault.HistoryFault.TheVariants as history_fa
 use Rattle.ls_orders.specs.Orders.{order_of}
 use Rattle.ls_orders.specs.Rules.{Broken, Judgement, Legal, judgement_of}
 use Rattle.ls_orders.specs.declared.fault.OrderFault.{OrderFault}
-use Rattle.ls_orders.specs.declared.verdict.Rule.{Rule}
-use Rattle.ls_orders.specs.declared.verdict.Rule.TheVariants as rules
+use Rattle.ls_orders.specs.declared.verdict.OrderRule.{OrderRule}
+use Rattle.ls_orders.specs.declared.verdict.OrderRule.TheVariants as rules
 use Rattle.ls_faults.specs.Faults.{lifted_order}
 use Rattle.ls_faults.specs.declared.fault.ToolFault.{ToolFault}
 use Rattle.ls_faults.specs.declared.fault.ToolFault.TheVariants as faults
 
-abbrev pub rule_text : Rule → Text
+abbrev pub rule_text : OrderRule → Text
 rule_text rules.UnknownCall = codes "71"
 rule_text rules.Repeated = codes "72"
 rule_text rules.Missing = codes "73"

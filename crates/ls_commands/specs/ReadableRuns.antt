@@ -1,7 +1,7 @@
 -- What is printed of an image's runs.
 use Rattle.std.specs.Prelude.{ℕ, List}
 use Rattle.ls_code.specs.Machine.{machine_history}
-use Rattle.ls_headline.specs.Same.{IsCells}
+use Rattle.ls_preservation.specs.Same.{IsCells}
 use Rattle.ls_image.specs.Images.{code_of_image}
 use Rattle.ls_image.specs.declared.image.Image.{Image}
 use Rattle.ls_text_laws.specs.Histories.{IsReadable}

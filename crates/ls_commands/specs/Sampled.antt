@@ -7,7 +7,7 @@ use Rattle.ls_schedule.specs.Printing.{schedule_text}
 use Rattle.ls_schedule.specs.Reading.{schedule_of}
 use Rattle.ls_batch.specs.Samples.{history_of, IsBadCount, seed_schedule}
 use Rattle.ls_batch.specs.declared.fault.BatchFault.TheVariants as batch
-use Rattle.ls_batch.specs.declared.samples.Drawing.{Drawing}
+use Rattle.ls_batch.specs.declared.samples.Sampler.{Sampler}
 use Rattle.ls_report.specs.Events.{Text}
 use Rattle.ls_report.specs.Printing.{run_text}
 use Rattle.ls_faults.specs.declared.fault.ToolFault.{ToolFault}
@@ -15,19 +15,19 @@ use Rattle.ls_faults.specs.declared.fault.ToolFault.TheVariants as faults
 use Rattle.ls_commands.specs.Compiled.{AnswersOn, names_of_image, plain_program_of, Replayed}
 
 -- the schedule that `batch` runs for the seed
-abbrev pub sample_text : Image → ℕ → ℕ → Drawing → Text
+abbrev pub sample_text : Image → ℕ → ℕ → Sampler → Text
 sample_text i cells seed d = schedule_text (names_of_image i) (seed_schedule (code_of_image i) cells seed d)
 
 -- What is printed reads back as the seed's schedule, and `replay` of it prints the history that `batch` counts for the
 -- seed.
-pub record ReplaysAsSeed (i : Image) (cells seed : ℕ) (d : Drawing) : Type 0 where
+pub record ReplaysAsSeed (i : Image) (cells seed : ℕ) (d : Sampler) : Type 0 where
   pub schedule : schedule_of (names_of_image i) (sample_text i cells seed d) ≡ Ok
       (seed_schedule (code_of_image i) cells seed d)
   pub replays : Replayed i cells (schedule_of (names_of_image i) (sample_text i cells seed d))
       (Ok (run_text (plain_program_of i) (history_of (code_of_image i) cells seed d)))
 
 -- The schedule of the seed, of which more is said; or the cells are too few or too many, or the drawing is bad.
-pub data Sampled (i : Image) (cells seed : ℕ) (d : Drawing) (More : Type 0) : Result Text ToolFault → Type 0 where
+pub data Sampled (i : Image) (cells seed : ℕ) (d : Sampler) (More : Type 0) : Result Text ToolFault → Type 0 where
   Samples : ¬ AreBadCells (code_of_image i).names cells →
       ¬ IsBadCount seed 1 d →
       More →
@@ -37,8 +37,8 @@ pub data Sampled (i : Image) (cells seed : ℕ) (d : Drawing) (More : Type 0) : 
       IsBadCount seed 1 d →
       Sampled i cells seed d More (Err (faults.Batch batch.BadCount))
 
-abbrev pub SampledOf : ℕ → ℕ → Drawing → Image → Result Text ToolFault → Type 0
+abbrev pub SampledOf : ℕ → ℕ → Sampler → Image → Result Text ToolFault → Type 0
 SampledOf cells seed d i answer = Sampled i cells seed d (ReplaysAsSeed i cells seed d) answer
 
-abbrev pub SamplesTo : ℕ → ℕ → Drawing → Text → Text → Result Text ToolFault → Type 0
+abbrev pub SamplesTo : ℕ → ℕ → Sampler → Text → Text → Result Text ToolFault → Type 0
 SamplesTo cells seed d classes program answer = AnswersOn classes program (SampledOf cells seed d) answer

@@ -7,17 +7,17 @@ use Rattle.ls_batch.specs.Printing.{tally_text}
 use Rattle.ls_batch.specs.Samples.{histories_of, IsBadCount}
 use Rattle.ls_batch_tally.specs.Tallies.{IsTally, Row}
 use Rattle.ls_batch.specs.declared.fault.BatchFault.TheVariants as batch
-use Rattle.ls_batch.specs.declared.samples.Drawing.{Drawing}
+use Rattle.ls_batch.specs.declared.samples.Sampler.{Sampler}
 use Rattle.ls_report.specs.Events.{Text}
 use Rattle.ls_faults.specs.declared.fault.ToolFault.{ToolFault}
 use Rattle.ls_faults.specs.declared.fault.ToolFault.TheVariants as faults
 use Rattle.ls_commands.specs.declared.batching.Sampling.{Sampling}
 use Rattle.ls_commands.specs.Compiled.{AnswersOn, plain_program_of}
 
-abbrev pub drawing : ℕ → ℕ → Drawing
+abbrev pub drawing : ℕ → ℕ → Sampler
 drawing steps switch = record { steps = steps; switch = switch }
 
-abbrev pub sampling : ℕ → ℕ → Drawing → Sampling
+abbrev pub sampling : ℕ → ℕ → Sampler → Sampling
 sampling first count d = record { first = first; count = count; drawing = d }
 
 -- the tally of the seeds' histories; or the cells are too few or too many, or the seeds or the drawing are bad

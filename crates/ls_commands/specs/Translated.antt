@@ -2,8 +2,8 @@
 use Rattle.ls_events.specs.Limits.{most_steps}
 use Rattle.std.specs.Prelude.{ℕ, ◌<◌, List, length, Result, Ok, Err}
 use Rattle.ls_machine.specs.Room.{AreBadCells}
-use Rattle.ls_headline.specs.Same.{Fits}
-use Rattle.ls_headline.specs.Translations.{to_machine, to_source}
+use Rattle.ls_preservation.specs.Same.{Fits}
+use Rattle.ls_preservation.specs.Translations.{to_machine, to_source}
 use Rattle.ls_image.specs.Images.{code_of_image}
 use Rattle.ls_image.specs.declared.image.Image.{Image}
 use Rattle.ls_schedule.specs.Printing.{schedule_text}

@@ -3,7 +3,7 @@
 ghost use Rattle.ls_commands.specs.Tallied.{Tallied, TalliesTo};
 ghost use Rattle.ls_faults.specs.Given.{GivesText};
 
-pub use ls_batch::Drawing;
+pub use ls_batch::Sampler;
 use ls_batch::print_tally;
 use ls_compiler::compile::compile;
 use ls_faults::fault::ToolFault;
@@ -16,7 +16,7 @@ use std::thread::Threads;
 pub struct Sampling {
     pub first: u64,
     pub count: usize,
-    pub drawing: Drawing,
+    pub drawing: Sampler,
 }
 
 impl Clone for Sampling {

@@ -6,31 +6,31 @@ ghost use Rattle.ls_commands.specs.Check.{ChecksTo, ends_line, judgement_text, r
 ghost use Rattle.ls_faults.specs.Given.{GivesText};
 
 use ls_faults::fault::ToolFault;
-use ls_orders::{Rule, Verdict, check_order, read_order};
+use ls_orders::{OrderRule, OrderVerdict, check_order, read_order};
 use ls_report::read_history;
 use std::alloc::{AllocError, Global};
 use std::fmt::Write;
 
-fn rule_text(rule: Rule) -> &'static str
+fn rule_text(rule: OrderRule) -> &'static str
     ensures { result.now ≡ rule_text rule }
 {
     match rule {
-        Rule::UnknownCall => "71",
-        Rule::Repeated => "72",
-        Rule::Missing => "73",
-        Rule::AgainstTime => "74",
-        Rule::WrongReply => "75",
-        Rule::NotASetCall => "76",
+        OrderRule::UnknownCall => "71",
+        OrderRule::Repeated => "72",
+        OrderRule::Missing => "73",
+        OrderRule::AgainstTime => "74",
+        OrderRule::WrongReply => "75",
+        OrderRule::NotASetCall => "76",
     }
 }
 
 /// `legal`, or the rule that is broken and the call at which it is, in a line.
-pub(crate) fn verdict_text(alloc: Global, verdict: &Verdict) -> Result<String, AllocError>
+pub(crate) fn verdict_text(alloc: Global, verdict: &OrderVerdict) -> Result<String, AllocError>
     ensures { IfOk result (λ text. string_bytes text ≡ judgement_text (plain_verdict verdict.now)) }
 {
     match verdict {
-        Verdict::Legal => String::from_str(alloc, "legal\n"),
-        Verdict::Broken { rule, call } => {
+        OrderVerdict::Legal => String::from_str(alloc, "legal\n"),
+        OrderVerdict::Broken { rule, call } => {
             let rule = rule_text(*rule);
             let call = call.as_str();
             format!(in alloc; "broken {rule} {call}\n")

@@ -19,7 +19,7 @@ mod showing;
 mod translating;
 
 pub use aiming::aim;
-pub use batching::{Drawing, Sampling, batch};
+pub use batching::{Sampler, Sampling, batch};
 pub use checking::{check, with_feed};
 pub use compiling::count;
 pub use judged_batch::judge_batch;

@@ -3,7 +3,7 @@
 ghost use Rattle.ls_commands.specs.Sampled.{Sampled, SamplesTo};
 ghost use Rattle.ls_faults.specs.Given.{GivesText};
 
-use crate::batching::Drawing;
+use crate::batching::Sampler;
 use ls_batch::laws::seeds_replay;
 use ls_compiler::compile::compile;
 use ls_faults::fault::ToolFault;
@@ -18,7 +18,7 @@ fn sampled(
     image: &Image,
     cells: usize,
     seed: u64,
-    drawing: Drawing,
+    drawing: Sampler,
 ) -> Result<String, ToolFault>
     ensures { GivesText (Sampled image.now cells seed drawing (Unit {0})) result }
 {
@@ -32,7 +32,7 @@ pub fn sample(
     alloc: Global,
     cells: usize,
     seed: u64,
-    drawing: Drawing,
+    drawing: Sampler,
     classes: &str,
     program: &str,
 ) -> Result<String, ToolFault>

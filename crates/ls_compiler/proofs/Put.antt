@@ -16,8 +16,8 @@ use Rattle.ls_types.specs.declared.checked.Checked.{Checked}
 use Rattle.ls_types.specs.declared.source.Source.{Source}
 use Rattle.ls_linker.specs.Limits.{KeepsLimits, GoesPast}
 use Rattle.ls_linker.specs.declared.fault.BuildFault.{BuildFault}
-use Rattle.ls_linker_laws.specs.Compiled.{code_of}
-use Rattle.ls_linker_laws.specs.Runs.{Runs}
+use Rattle.ls_linker.specs.Compiled.{code_of}
+use Rattle.ls_linker.specs.Runs.{Runs}
 use Rattle.ls_image.specs.Images.{Compiles, code_of_image, source_of}
 use Rattle.ls_compiler.specs.Answers.{IsWithinLimits}
 use Rattle.ls_image.specs.declared.image.Image.{Image}

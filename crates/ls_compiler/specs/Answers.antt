@@ -16,7 +16,7 @@ use Rattle.ls_types.specs.ProgramRefusals.{IsNoProgram}
 use Rattle.ls_types_programs.specs.Programs.{IsTextOf}
 use Rattle.ls_types_elaboration.specs.declared.rule.CheckFault.{CheckFault}
 use Rattle.ls_types.specs.declared.fault.ProgramFault.{ProgramFault}
-use Rattle.ls_linker_laws.specs.Compiled.{code_of}
+use Rattle.ls_linker.specs.Compiled.{code_of}
 use Rattle.ls_linker.specs.Limits.{KeepsLimits, GoesPast}
 use Rattle.ls_linker.specs.declared.fault.BuildFault.{BuildFault}
 use Rattle.ls_compiler.specs.declared.fault.CompileFault.{CompileFault}

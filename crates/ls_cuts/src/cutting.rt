@@ -14,7 +14,7 @@ use ls_source::run::play;
 use ls_verdicts::hopeless_on;
 use std::alloc::{AllocError, Global};
 
-/// The first number of steps after which more than `at` events have happened. It is found by halves.
+/// The first number of steps after which more than `at` events have happened. It is found by binary search.
 fn steps_past(
     alloc: Global,
     file: &File,
@@ -27,7 +27,7 @@ fn steps_past(
 {
     let mut fewer = 0;
     let mut enough = steps.len();
-    'halves: while enough - fewer > 1 {
+    'bisect: while enough - fewer > 1 {
         let middle = fewer + (enough - fewer) / 2;
         let history = play(alloc, file, program, &steps[..middle])?;
         if history.len() > at {

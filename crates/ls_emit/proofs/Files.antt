@@ -8,8 +8,8 @@ use Rattle.std.proofs.lemmas.List.Elements.{All-map}
 use Rattle.ls_lowered.specs.LoweredTree as lowered
 use Rattle.ls_lowered.specs.declared.tree.Method.{Method}
 use Rattle.ls_lowered.specs.Plain.{plain_method}
-use Rattle.ls_emit_laws.specs.Emittable.{AllEmittable}
-use Rattle.ls_emit_laws.specs.Units.{method_size}
+use Rattle.ls_emit.specs.Emittable.{AllEmittable}
+use Rattle.ls_emit.specs.Units.{method_size}
 use Rattle.ls_emit.specs.Small.{IsSmallStatement}
 use Rattle.ls_emit.specs.Short.{AllShort}
 use Rattle.ls_emit.specs.declared.fault.EmitFault.{EmitFault}

@@ -1,6 +1,6 @@
 -- Where the leave of a number leads, by what is around a statement.
 use Rattle.std.proofs.Common.{◌≡◌, ℕ, zero, suc, ◌-◌, ◌<◌, List, [], ◌∷◌, ◌++◌, length, get_or, refl, ap, ◌∙◌, arith}
-use Rattle.ls_emit_laws.specs.Statements.{Targets, target_of}
+use Rattle.ls_emit.specs.Statements.{Targets, target_of}
 
 -- to an exit of the innermost leavable statement, to its end, and beyond it
 pub target_front : (exits : List ℕ) (stop : ℕ) (t : Targets) (n : ℕ) →

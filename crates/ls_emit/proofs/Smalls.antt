@@ -6,8 +6,8 @@ use Rattle.ls_lowered.specs.LoweredTree.{Item, SetFirst, ReadPair, SetPair, Swap
 use Rattle.ls_lowered.specs.LoweredTree.{MakeObject, MakeLock, MakeMarkable, MakeArray, Expressions, End, More}
 use Rattle.ls_lowered.specs.LoweredTree.{Statement, Block, SetLocal, SetField, AddField, SetItem, Evaluate, If, While}
 use Rattle.ls_lowered.specs.LoweredTree.{Return, Try, Guarded, Throw, Leavable, Leave, Statements, Done, Then, File}
-use Rattle.ls_emit_laws.specs.Emittable.{statement_count, IsEmittable, AreEmittable, IsEmittableStatement}
-use Rattle.ls_emit_laws.specs.Emittable.{AreEmittableStatements}
+use Rattle.ls_emit.specs.Emittable.{statement_count, IsEmittable, AreEmittable, IsEmittableStatement}
+use Rattle.ls_emit.specs.Emittable.{AreEmittableStatements}
 use Rattle.ls_emit.specs.Small.{IsSmall, AreSmall, IsSmallStatement, AreSmallStatements}
 
 below : (k n : ℕ) → k ≤ most_instructions → n < k → n < 2 ^ 32

@@ -2,3 +2,13 @@ pub mod Small
 pub mod Short
 pub mod Alone
 pub mod Targets
+pub mod LockCode
+pub mod Needs
+pub mod Expressions
+pub mod Statements
+pub mod Units
+pub mod Emittable
+pub mod Entering
+pub mod Rows
+pub mod Places
+pub mod Ahead

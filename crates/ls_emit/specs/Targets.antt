@@ -1,6 +1,6 @@
 -- Where leaves out of a statement lead, as the emission has it.
 use Rattle.std.specs.Prelude.{[], ◌∷◌, ◌++◌}
-use Rattle.ls_emit_laws.specs.Statements.{Targets}
+use Rattle.ls_emit.specs.Statements.{Targets}
 use Rattle.ls_emit.specs.declared.targets.Around.{Around}
 use Rattle.ls_emit.specs.declared.targets.Around.TheVariants.{Nothing, Leavable'}
 

@@ -16,7 +16,7 @@ pub struct CodeUnit {
 }
 
 impl Model for CodeUnit {
-    ghost use Rattle.ls_emit_laws.specs.Units.{CodeUnit as UnitValue};
+    ghost use Rattle.ls_emit.specs.Units.{CodeUnit as UnitValue};
 
     ghost Value = { UnitValue };
 

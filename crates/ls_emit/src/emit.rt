@@ -3,21 +3,21 @@
 ghost use Rattle.ls_code.specs.Limits.{most_instructions};
 ghost use Rattle.std.specs.Prelude.{◌≡◌, ◌≤◌, ◌↔◌, All, IfOk, OnOk, map};
 ghost use Rattle.ls_lowered.specs.Plain.{plain_method, plain_file};
-ghost use Rattle.ls_emit_laws.specs.Emittable.{IsEmittableFile};
-ghost use Rattle.ls_emit_laws.specs.Units.{method_size, unit_of, units_of};
+ghost use Rattle.ls_emit.specs.Emittable.{IsEmittableFile};
+ghost use Rattle.ls_emit.specs.Units.{method_size, unit_of, units_of};
 ghost use Rattle.ls_emit.specs.Small.{IsSmallStatement};
 ghost use Rattle.ls_emit.specs.Short.{AllShort};
 
+use crate::ahead::list_ahead;
 use crate::code_unit::CodeUnit;
 use crate::emission::{Emission, Stretch};
 use crate::expressions::put;
 use crate::fault::EmitFault;
+use crate::needs::{larger, statement_need};
+use crate::sizes::are_short;
 use crate::statements::emit_statement;
 use crate::targets::Around;
 use ls_code::instruction::Instruction;
-use ls_emit_sizes::ahead::list_ahead;
-use ls_emit_sizes::needs::{larger, statement_need};
-use ls_emit_sizes::sizes::are_short;
 use ls_lowered::tree::{File, Method};
 use std::alloc::{AllocError, Global};
 

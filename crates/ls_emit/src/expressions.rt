@@ -4,12 +4,12 @@ ghost use Rattle.ls_code.specs.Limits.{most_instructions};
 ghost use Rattle.std.specs.Prelude.{◌≡◌, ◌+◌, ◌<◌, ◌≤◌, ◌^◌, ◌++◌, [], ◌∷◌, IfOk, OnOk};
 ghost use Rattle.ls_code.specs.declared.instruction.Instruction.TheVariants as op;
 ghost use Rattle.ls_lowered.specs.Plain.{plain, all_plain};
-ghost use Rattle.ls_emit_laws.specs.Expressions.{unary_code, binary_code, size, all_size, code, all_code};
+ghost use Rattle.ls_emit.specs.Expressions.{unary_code, binary_code, size, all_size, code, all_code};
 ghost use Rattle.ls_emit.specs.Small.{IsSmall, AreSmall};
 
+use crate::lengths::size_of;
+use crate::locks::{lock_size, lower_lock};
 use ls_code::instruction::Instruction;
-use ls_emit_sizes::expressions::size_of;
-use ls_locks::lower::{lock_size, lower_lock};
 use ls_lowered::tree::{BinaryOperator, Expression, Expressions, UnaryOperator};
 use std::alloc::AllocError;
 

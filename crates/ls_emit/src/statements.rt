@@ -5,26 +5,26 @@ ghost use Rattle.std.specs.Prelude.{◌≡◌, ◌+◌, ◌≤◌, ◌++◌, [],
 ghost use Rattle.ls_code.specs.declared.instruction.Instruction.TheVariants as op;
 ghost use Rattle.ls_lowered.specs.LoweredTree.{If, While, Guarded, Leavable};
 ghost use Rattle.ls_lowered.specs.Plain.{plain, plain_statement, statements_of};
-ghost use Rattle.ls_emit_laws.specs.Expressions.{size, code};
-ghost use Rattle.ls_emit_laws.specs.Statements.{places, statement_size, statements_size, exits_size, statement_code, statements_code, exits_code, statement_rows, statements_rows, exits_rows};
-ghost use Rattle.ls_emit_sizes.specs.Ahead.{exit_count, exit_sizes, AreAhead, AreAheadOfBlock, AreAheadOfExits, left_by, left_by_block, left_by_exits};
+ghost use Rattle.ls_emit.specs.Expressions.{size, code};
+ghost use Rattle.ls_emit.specs.Statements.{places, statement_size, statements_size, exits_size, statement_code, statements_code, exits_code, statement_rows, statements_rows, exits_rows};
+ghost use Rattle.ls_emit.specs.Ahead.{exit_count, exit_sizes, AreAhead, AreAheadOfBlock, AreAheadOfExits, left_by, left_by_block, left_by_exits};
 ghost use Rattle.ls_emit.specs.Alone.{IsAlone};
 ghost use Rattle.ls_emit.specs.Targets.{targets_of};
 ghost use Rattle.ls_emit.specs.Small.{IsSmall, IsSmallStatement, AreSmallStatements};
 
 use crate::emission::{Emission, Stretch};
 use crate::expressions::{emit_expression, emit_on, emit_on_three, emit_on_two, put};
+use crate::layout::{Layout, lay_out};
 use crate::targets::{Around, find_target};
 use ls_code::code::HandlerRow;
 use ls_code::instruction::Instruction;
-use ls_emit_sizes::layout::{Layout, lay_out};
 use ls_lowered::tree::{Expression, Statement};
 use std::alloc::AllocError;
 
 /// Puts the code of a statement, which is at `at`, after the code that is there, and its handler rows after those that
 /// are there. The only refusal is that memory ran out.
 #[cycle(statements)]
-#[tactic(auto, using(ls_emit_sizes::proofs::Blocks::block_read))]
+#[tactic(auto, using(crate::proofs::Blocks::block_read))]
 pub fn emit_statement(
     out: &mut Emission<'_>,
     around: &Around,
@@ -82,7 +82,7 @@ fn emit_addition(
 }
 
 // A statement without others in it. It is a function of its own, so that the frames of the recursion stay small.
-#[tactic(auto, using(ls_emit_sizes::proofs::Blocks::block_read))]
+#[tactic(auto, using(crate::proofs::Blocks::block_read))]
 fn emit_alone(
     out: &mut Vec<Instruction>,
     around: &Around,
@@ -258,7 +258,7 @@ fn emit_guarded(
 }
 
 // Where the exits of a leavable statement are that ends at `end`, and how many instructions each has.
-#[tactic(auto, using(ls_emit_sizes::proofs::Places::room_is, ls_emit_sizes::proofs::Places::places_are, ls_emit_sizes::proofs::Places::sizes_are, ls_emit_sizes::proofs::Places::count_is))]
+#[tactic(auto, using(crate::proofs::ExitPlaces::room_is, crate::proofs::ExitPlaces::places_are, crate::proofs::ExitPlaces::sizes_are, crate::proofs::ExitPlaces::count_is))]
 fn place_exits<'a>(
     out: &mut Emission<'a>,
     end: usize,

@@ -1,7 +1,7 @@
 // Where leaves out of a statement lead.
 
 ghost use Rattle.std.specs.Prelude.{◌≡◌};
-ghost use Rattle.ls_emit_laws.specs.Statements.{target_of};
+ghost use Rattle.ls_emit.specs.Statements.{target_of};
 ghost use Rattle.ls_emit.specs.Targets.{targets_of};
 
 /// The leavable statements around a statement, the innermost first.

@@ -14,7 +14,7 @@ use Rattle.ls_transitions.specs.declared.moves.Move.{Move}
 use Rattle.ls_transitions.specs.declared.moves.Step.{Step}
 use Rattle.ls_transitions.specs.Tables.{Grows, Table}
 use Rattle.ls_transitions.proofs.Growing.{grows_not, grows_on}
-use Rattle.ls_search.specs.declared.places.Place.{Place}
+use Rattle.ls_search.specs.declared.places.NumberedState.{NumberedState}
 use Rattle.ls_search.specs.Places.{AreThere, IsThere, configuration_at, configuration_of}
 use Rattle.ls_search.specs.Strides.{ActsBy, HasStarted, IsStrideBy}
 use Rattle.ls_search.proofs.Settling.{not_same, started_after, there_after}
@@ -61,7 +61,7 @@ module _ (file : File) (threads : ℕ) (c : Configuration) (u : ℕ) (t : Table)
 -- ---- states that are ahead
 
 -- where steps begin
-pub at_start : (threads : ℕ) (old : Table) (place here : Place) → IsThere old place → here.store ≡ place.store →
+pub at_start : (threads : ℕ) (old : Table) (place here : NumberedState) → IsThere old place → here.store ≡ place.store →
     here.works.items ≡ place.works.items → HasEnded (configuration_of old place) →
     IsAhead threads old place old here
 at_start threads old place here there store works ended =
@@ -78,7 +78,7 @@ at_start threads old place here there store works ended =
     }
 
 -- numbers are added
-pub later : (threads : ℕ) (old mid new : Table) (start p : Place) → IsAhead threads old start mid p → Grows mid new →
+pub later : (threads : ℕ) (old mid new : Table) (start p : NumberedState) → IsAhead threads old start mid p → Grows mid new →
     IsAhead threads old start new p
 later threads old mid new start p h grows =
     let same = stays mid new p.store p.works.items grows h.there in
@@ -91,7 +91,7 @@ later threads old mid new start p h grows =
     }
 
 -- one after another
-pub further : (threads : ℕ) (old mid new : Table) (start p q : Place) → IsAhead threads old start mid p →
+pub further : (threads : ℕ) (old mid new : Table) (start p q : NumberedState) → IsAhead threads old start mid p →
     IsAhead threads mid p new q → IsAhead threads old start new q
 further threads old mid new start p q h g = record {
   there = g.there;
@@ -103,20 +103,20 @@ further threads old mid new start p q h g = record {
 }
 
 -- where steps come there from a state that is ahead, they come there from the other
-pub breaks_ahead : (threads : ℕ) (old mid : Table) (start p : Place) → IsAhead threads old start mid p →
+pub breaks_ahead : (threads : ℕ) (old mid : Table) (start p : NumberedState) → IsAhead threads old start mid p →
     CanBreak mid.file threads (configuration_of mid p) →
     CanBreak old.file threads (configuration_of old start)
 breaks_ahead threads old mid start p h breaks =
     h.back (subst (λ (f : File). CanBreak f threads (configuration_of mid p)) h.grows.file breaks)
 
 -- a state at rest
-pub rests_ahead : (threads : ℕ) (old mid : Table) (start p : Place) → IsAhead threads old start mid p →
+pub rests_ahead : (threads : ℕ) (old mid : Table) (start p : NumberedState) → IsAhead threads old start mid p →
     ((t : ℕ) → t < threads → IsStill (stride mid.file (configuration_of mid p) t).did) →
     CanBreak old.file threads (configuration_of old start)
 rests_ahead threads old mid start p h still = breaks_ahead threads old mid start p h ([], still)
 
-module _ (threads : ℕ) (old : Table) (start : Place) (u : ℕ) (some : 1 ≤ u) (inside : u < length start.works.items)
-    (mid new : Table) (p : Place) (h : IsAhead threads old start mid p) (grows : Grows mid new) (step : Step)
+module _ (threads : ℕ) (old : Table) (start : NumberedState) (u : ℕ) (some : 1 ≤ u) (inside : u < length start.works.items)
+    (mid new : Table) (p : NumberedState) (h : IsAhead threads old start mid p) (grows : Grows mid new) (step : Step)
     (acts : ActsBy new p.works.items u step (stride mid.file (configuration_of mid p) u)) where
   within : u < length p.works.items
   within = omega (arith, inside, h.width)
@@ -130,7 +130,7 @@ module _ (threads : ℕ) (old : Table) (start : Place) (u : ℕ) (some : 1 ≤ u
   breaks_here e is =
       h.back (breaks_now old.file threads (configuration_of mid p) u new p.works.items step acts_old e is)
 
-  pub goes_ahead : (q : Place) → q.store ≡ step.store → q.works.items ≡ slice_set p.works.items u step.work →
+  pub goes_ahead : (q : NumberedState) → q.store ≡ step.store → q.works.items ≡ slice_set p.works.items u step.work →
       IsAhead threads old start new q
   goes_ahead q store works =
       let there : AreThere new step.store (slice_set p.works.items u step.work) =
@@ -156,7 +156,7 @@ module _ (threads : ℕ) (old : Table) (start : Place) (u : ℕ) (some : 1 ≤ u
 
 -- ---- numbers that stay
 
-pub break_before : (threads : ℕ) (old new : Table) (p : Place) → Grows old new → IsThere old p →
+pub break_before : (threads : ℕ) (old new : Table) (p : NumberedState) → Grows old new → IsThere old p →
     CanBreak new.file threads (configuration_of new p) →
     CanBreak old.file threads (configuration_of old p)
 break_before threads old new p grows there breaks =
@@ -164,7 +164,7 @@ break_before threads old new p grows there breaks =
     (subst (CanBreak new.file threads) (stays old new p.store p.works.items grows there) breaks)
 
 -- one thread more doesn't act
-pub still_more : (old mid new : Table) (p : Place) (u : ℕ) → Grows old mid → IsThere old p →
+pub still_more : (old mid new : Table) (p : NumberedState) (u : ℕ) → Grows old mid → IsThere old p →
     ((t : ℕ) → t < u → IsStill (stride old.file (configuration_of old p) t).did) →
     (m : Move) → IsStillMove m →
     IsStrideBy new (configuration_of mid p) p.works.items u m (stride mid.file (configuration_of mid p) u) →

@@ -8,7 +8,7 @@ use Rattle.ls_search_laws.specs.Stepping.{events_of}
 use Rattle.ls_search.specs.Places.{IsThere, configuration_of}
 use Rattle.ls_search.specs.declared.places.Node.{Node}
 use Rattle.ls_search.specs.declared.places.Seen.{Seen}
-use Rattle.ls_search.specs.declared.places.Place.{Place}
+use Rattle.ls_search.specs.declared.places.NumberedState.{NumberedState}
 use Rattle.ls_transitions.specs.Tables.{Grows, Table}
 
 -- one of these threads' steps, one after another, has an event; or none of so many threads acts after them
@@ -23,7 +23,7 @@ CanBreak file threads c = (path : List ℕ) × Breaks file threads path c
 
 -- What a state is to which steps lead from another while numbers are added: where steps come from it to an event or to
 -- rest, they come there from the other too.
-pub record IsAhead (threads : ℕ) (old : Table) (start : Place) (new : Table) (p : Place) : Type 0 where
+pub record IsAhead (threads : ℕ) (old : Table) (start : NumberedState) (new : Table) (p : NumberedState) : Type 0 where
   pub there : IsThere new p
   pub width : length p.works.items ≡ length start.works.items
   pub ended : true ≡ has_ended ((configuration_of new p).continues 0 [])

@@ -16,7 +16,7 @@ use ls_events::value::Value;
 use ls_search::advancing::take;
 use ls_search::moving::has_setup_ended;
 use ls_search::noting::event_of;
-use ls_search::places::Place;
+use ls_search::places::NumberedState;
 use ls_search::searching::{copy_place, step_from};
 use ls_transitions::moves::Move;
 use ls_transitions::transitions::Transitions;
@@ -53,7 +53,7 @@ fn is_still(made: Move) -> bool
 fn goes_to_event<'a>(
     alloc: Global,
     transitions: &mut Transitions<'a>,
-    here: &mut Place,
+    here: &mut NumberedState,
     thread: u8,
 ) -> Result<bool, AllocError>
     requires there { IsThere (table_of transitions.old) here.old }
@@ -83,7 +83,7 @@ fn goes_to_event<'a>(
 fn is_at_rest<'a>(
     alloc: Global,
     transitions: &mut Transitions<'a>,
-    here: &Place,
+    here: &NumberedState,
     threads: u8,
 ) -> Result<bool, AllocError>
     requires there { IsThere (table_of transitions.old) here.now }
@@ -105,7 +105,7 @@ fn is_at_rest<'a>(
 fn goes_on<'a>(
     alloc: Global,
     transitions: &mut Transitions<'a>,
-    here: &mut Place,
+    here: &mut NumberedState,
     threads: u8,
 ) -> Result<bool, AllocError>
     requires there { IsThere (table_of transitions.old) here.old }
@@ -129,7 +129,7 @@ fn goes_on<'a>(
 pub(crate) fn comes_to_break<'a>(
     alloc: Global,
     transitions: &mut Transitions<'a>,
-    place: &Place,
+    place: &NumberedState,
     threads: u8,
 ) -> Result<bool, AllocError>
     requires there { IsThere (table_of transitions.old) place.now }

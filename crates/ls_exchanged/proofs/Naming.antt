@@ -12,7 +12,7 @@ use Rattle.ls_meaning.specs.Runs.{source_history}
 use Rattle.ls_meaning.specs.Threads.{calls_in}
 use Rattle.ls_report.specs.Events.{Called, Event, Made, Text}
 use Rattle.ls_report.specs.Printing.{event_of, named, occurrence_of}
-use Rattle.ls_explore_verdicts.specs.Verdicts.{HasLegalOrder}
+use Rattle.ls_explore_reports.specs.Verdicts.{HasLegalOrder}
 use Rattle.ls_exchanged.specs.Exchanged.{AreExchanged, HaveNamesByPlace, exchanged, name_in}
 use Rattle.ls_exchanged.specs.Laws.{ExchangedIsLegal}
 use Rattle.ls_exchanged.proofs.Alike.{AreAlike, alike, at_first, at_second, elsewhere}

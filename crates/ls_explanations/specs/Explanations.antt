@@ -9,7 +9,7 @@ use Rattle.ls_faults.specs.declared.fault.ToolFault.{ToolFault}
 use Rattle.ls_faults.specs.declared.fault.ToolFault.TheVariants as faults
 use Rattle.ls_explanations.specs.declared.place.Part.{Part}
 use Rattle.ls_explanations.specs.declared.place.Part.TheVariants as parts
-use Rattle.ls_explanations.specs.declared.place.Place.{Place}
+use Rattle.ls_explanations.specs.declared.place.PartSpan.{PartSpan}
 use Rattle.ls_explanations.specs.Mismatches.{details}
 use Rattle.ls_explanations.specs.Places.{place_of}
 use Rattle.ls_explanations.specs.Sentences.{sentence}
@@ -55,7 +55,7 @@ shown text span =
     (from_on text span.start ++
     (10 ∷ (flat_map space_below (before text span.start) ++ (marks text span ++ 10 ∷ []))))
 
-abbrev pub explanation : Place → Bytes → Bytes
+abbrev pub explanation : PartSpan → Bytes → Bytes
 explanation place text = heading place.part text place.span.start ++ shown text place.span
 
 -- a part, or nothing if there is none
@@ -63,7 +63,7 @@ abbrev pub part_text : List Bytes → ℕ → Bytes
 part_text texts number = option_map_or (λ t. t) (slice_get texts number) []
 
 -- nothing if the part doesn't exist
-abbrev pub in_part : List Bytes → Place → Bytes
+abbrev pub in_part : List Bytes → PartSpan → Bytes
 in_part texts place =
     if nat_lt (part_number place.part (length texts)) (length texts)
     then explanation place (part_text texts (part_number place.part (length texts)))

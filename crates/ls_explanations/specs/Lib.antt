@@ -7,3 +7,10 @@ pub mod Named
 pub mod Limits
 pub mod Held
 pub mod OrderNotes
+pub mod Tokens
+pub mod Words
+pub mod Types
+pub mod Names
+pub mod Signs
+pub mod Lessons
+pub mod Programs

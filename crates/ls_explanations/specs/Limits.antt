@@ -89,7 +89,7 @@ class_limit class.NotOneClass =
 class_limit class.NoMaking =
     codes "the constructor takes a reference: write one that takes `int` and `boolean` alone, or nothing\n"
 class_limit class.NoCalls =
-    codes "no public method takes and returns only `int`, `boolean` or nothing: write one; or the menu has no entry\n"
+    codes "a method that isn't private must take and return only `int`, `boolean` or nothing: write one; or fill the menu\n"
 class_limit class.BadBounds =
     codes "expected `--threads` 2 to 4, `--calls` 1 to 4, `--setup` at most 8, and `--values` 1 to 9\n"
 class_limit class.TooManyCalls =

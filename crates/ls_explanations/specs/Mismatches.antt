@@ -21,9 +21,9 @@ use Rattle.ls_types_elaboration.specs.declared.static_types.Static.{Static}
 use Rattle.ls_types_elaboration.specs.declared.static_types.Static.TheVariants.{Of, NullType, Void}
 use Rattle.ls_faults.specs.declared.fault.ToolFault.{ToolFault}
 use Rattle.ls_faults.specs.declared.fault.ToolFault.TheVariants as faults
-use Rattle.ls_lessons.specs.Lessons.{call_lesson}
-use Rattle.ls_lessons.specs.Programs.{unknown_lesson}
-use Rattle.ls_lessons.specs.Tokens.{Bytes}
+use Rattle.ls_explanations.specs.Lessons.{call_lesson}
+use Rattle.ls_explanations.specs.Programs.{unknown_lesson}
+use Rattle.ls_explanations.specs.Tokens.{Bytes}
 
 -- ---- classes by their numbers
 

@@ -12,7 +12,7 @@ use Rattle.ls_faults.specs.declared.fault.ToolFault.TheVariants as faults
 use Rattle.ls_files.specs.Files.{file_line, part_start}
 use Rattle.ls_explanations.specs.declared.place.Part.{Part}
 use Rattle.ls_explanations.specs.declared.place.Part.TheVariants as parts
-use Rattle.ls_explanations.specs.declared.place.Place.{Place}
+use Rattle.ls_explanations.specs.declared.place.PartSpan.{PartSpan}
 use Rattle.ls_explanations.specs.Places.{place_of}
 use Rattle.ls_explanations.specs.Spots.{Bytes, before, characters}
 use Rattle.ls_explanations.specs.Explanations.{hint, part_number, shown, whole_sentence}
@@ -38,7 +38,7 @@ abbrev pub in_input : Bytes → ℕ → Part → ℕ → ℕ
 in_input input count part at = min (start_of input count part + at) (length input)
 
 -- a place in the whole input
-abbrev pub span_in_input : Bytes → ℕ → Place → Span
+abbrev pub span_in_input : Bytes → ℕ → PartSpan → Span
 span_in_input input count place = record {
   start = in_input input count place.part place.span.start;
   end = in_input input count place.part place.span.end;

@@ -6,12 +6,12 @@ use Rattle.std.specs.List.{flat_map}
 use Rattle.ls_report.specs.Events.{Event, Text}
 use Rattle.ls_orders.specs.Rules.{Broken, Judgement, Legal}
 use Rattle.ls_orders.specs.declared.calls.SetCall.{SetCall}
-use Rattle.ls_orders.specs.declared.verdict.Rule.{Rule}
-use Rattle.ls_orders.specs.declared.verdict.Rule.TheVariants as rules
+use Rattle.ls_orders.specs.declared.verdict.OrderRule.{OrderRule}
+use Rattle.ls_orders.specs.declared.verdict.OrderRule.TheVariants as rules
 use Rattle.ls_explanations.specs.Held.{calls_before, held}
 
 -- what is said of the call that breaks a rule
-abbrev pub broken_text : Rule → Text
+abbrev pub broken_text : OrderRule → Text
 broken_text rules.NotASetCall = codes "is no call of the one set, so the history isn't judged"
 broken_text rules.UnknownCall = codes "is no set call of the history"
 broken_text rules.Repeated = codes "stands twice in the order"
@@ -27,7 +27,7 @@ held_text [] = codes "it is empty"
 held_text (item ∷ items) = codes "it holds " ++ (signed_decimal item ++ flat_map more_item items)
 
 -- where an answer is another than the set has, what the set holds after the calls before
-abbrev pub set_text : Rule → List SetCall → Text
+abbrev pub set_text : OrderRule → List SetCall → Text
 set_text rules.WrongReply calls = codes ": " ++ held_text (held calls)
 set_text other calls = []
 

@@ -19,8 +19,8 @@ use Rattle.ls_tallies_reading.specs.declared.fault.TallyFault.TheVariants as tal
 use Rattle.ls_faults.specs.declared.fault.ToolFault.{ToolFault}
 use Rattle.ls_faults.specs.declared.fault.ToolFault.TheVariants as faults
 use Rattle.ls_explanations.specs.Limits.{limit_sentence}
-use Rattle.ls_lessons.specs.Tokens.{Bytes, byte_at}
-use Rattle.ls_lessons.specs.Lessons.{byte_lesson, call_lesson, name_lesson, syntax_lesson, type_lesson}
+use Rattle.ls_explanations.specs.Tokens.{Bytes, byte_at}
+use Rattle.ls_explanations.specs.Lessons.{byte_lesson, call_lesson, name_lesson, syntax_lesson, type_lesson}
 
 -- by the class text
 abbrev pub text_sentence : TextFault → Bytes → Bytes

@@ -7,7 +7,7 @@ ghost use Rattle.ls_explanations.specs.Explanations.{minds_returns, note, part_t
 ghost use Rattle.ls_explanations.specs.Explanations.{whole_sentence};
 
 use crate::mismatch::push_details;
-use crate::place::{Part, Place, place_of};
+use crate::place::{Part, PartSpan, place_of};
 use crate::sentence::sentence;
 use crate::spot::{Spot, begins_character, characters, spot_of};
 use ls_faults::fault::ToolFault;
@@ -79,7 +79,7 @@ pub(crate) fn push_shown(out: &mut Vec<u8>, text: &[u8], span: Span) -> Result<(
 fn push_explanation(
     alloc: Global,
     out: &mut Vec<u8>,
-    place: Place,
+    place: PartSpan,
     text: &[u8],
 ) -> Result<(), AllocError>
     ensures { OnOk result (out.new.items ≡ out.old.items ++ explanation place text.now) }
@@ -125,7 +125,7 @@ fn push_in_part(
     alloc: Global,
     out: &mut Vec<u8>,
     texts: &[String],
-    place: Place,
+    place: PartSpan,
 ) -> Result<(), AllocError>
     ensures { OnOk result (out.new.items ≡ out.old.items ++ in_part (map string_bytes texts.now) place) }
 {

@@ -5,15 +5,22 @@
 mod classes;
 mod explaining;
 mod held;
+mod lessons;
 mod limit;
 mod mismatch;
 mod named;
+mod names;
 mod noting;
 mod place;
+mod programs;
 mod sentence;
+mod signs;
 mod spot;
+mod tokens;
+mod types;
+mod words;
 
 pub use explaining::explain;
 pub use named::explain_named;
 pub use noting::order_note;
-pub use place::{Part, Place, place_of};
+pub use place::{Part, PartSpan, place_of};

@@ -120,7 +120,7 @@ fn class_limit(fault: ClassFault) -> &'static str
         ClassFault::NoMaking =>
             "the constructor takes a reference: write one that takes `int` and `boolean` alone, or nothing\n",
         ClassFault::NoCalls =>
-            "no public method takes and returns only `int`, `boolean` or nothing: write one; or the menu has no entry\n",
+            "a method that isn't private must take and return only `int`, `boolean` or nothing: write one; or fill the menu\n",
         ClassFault::BadBounds =>
             "expected `--threads` 2 to 4, `--calls` 1 to 4, `--setup` at most 8, and `--values` 1 to 9\n",
         ClassFault::TooManyCalls =>

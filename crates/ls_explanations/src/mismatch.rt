@@ -7,9 +7,10 @@ ghost use Rattle.ls_explanations.specs.Mismatches.{counts_text, details, mismatc
 ghost use Rattle.ls_explanations.specs.Mismatches.{rule_details, static_text, type_text};
 
 use crate::classes::{class_name, tokens_in};
+use crate::lessons::call_lesson;
+use crate::programs::unknown_lesson;
 use ls_events::value::ValueType;
 use ls_faults::fault::ToolFault;
-use ls_lessons::{call_lesson, unknown_lesson};
 use ls_lexer::token::Token;
 use ls_types::checked::CheckFault;
 use ls_types::fault::ProgramFault;

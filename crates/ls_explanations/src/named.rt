@@ -8,7 +8,7 @@ ghost use Rattle.ls_explanations.specs.Named.{part_of_fault, part_site, said, sh
 ghost use Rattle.ls_explanations.specs.Named.{word};
 
 use crate::explaining::{count_of, push_hint, push_shown, whole_sentence};
-use crate::place::{Part, Place, place_of};
+use crate::place::{Part, PartSpan, place_of};
 use crate::spot::{characters, spot_of};
 use ls_faults::fault::ToolFault;
 use ls_faults::line::fault_line;
@@ -48,7 +48,7 @@ fn in_input(input: &[u8], count: usize, part: Part, at: usize) -> usize
         .min(input.len())
 }
 
-fn span_in_input(input: &[u8], count: usize, place: Place) -> Span
+fn span_in_input(input: &[u8], count: usize, place: PartSpan) -> Span
     ensures { result ≡ span_in_input input.now count place }
 {
     Span {

@@ -7,22 +7,22 @@ ghost use Rattle.ls_explanations.specs.Held.{calls_before};
 ghost use Rattle.ls_explanations.specs.OrderNotes.{broken_text, held_text, more_item, order_note, set_text};
 
 use crate::held::{calls_before, held};
-use ls_orders::{Order, Rule, Verdict};
+use ls_orders::{Order, OrderRule, OrderVerdict};
 use ls_report::history::History;
 use std::alloc::{AllocError, Global};
 use std::fmt::Write;
 
 /// What is said of the call that breaks a rule.
-fn broken_text(rule: Rule) -> &'static str
+fn broken_text(rule: OrderRule) -> &'static str
     ensures { result.now ≡ broken_text rule }
 {
     match rule {
-        Rule::NotASetCall => "is no call of the one set, so the history isn't judged",
-        Rule::UnknownCall => "is no set call of the history",
-        Rule::Repeated => "stands twice in the order",
-        Rule::Missing => "returned, and isn't in the order",
-        Rule::AgainstTime => "stands after a call that began when it had ended",
-        Rule::WrongReply => "returned another answer than the set has there",
+        OrderRule::NotASetCall => "is no call of the one set, so the history isn't judged",
+        OrderRule::UnknownCall => "is no set call of the history",
+        OrderRule::Repeated => "stands twice in the order",
+        OrderRule::Missing => "returned, and isn't in the order",
+        OrderRule::AgainstTime => "stands after a call that began when it had ended",
+        OrderRule::WrongReply => "returned another answer than the set has there",
     }
 }
 
@@ -55,14 +55,14 @@ fn set_text(
     alloc: Global,
     history: &History<'_>,
     order: &Order<'_>,
-    rule: Rule,
+    rule: OrderRule,
     entry: &str,
 ) -> Result<String, AllocError>
     ensures { IfOk result (λ text.
         string_bytes text ≡ set_text rule (calls_before history.now order.now entry.now)) }
 {
     match rule {
-        Rule::WrongReply => {
+        OrderRule::WrongReply => {
             let calls = calls_before(alloc, history, order, entry)?;
             let items = held(alloc, calls.as_slice())?;
             let text = held_text(alloc, items.as_slice())?;
@@ -79,14 +79,14 @@ pub fn order_note(
     alloc: Global,
     history: &History<'_>,
     order: &Order<'_>,
-    verdict: &Verdict,
+    verdict: &OrderVerdict,
 ) -> Result<String, AllocError>
     ensures { IfOk result (λ text.
         string_bytes text ≡ order_note history.now order.now (plain_verdict verdict.now)) }
 {
     match verdict {
-        Verdict::Legal => Ok(String::new(alloc)),
-        Verdict::Broken { rule, call } => {
+        OrderVerdict::Legal => Ok(String::new(alloc)),
+        OrderVerdict::Broken { rule, call } => {
             let says = broken_text(*rule);
             let set = set_text(alloc, history, order, *rule, call.as_str())?;
             format!(in alloc; "listset: {call} {says}{set}\n")

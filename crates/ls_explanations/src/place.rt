@@ -70,35 +70,35 @@ impl Part {
 
 /// A place in a part, from byte to byte.
 #[derive(Copy)]
-pub struct Place {
+pub struct PartSpan {
     pub part: Part,
     pub span: Span,
 }
 
-impl Clone for Place {
-    fn clone(&self) -> Result<Place, AllocError> {
+impl Clone for PartSpan {
+    fn clone(&self) -> Result<PartSpan, AllocError> {
         Ok(*self)
     }
 }
 
 /// The place of one byte.
-fn at_byte(part: Part, at: usize) -> Option<Place>
+fn at_byte(part: Part, at: usize) -> Option<PartSpan>
     ensures { result ≡ byte_place part at }
 {
     let span = Span { start: at, end: at };
-    Some(Place { part, span })
+    Some(PartSpan { part, span })
 }
 
-fn at_span(span: Span) -> Option<Place>
+fn at_span(span: Span) -> Option<PartSpan>
     ensures { result ≡ span_place parts.Classes span }
 {
-    Some(Place {
+    Some(PartSpan {
         part: Part::Classes,
         span,
     })
 }
 
-fn text_place(fault: TextFault) -> Option<Place>
+fn text_place(fault: TextFault) -> Option<PartSpan>
     ensures { result ≡ text_place fault }
 {
     match fault {
@@ -111,7 +111,7 @@ fn text_place(fault: TextFault) -> Option<Place>
     }
 }
 
-fn check_place(fault: CheckFault) -> Option<Place>
+fn check_place(fault: CheckFault) -> Option<PartSpan>
     ensures { result ≡ check_place fault }
 {
     match fault {
@@ -120,7 +120,7 @@ fn check_place(fault: CheckFault) -> Option<Place>
     }
 }
 
-fn program_place(fault: ProgramFault) -> Option<Place>
+fn program_place(fault: ProgramFault) -> Option<PartSpan>
     ensures { result ≡ program_place fault }
 {
     match fault {
@@ -131,7 +131,7 @@ fn program_place(fault: ProgramFault) -> Option<Place>
     }
 }
 
-fn schedule_place(fault: ScheduleFault) -> Option<Place>
+fn schedule_place(fault: ScheduleFault) -> Option<PartSpan>
     ensures { result ≡ schedule_place fault }
 {
     match fault {
@@ -142,7 +142,7 @@ fn schedule_place(fault: ScheduleFault) -> Option<Place>
     }
 }
 
-fn aim_place(fault: AimFault) -> Option<Place>
+fn aim_place(fault: AimFault) -> Option<PartSpan>
     ensures { result ≡ aim_place fault }
 {
     match fault {
@@ -154,7 +154,7 @@ fn aim_place(fault: AimFault) -> Option<Place>
     }
 }
 
-fn history_place(fault: HistoryFault) -> Option<Place>
+fn history_place(fault: HistoryFault) -> Option<PartSpan>
     ensures { result ≡ history_place fault }
 {
     match fault {
@@ -163,7 +163,7 @@ fn history_place(fault: HistoryFault) -> Option<Place>
     }
 }
 
-fn order_place(fault: OrderFault) -> Option<Place>
+fn order_place(fault: OrderFault) -> Option<PartSpan>
     ensures { result ≡ order_place fault }
 {
     match fault {
@@ -172,7 +172,7 @@ fn order_place(fault: OrderFault) -> Option<Place>
     }
 }
 
-fn tally_place(fault: TallyFault) -> Option<Place>
+fn tally_place(fault: TallyFault) -> Option<PartSpan>
     ensures { result ≡ tally_place fault }
 {
     match fault {
@@ -183,7 +183,7 @@ fn tally_place(fault: TallyFault) -> Option<Place>
 
 /// The place of a fault in its part, or none. Faults of programs, schedules, histories, orders, tallies and menus are at one
 /// byte. Limits of whole texts, faults of a run and faults of the streams have no place.
-pub fn place_of(fault: ToolFault) -> Option<Place>
+pub fn place_of(fault: ToolFault) -> Option<PartSpan>
     ensures { result ≡ place_of fault }
 {
     match fault {

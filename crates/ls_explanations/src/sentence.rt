@@ -3,12 +3,13 @@
 ghost use Rattle.std.specs.Prelude.{◌≡◌};
 ghost use Rattle.ls_explanations.specs.Sentences.{aim_sentence, check_sentence, program_sentence, rule_sentence};
 ghost use Rattle.ls_explanations.specs.Sentences.{schedule_sentence, sentence, text_sentence};
-ghost use Rattle.ls_lessons.specs.Tokens.{byte_at};
+ghost use Rattle.ls_explanations.specs.Tokens.{byte_at};
 
+use crate::lessons::{byte_lesson, call_lesson, name_lesson, syntax_lesson, type_lesson};
 use crate::limit::limit_sentence;
+use crate::tokens::byte_at;
 use ls_aim::fault::AimFault;
 use ls_faults::fault::ToolFault;
-use ls_lessons::{byte_at, byte_lesson, call_lesson, name_lesson, syntax_lesson, type_lesson};
 use ls_lexer::fault::TextFault;
 use ls_orders::OrderFault;
 use ls_report::HistoryFault;
@@ -119,8 +120,8 @@ fn aim_sentence(fault: AimFault) -> &'static str
     }
 }
 
-/// What is said of a fault in a sentence or two, as far as it is the same for all types and numbers of arguments. `classes` is the class text, which is the first part of the input, if
-/// there is one.
+/// What is said of a fault in a sentence or two, as far as it is the same for all types and numbers of arguments.
+/// `classes` is the class text, which is the first part of the input, if there is one.
 pub(crate) fn sentence(fault: ToolFault, classes: &[u8]) -> &'static str
     ensures { result.now ≡ sentence fault classes.now }
 {

@@ -5,7 +5,7 @@ use Rattle.std.specs.Prelude.{Contains}
 use Rattle.std.proofs.lemmas.Bool.{cases_lt}
 use Rattle.std.proofs.lemmas.List.{map-append, length-map}
 use Rattle.ls_code.specs.Machine.{Machine}
-use Rattle.ls_headline.proofs.Lists.{get_left, get_right, get_within, get_there, get_map, index_there}
+use Rattle.ls_preservation.proofs.Lists.{get_left, get_right, get_within, get_there, get_map, index_there}
 use Rattle.ls_explore_laws.specs.Bursts.{burst, IsClosed}
 use Rattle.ls_explore.specs.Walks.{led_to, walked}
 use Rattle.ls_explore.specs.Searches.{AllAct, Grows, IsClosedTo, IsSeen, IsSound, Leads}

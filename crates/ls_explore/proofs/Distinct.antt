@@ -2,7 +2,7 @@
 use Rattle.std.proofs.Common.{◌≡◌, ◌⊎◌, inl, inr, ℕ, ◌+◌, ◌<◌, ◌≤◌, List, [], ◌∷◌, ◌++◌, length, length-append, Some}
 use Rattle.std.proofs.Common.{refl, sym, ap, ◌∙◌, subst, arith, slice_get}
 use Rattle.std.proofs.lemmas.Bool.{cases_lt}
-use Rattle.ls_headline.proofs.Lists.{get_left, get_right, get_within}
+use Rattle.ls_preservation.proofs.Lists.{get_left, get_right, get_within}
 use Rattle.ls_explore.specs.Searches.{AreDistinct, GoesOnFrom}
 
 some_is : {A : Type 0} {x y : A} → Some x ≡ Some y → x ≡ y

@@ -4,8 +4,8 @@ use Rattle.std.proofs.Common.{◌∙◌, subst, arith, slice_get, get_or}
 use Rattle.std.specs.Prelude.{IfSome}
 use Rattle.ls_code.specs.Machine.{Machine, loaded, machine_run}
 use Rattle.ls_code.specs.declared.step.Did.{Did}
-use Rattle.ls_headline.specs.Acting.{first_did}
-use Rattle.ls_headline.proofs.Lists.{index_there}
+use Rattle.ls_preservation.specs.Acting.{first_did}
+use Rattle.ls_preservation.proofs.Lists.{index_there}
 use Rattle.ls_explore.specs.Walks.{root_of, walked}
 use Rattle.ls_explore.specs.Searches.{AllAct, Grows, IsClosedTo, IsSeen, IsSound, Leads, seen_with}
 use Rattle.ls_explore.specs.declared.searching.Seen.{Seen}

@@ -6,7 +6,7 @@ use Rattle.std.proofs.lemmas.Bool.{cases_lt}
 use Rattle.std.proofs.lemmas.Cmp.{nat_cmp_total, nat_list_cmp_total, on_total, then_total}
 use Rattle.std.proofs.lemmas.List.Quantifiers.{all_pairs_push}
 use Rattle.std.proofs.lemmas.List.Sorted.{IsPermutation-keeps}
-use Rattle.ls_headline.proofs.Lists.{get_within, length-set, set_other, set_same}
+use Rattle.ls_preservation.proofs.Lists.{get_within, length-set, set_other, set_same}
 use Rattle.std.specs.Prelude.{Contains}
 use Rattle.ls_explore.specs.Rows.{AreApart, Told, row_order}
 

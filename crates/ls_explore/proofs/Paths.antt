@@ -4,7 +4,7 @@ use Rattle.std.proofs.Common.{refl, sym, ap, ◌∙◌, arith, slice_get, get_or
 use Rattle.std.proofs.lemmas.Option.{slice_get-get_or, slice_get_past}
 use Rattle.std.proofs.lemmas.List.Sums.{fold-append}
 use Rattle.std.specs.List.{fold}
-use Rattle.ls_headline.proofs.Lists.{get_end, get_left, get_there, index_there}
+use Rattle.ls_preservation.proofs.Lists.{get_end, get_left, get_there, index_there}
 use Rattle.ls_explore.specs.declared.links.Link.{Link}
 use Rattle.ls_explore.specs.Paths.{linked, longer, paths_of}
 

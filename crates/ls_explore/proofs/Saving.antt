@@ -6,7 +6,7 @@ use Rattle.std.proofs.lemmas.List.{map-append, length-map}
 use Rattle.ls_code.specs.Code.{Code}
 use Rattle.ls_code.specs.Machine.{Machine}
 use Rattle.ls_machine.specs.Saved.{Standing, standing, standing_so}
-use Rattle.ls_headline.proofs.Lists.{get_there, get_map}
+use Rattle.ls_preservation.proofs.Lists.{get_there, get_map}
 use Rattle.ls_explore.specs.Searches.{AreSaved, paths_of}
 use Rattle.ls_explore.specs.Walks.{led_to, walked}
 use Rattle.ls_explore.specs.declared.links.Link.{Link}

@@ -17,10 +17,10 @@ use Rattle.ls_code.specs.Code.{Code}
 use Rattle.ls_code.specs.Machine.{Machine, loaded, machine_run}
 use Rattle.ls_code.specs.declared.step.Did.{Did}
 use Rattle.ls_code.specs.declared.step.Did.TheVariants as did
-use Rattle.ls_headline.specs.Same.{Fits, IsCells}
-use Rattle.ls_headline.specs.Translations.{most_silent, to_source}
-use Rattle.ls_headline.proofs.Lists.{get_within, get_there, get_map, index_there}
-use Rattle.ls_headline.specs.Acting.{first_did}
+use Rattle.ls_preservation.specs.Same.{Fits, IsCells}
+use Rattle.ls_preservation.specs.Translations.{most_silent, to_source}
+use Rattle.ls_preservation.proofs.Lists.{get_within, get_there, get_map, index_there}
+use Rattle.ls_preservation.specs.Acting.{first_did}
 use Rattle.ls_explore_laws.specs.Bursts.{ActsAlong, IsClosed, burst}
 use Rattle.ls_explore_laws.specs.Ends.{AreQuiet, HasSteps, IsEnd as IsEndOf, IsQuiet}
 use Rattle.ls_explore_laws.specs.Explored.{IsRoomy, IsSetUp, IsShown}

@@ -5,7 +5,7 @@ use Rattle.std.proofs.lemmas.List.{drop_more, drop_all}
 use Rattle.ls_code.specs.Machine.{Machine, machine_step}
 use Rattle.ls_code.specs.declared.step.Did.{Did}
 use Rattle.ls_code.specs.declared.step.Did.TheVariants as did
-use Rattle.ls_headline.specs.Acting.{first_did, or_later}
+use Rattle.ls_preservation.specs.Acting.{first_did, or_later}
 use Rattle.ls_machine.specs.Back.{RunsKeep}
 use Rattle.ls_explore_laws.specs.Bursts.{IsSilentTo, acted_or, burst}
 use Rattle.ls_explore_laws.proofs.Rounds.{never_acts}

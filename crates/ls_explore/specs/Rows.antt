@@ -11,8 +11,8 @@ use Rattle.ls_meaning.specs.Runs.{source_run, source_trace, source_history}
 use Rattle.ls_code.specs.Code.{Code}
 use Rattle.ls_code.specs.Machine.{Machine, loaded, machine_run}
 use Rattle.ls_code.specs.declared.step.Did.TheVariants as did
-use Rattle.ls_headline.specs.Same.{Fits, IsCells}
-use Rattle.ls_headline.specs.Acting.{ActsInTime, first_did}
+use Rattle.ls_preservation.specs.Same.{Fits, IsCells}
+use Rattle.ls_preservation.specs.Acting.{ActsInTime, first_did}
 use Rattle.ls_explore_laws.specs.Bursts.{ActsAlong, burst}
 use Rattle.ls_explore_laws.specs.Ends.{AreQuiet, HasSteps}
 use Rattle.ls_explore_laws.specs.Room.{IsFull, StaysWithin, StopsForRoom}

@@ -3,7 +3,7 @@
 ghost use Rattle.ls_code.specs.Limits.{most_instructions};
 ghost use Rattle.std.specs.Prelude.{◌≡◌, ◌+◌, All, Contains, IfOk, IsSorted, IsTrue, IsErrOf, ◌↔◌, ◌≤◌, false, length};
 ghost use Rattle.std.specs.Prelude.{true};
-ghost use Rattle.ls_headline.specs.Translations.{most_silent};
+ghost use Rattle.ls_preservation.specs.Translations.{most_silent};
 ghost use Rattle.ls_machine.specs.Room.{AreBadCells};
 ghost use Rattle.ls_explore.specs.declared.rows.Ending.TheVariants.{NotSeen};
 ghost use Rattle.ls_explore.specs.declared.searching.Seen.{Seen as SeenValue};

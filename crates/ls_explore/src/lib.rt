@@ -2,9 +2,8 @@
 #![tactic(auto)]
 
 mod exploring;
-mod hints;
+mod hashing;
 mod links;
-mod mixing;
 mod rows;
 mod searching;
 mod table;

@@ -4,21 +4,21 @@ ghost use Rattle.std.specs.Prelude.{◌≡◌, ℕ, ◌<◌, ◌≤◌, ◌+◌,
 ghost use Rattle.std.specs.Prelude.{OnOk, IsTrue, Contains, slice_index_or};
 ghost use Rattle.ls_code.specs.Machine.{Machine as MachineValue};
 ghost use Rattle.ls_machine.specs.Saved.{standing};
-ghost use Rattle.ls_headline.specs.Acting.{first_did};
+ghost use Rattle.ls_preservation.specs.Acting.{first_did};
 ghost use Rattle.ls_explore_laws.specs.Bursts.{IsClosed};
 ghost use Rattle.ls_explore.specs.Walks.{led_to, root_of, walked};
 ghost use Rattle.ls_explore.specs.Watching.{GoesOn};
 ghost use Rattle.ls_explore.specs.Searches.{AllAct, AreDistinct, AreSaved, Grows, IsClosedTo, IsSound, Leads};
 ghost use Rattle.ls_explore.specs.Searches.{StandOnce, paths_of, seen_with};
 
-use crate::hints::Hints;
+use crate::hashing::number_of;
 use crate::links::{Link, Path};
-use crate::mixing::number_of;
 use crate::walking::{Ground, Place, go_back, has_acted, see};
 use ls_code::step::{Did, is_stop};
-use ls_machine::{Machine, Saved, Shelf};
-use ls_machine_moves::stirring::stir;
+use ls_machine::{Interner, Machine, Saved};
+use ls_machine_moves::hashing::hashed;
 use ls_source_rows::Watch;
+use ls_transitions::hash_index::HashIndex;
 use std::alloc::{AllocError, Global};
 
 /// What is seen of all threads after a path: whether one of them acts, and whether one of them would stop the machine
@@ -52,13 +52,13 @@ pub(crate) struct Nodes {
     pub(crate) paths: Vec<Link>,
     pub(crate) saved: Vec<Saved>,
     pub(crate) seen: Vec<Seen>,
-    shelf: Shelf,
-    hints: Hints,
+    shelf: Interner,
+    hints: HashIndex,
 }
 
 /// A number made of a machine.
-fn number_of_machine(machine: &Machine) -> u64 {
-    stir(machine.mix(), number_of(machine.history()))
+fn hash_of_machine(machine: &Machine) -> u64 {
+    hashed(machine.hash(), number_of(machine.history()))
 }
 
 /// Whether a machine is the one that was saved at a place. True only where it is.
@@ -75,14 +75,14 @@ impl Nodes {
         ensures saved { IfOk result (λ nodes. nodes.saved.items ≡ standing machine.now ∷ []) }
         ensures seen { IfOk result (λ nodes. nodes.seen.items ≡ []) }
     {
-        let mut shelf = Shelf::new(alloc);
+        let mut shelf = Interner::new(alloc);
         let first = machine.saved(alloc, &mut shelf, number_of(machine.history()))?;
         let mut saved = Vec::new(alloc);
         saved.push(first)?;
         let mut paths = Vec::new(alloc);
         paths.push(Link::first())?;
-        let mut hints = Hints::new(alloc);
-        hints.add(alloc, number_of_machine(machine))?;
+        let mut hints = HashIndex::new(alloc);
+        hints.add(alloc, hash_of_machine(machine))?;
         Ok(Nodes {
             paths,
             saved,
@@ -200,7 +200,7 @@ fn look(
     if !has_acted(did) {
         return Ok(Some(did));
     }
-    let number = number_of_machine(walker);
+    let number = hash_of_machine(walker);
     if nodes.has(walker, number) {
         return Ok(Some(did));
     }

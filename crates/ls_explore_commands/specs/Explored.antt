@@ -11,7 +11,7 @@ use Rattle.ls_translation.specs.declared.fault.TranslationFault.{TranslationFaul
 use Rattle.ls_translation.specs.declared.fault.TranslationFault.TheVariants as translation
 use Rattle.ls_explore.specs.Rows.{AreApart, TellStates, row_order}
 use Rattle.ls_linearizable.specs.Linearizable.{IsLinearizable}
-use Rattle.ls_explore_verdicts.specs.Verdicts.{HasLegalOrder}
+use Rattle.ls_explore_reports.specs.Verdicts.{HasLegalOrder}
 use Rattle.ls_explore_images.specs.Faults.{AreBadStates, AreGood, StaysSource}
 use Rattle.ls_explore_images.specs.Settings.{GoesOnFor, StopsAt}
 use Rattle.ls_explore_images.specs.Tellings.{TellTruth, TellWhole}

@@ -8,7 +8,7 @@ use Rattle.std.specs.Prelude.{IfErr, IsErrOf}
 use Rattle.ls_checked.specs.CheckedTree.{File}
 use Rattle.ls_checked.specs.CheckedProgram.{Program}
 use Rattle.ls_code.specs.Code.{Code}
-use Rattle.ls_headline.specs.Translations.{to_machine}
+use Rattle.ls_preservation.specs.Translations.{to_machine}
 use Rattle.ls_machine.specs.Room.{AreBadCells}
 use Rattle.ls_translation.specs.Room.{IsFirstUnfit}
 use Rattle.ls_translation.specs.declared.fault.TranslationFault.{TranslationFault}

@@ -9,7 +9,7 @@ use Rattle.ls_meaning.specs.Still.{IsActing}
 use Rattle.ls_meaning.specs.declared.step.Did.{Did}
 use Rattle.ls_meaning.specs.declared.step.Did.TheVariants as did
 use Rattle.ls_code.specs.Code.{Code}
-use Rattle.ls_headline.specs.Acting.{has_room}
+use Rattle.ls_preservation.specs.Acting.{has_room}
 use Rattle.ls_explore_laws.specs.Room.{LacksRoom, StaysWithin, StopsForRoom}
 
 acting_prop : (d : Did) → IsProp (IsActing d)

@@ -12,7 +12,7 @@ use Rattle.ls_meaning.specs.Runs.{State, start, source_run, source_trace, source
 use Rattle.ls_meaning.specs.Runs.{has_ended}
 use Rattle.ls_meaning.specs.declared.step.Did.{Did}
 use Rattle.ls_meaning.specs.declared.step.Did.TheVariants as did
-use Rattle.ls_headline.specs.Translations.{has_setup_ended}
+use Rattle.ls_preservation.specs.Translations.{has_setup_ended}
 use Rattle.ls_source.specs.Progress.{Progress, begun, gone_on}
 use Rattle.ls_translation.specs.MachineRuns.{has_acted}
 use Rattle.ls_translation.proofs.SourceSteps.{after_step_is}

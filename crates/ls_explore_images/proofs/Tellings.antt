@@ -11,13 +11,13 @@ use Rattle.ls_meaning.specs.Steps.{Entry}
 use Rattle.ls_meaning.specs.Runs.{source_run, source_history, source_trace}
 use Rattle.ls_code.specs.Code.{Code}
 use Rattle.ls_code.specs.Machine.{Entry as MachineEntry, loaded, machine_run, machine_trace, setup_ended}
-use Rattle.ls_headline.specs.Same.{Fits, IsCells}
-use Rattle.ls_headline.specs.Translations.{to_source}
-use Rattle.ls_headline.specs.Acting.{ActsInTime}
-use Rattle.ls_linker_laws.specs.Runs.{Runs}
+use Rattle.ls_preservation.specs.Same.{Fits, IsCells}
+use Rattle.ls_preservation.specs.Translations.{to_source}
+use Rattle.ls_preservation.specs.Acting.{ActsInTime}
+use Rattle.ls_linker.specs.Runs.{Runs}
 use Rattle.ls_translation.specs.RoundTrips.{acting_steps}
 use Rattle.ls_translation.proofs.Promises.{back_history}
-use Rattle.ls_headline.specs.InWords.{births, in_words, numbered}
+use Rattle.ls_preservation.specs.InWords.{births, in_words, numbered}
 use Rattle.ls_explore_laws.specs.Ends.{HasSteps}
 use Rattle.ls_meaning.specs.Still.{IsOver}
 use Rattle.ls_explore_laws.specs.Explored.{HasHistories, IsSetUp}

@@ -4,7 +4,7 @@ use Rattle.std.specs.Prelude.{◌≡◌, ◌<◌, ◌⊎◌, ℕ, length, replic
 use Rattle.ls_checked.specs.CheckedTree.{File}
 use Rattle.ls_checked.specs.CheckedProgram.{Program}
 use Rattle.ls_code.specs.Code.{Code}
-use Rattle.ls_headline.specs.Translations.{to_machine}
+use Rattle.ls_preservation.specs.Translations.{to_machine}
 use Rattle.ls_machine.specs.Room.{AreBadCells}
 use Rattle.ls_machine.specs.declared.fault.LoadFault.{LoadFault}
 use Rattle.ls_machine.specs.declared.fault.LoadFault.TheVariants as load

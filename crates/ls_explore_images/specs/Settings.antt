@@ -3,7 +3,7 @@ use Rattle.std.specs.Prelude.{◌≡◌, ◌⊎◌, ℕ, ◌<◌, ◌≤◌, map
 use Rattle.ls_checked.specs.CheckedTree.{File}
 use Rattle.ls_checked.specs.CheckedProgram.{Program}
 use Rattle.ls_meaning.specs.Runs.{source_run, source_trace}
-use Rattle.ls_headline.specs.Translations.{has_setup_ended}
+use Rattle.ls_preservation.specs.Translations.{has_setup_ended}
 use Rattle.ls_explore_laws.specs.Stuck.{IsStuck}
 use Rattle.ls_explore_images.specs.declared.setting.Setting.{Setting}
 use Rattle.ls_explore_images.specs.declared.setting.Setting.TheVariants.{Ends, Sticks, GoesOn}

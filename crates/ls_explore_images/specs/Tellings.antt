@@ -3,7 +3,7 @@ use Rattle.std.specs.Prelude.{◌≡◌, ℕ, List, [], ◌∷◌, ◌++◌, rep
 use Rattle.ls_checked.specs.CheckedTree.{File}
 use Rattle.ls_checked.specs.CheckedProgram.{Program}
 use Rattle.ls_meaning.specs.Runs.{source_run, source_history}
-use Rattle.ls_headline.specs.Same.{Fits}
+use Rattle.ls_preservation.specs.Same.{Fits}
 use Rattle.ls_meaning.specs.Still.{IsOver}
 use Rattle.ls_explore_laws.specs.Room.{IsFull}
 use Rattle.ls_explore.specs.declared.rows.Ending.TheVariants.{GoesOn, OutOfCells, Over}

@@ -3,7 +3,7 @@
 ghost use Rattle.ls_code.specs.Limits.{most_instructions};
 ghost use Rattle.std.specs.Prelude.{◌≡◌, ◌<◌, ◌≤◌, ◌⊎◌, ◌↔◌, ◌∷◌, [], IfErr, IfOk, IsErrOf, IsSorted, IsTrue, false};
 ghost use Rattle.std.specs.Prelude.{length, true};
-ghost use Rattle.ls_headline.specs.Same.{IsCells};
+ghost use Rattle.ls_preservation.specs.Same.{IsCells};
 ghost use Rattle.ls_image.specs.Images.{code_of_image};
 ghost use Rattle.ls_machine.specs.Room.{AreBadCells};
 ghost use Rattle.ls_translation.specs.Texts.{file_of, program_of};

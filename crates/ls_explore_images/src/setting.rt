@@ -4,8 +4,8 @@ ghost use Rattle.std.specs.Prelude.{◌≡◌, ◌≤◌, IfErr, IfOk, OnOk, rep
 ghost use Rattle.ls_code.specs.Machine.{loaded, machine_run};
 ghost use Rattle.ls_checked.specs.Plain.{plain_file};
 ghost use Rattle.ls_checked.specs.PlainProgram.{plain_program};
-ghost use Rattle.ls_headline.specs.Same.{Fits, IsCells};
-ghost use Rattle.ls_headline.specs.Translations.{to_machine};
+ghost use Rattle.ls_preservation.specs.Same.{Fits, IsCells};
+ghost use Rattle.ls_preservation.specs.Translations.{to_machine};
 ghost use Rattle.ls_image.specs.Images.{code_of_image};
 ghost use Rattle.ls_explore_laws.specs.Explored.{IsSetUp};
 ghost use Rattle.ls_explore_images.specs.Faults.{IsLate};

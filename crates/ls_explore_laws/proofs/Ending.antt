@@ -17,10 +17,10 @@ use Rattle.ls_code.specs.Code.{Code}
 use Rattle.ls_code.specs.Machine.{Machine, Entry as MachineEntry, loaded, machine_run, machine_trace}
 use Rattle.ls_code.specs.declared.step.Did.{Did as MachineDid}
 use Rattle.ls_code.specs.declared.step.Did.TheVariants as machine_did
-use Rattle.ls_headline.specs.Same.{IsCells}
-use Rattle.ls_headline.specs.Translations.{most_silent, to_source}
-use Rattle.ls_headline.proofs.Runs.{trace-append}
-use Rattle.ls_headline.specs.Acting.{ActsInTime, ActsAs, first_did, has_room}
+use Rattle.ls_preservation.specs.Same.{IsCells}
+use Rattle.ls_preservation.specs.Translations.{most_silent, to_source}
+use Rattle.ls_preservation.proofs.Runs.{trace-append}
+use Rattle.ls_preservation.specs.Acting.{ActsInTime, ActsAs, first_did, has_room}
 use Rattle.ls_explore_laws.specs.Bursts.{burst, IsClosed}
 use Rattle.ls_explore_laws.specs.Explored.{HasHistories, IsSetUp}
 use Rattle.ls_explore_laws.specs.Ends.{AreQuiet, Ends, EndsWhole, HasSteps, IsEnd, IsQuiet}

@@ -14,9 +14,9 @@ use Rattle.ls_meaning.specs.declared.step.Did.{Did}
 use Rattle.ls_meaning.specs.declared.step.Did.TheVariants as did
 use Rattle.ls_code.specs.Code.{Code}
 use Rattle.ls_code.specs.Machine.{Machine, loaded, machine_run}
-use Rattle.ls_headline.specs.Acting.{ActsInTime, ActsAs, StepsAs, acts_or_stops, first_did, has_room}
-use Rattle.ls_headline.specs.Same.{Fits, IsCells, total}
-use Rattle.ls_headline.specs.Translations.{most_silent, to_source}
+use Rattle.ls_preservation.specs.Acting.{ActsInTime, ActsAs, StepsAs, acts_or_stops, first_did, has_room}
+use Rattle.ls_preservation.specs.Same.{Fits, IsCells, total}
+use Rattle.ls_preservation.specs.Translations.{most_silent, to_source}
 use Rattle.ls_explore_laws.specs.Bursts.{burst}
 use Rattle.ls_explore_laws.proofs.Bursting.{burst_there}
 use Rattle.ls_explore_laws.proofs.Following.{acts_there, ready_open}

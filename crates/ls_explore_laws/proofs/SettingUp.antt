@@ -17,10 +17,10 @@ use Rattle.ls_meaning.specs.Runs.{event_of, step, step_of, idle, answers_of}
 use Rattle.ls_meaning.specs.declared.step.Did.TheVariants as did
 use Rattle.ls_code.specs.Code.{Code}
 use Rattle.ls_code.specs.Machine.{Machine}
-use Rattle.ls_headline.specs.Same.{Fits, IsCells}
-use Rattle.ls_headline.specs.Translations.{most_silent, has_setup_ended}
-use Rattle.ls_headline.proofs.Shorter.{shorter}
-use Rattle.ls_headline.specs.Acting.{ActsInTime}
+use Rattle.ls_preservation.specs.Same.{Fits, IsCells}
+use Rattle.ls_preservation.specs.Translations.{most_silent, has_setup_ended}
+use Rattle.ls_preservation.proofs.Shorter.{shorter}
+use Rattle.ls_preservation.specs.Acting.{ActsInTime}
 use Rattle.ls_explore_laws.specs.Bursts.{IsClosed}
 use Rattle.ls_explore_laws.specs.Explored.{HasHistories, IsRoomy, IsSetUp, IsShown}
 use Rattle.ls_events.specs.Beginnings.{IsBeginning}

@@ -30,25 +30,25 @@ use Rattle.ls_code.specs.declared.instruction.Instruction.{Instruction}
 use Rattle.ls_code.specs.declared.step.Did.{Did}
 use Rattle.ls_code.specs.declared.step.Did.TheVariants as did
 use Rattle.ls_code.specs.declared.step.Mode.TheVariants as mode
-use Rattle.ls_headline.specs.Acting.{first_did, or_later}
-use Rattle.ls_headline.specs.Parts.{IsPlanned, one}
-use Rattle.ls_headline.specs.Same.{Fits, IsCells, total}
-use Rattle.ls_headline.specs.Sorts.{ActionHas}
-use Rattle.ls_headline.specs.Threads.{Asks}
-use Rattle.ls_headline.specs.Translations.{most_silent, to_source}
-use Rattle.ls_headline.proofs.Codes.{drop_there, take_there}
-use Rattle.ls_headline.proofs.Effects.{Agrees, renaming}
-use Rattle.ls_headline.proofs.Feeding.{asking}
-use Rattle.ls_headline.proofs.Following
-use Rattle.ls_headline.proofs.Lists.{index_there}
-use Rattle.ls_headline.proofs.Meaning.{Means}
-use Rattle.ls_headline.proofs.Middle.{Middle, Here, Saw, Lost, Told}
-use Rattle.ls_headline.proofs.PartsThere.{Beginning, and_both, parts_are_there}
-use Rattle.ls_headline.proofs.PartsThere as parts
-use Rattle.ls_headline.proofs.Reached.{follows_all}
-use Rattle.ls_headline.proofs.Runs.{stepped_so}
-use Rattle.ls_headline.proofs.Setting.{Setting}
-use Rattle.ls_headline.proofs.StepBack
+use Rattle.ls_preservation.specs.Acting.{first_did, or_later}
+use Rattle.ls_preservation.specs.Parts.{IsPlanned, one}
+use Rattle.ls_preservation.specs.Same.{Fits, IsCells, total}
+use Rattle.ls_preservation.specs.Sorts.{ActionHas}
+use Rattle.ls_preservation.specs.Threads.{Asks}
+use Rattle.ls_preservation.specs.Translations.{most_silent, to_source}
+use Rattle.ls_preservation.proofs.Codes.{drop_there, take_there}
+use Rattle.ls_preservation.proofs.Effects.{Agrees, renaming}
+use Rattle.ls_preservation.proofs.Feeding.{asking}
+use Rattle.ls_preservation.proofs.Following
+use Rattle.ls_preservation.proofs.Lists.{index_there}
+use Rattle.ls_preservation.proofs.Meaning.{Means}
+use Rattle.ls_preservation.proofs.Middle.{Middle, Here, Saw, Lost, Told}
+use Rattle.ls_preservation.proofs.PartsThere.{Beginning, and_both, parts_are_there}
+use Rattle.ls_preservation.proofs.PartsThere as parts
+use Rattle.ls_preservation.proofs.Reached.{follows_all}
+use Rattle.ls_preservation.proofs.Runs.{stepped_so}
+use Rattle.ls_preservation.proofs.Setting.{Setting}
+use Rattle.ls_preservation.proofs.StepBack
 use Rattle.ls_explore_laws.specs.Room.{LacksRoom, StaysWithin, StopsForRoom}
 
 -- ---- a thread's part of a step that stops the machine

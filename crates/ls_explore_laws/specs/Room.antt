@@ -7,9 +7,9 @@ use Rattle.ls_meaning.specs.Still.{IsActing}
 use Rattle.ls_code.specs.Code.{Code}
 use Rattle.ls_code.specs.Machine.{loaded, machine_run}
 use Rattle.ls_code.specs.declared.step.Did.TheVariants.{Stopped}
-use Rattle.ls_headline.specs.Same.{Fits, IsCells}
-use Rattle.ls_headline.specs.Translations.{to_source}
-use Rattle.ls_headline.specs.Acting.{first_did, has_room}
+use Rattle.ls_preservation.specs.Same.{Fits, IsCells}
+use Rattle.ls_preservation.specs.Translations.{to_source}
+use Rattle.ls_preservation.specs.Acting.{first_did, has_room}
 
 -- the acting steps of each schedule of instructions fit the cells
 abbrev pub StaysWithin : File → Program → Code → Type 0

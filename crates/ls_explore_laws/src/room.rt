@@ -4,7 +4,7 @@ ghost use Rattle.ls_checked.specs.CheckedTree.{File};
 ghost use Rattle.ls_checked.specs.CheckedProgram.{Program};
 ghost use Rattle.ls_meaning.specs.Constants.{FileHasConstants, ProgramHasConstants};
 ghost use Rattle.ls_code.specs.Code.{Code};
-ghost use Rattle.ls_headline.specs.Threads.{Asks, IsSound};
+ghost use Rattle.ls_preservation.specs.Threads.{Asks, IsSound};
 ghost use Rattle.ls_explore_laws.specs.Room.{StaysWithin, StopsForRoom};
 
 use ls_meaning::laws::next_renames;

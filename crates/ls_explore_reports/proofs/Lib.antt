@@ -10,3 +10,7 @@ pub mod HopelessRows
 pub mod CutTexts
 pub mod ListedBeginnings
 pub mod GoingOn
+mod OrdersOfBeginnings
+mod RowsTold
+pub mod Collecting
+mod Flags

@@ -5,12 +5,12 @@ use Rattle.ls_checked.specs.CheckedTree.{File}
 use Rattle.ls_checked.specs.CheckedProgram.{Program}
 use Rattle.ls_explore.specs.Rows.{Told}
 use Rattle.ls_explore_images.specs.Tellings.{TellTruth, TellWhole}
-use Rattle.ls_explore_linearizable.specs.Linearizable.{ExplainedIsLinearizable, LinearizableIsExplained}
+use Rattle.ls_explore_reports.specs.Linearizable.{ExplainedIsLinearizable, LinearizableIsExplained}
 use Rattle.ls_serial_search.specs.declared.judging.Linearity.{Linearity}
 use Rattle.ls_serial_search.specs.declared.judging.Linearity.TheVariants as linearities
 use Rattle.ls_serial_search.specs.Told.{IsMeant, usual}
 use Rattle.ls_linearizable.specs.Linearizable.{IsLinearizable}
-use Rattle.ls_explore_linearizable.specs.Rows.{RowsExplain}
+use Rattle.ls_explore_reports.specs.Rows.{RowsExplain}
 use Rattle.ls_explore_reports.specs.Judged.{IsLinearity, rows_of}
 use Rattle.ls_explore_reports.specs.Laws.{LinearityIsMeant}
 

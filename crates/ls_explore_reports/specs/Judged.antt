@@ -8,7 +8,7 @@ use Rattle.ls_explore.specs.Rows.{Told}
 use Rattle.ls_explore_reports.specs.Below.{IsBelow}
 use Rattle.ls_report.specs.Events.{Text}
 use Rattle.ls_linearizable.specs.Linearizable.{IsLinearizable}
-use Rattle.ls_explore_linearizable.specs.Rows.{RowsExplain}
+use Rattle.ls_explore_reports.specs.Rows.{RowsExplain}
 use Rattle.ls_serial_search.specs.Open.{HasLongCall, HasManyOrders}
 use Rattle.ls_serial_search.specs.Told.{IsMeant, usual}
 use Rattle.ls_serial_search.specs.declared.judging.Linearity.{Linearity}

@@ -7,9 +7,9 @@ use Rattle.ls_events.specs.declared.action.Action.{Action}
 use Rattle.ls_meaning.specs.Runs.{State, asked, source_history}
 use Rattle.ls_meaning.specs.declared.step.Asked.TheVariants.{Asks}
 use Rattle.ls_meaning.specs.Still.{IsOver}
-use Rattle.ls_headline.specs.Same.{Fits}
+use Rattle.ls_preservation.specs.Same.{Fits}
 use Rattle.ls_explore_images.specs.Tellings.{TellAll, TellTruth, TellWhole}
-use Rattle.ls_explore_verdicts.specs.Verdicts.{HasLegalOrder}
+use Rattle.ls_explore_reports.specs.Verdicts.{HasLegalOrder}
 use Rattle.ls_explore_reports.specs.Waiting.{WaitsFor}
 use Rattle.ls_linearizable.specs.Linearizable.{IsLinearizable}
 use Rattle.ls_explore_reports.specs.Judged.{AreMeant, IsJudged, IsToldLinear, Judged, are_decided, are_known}

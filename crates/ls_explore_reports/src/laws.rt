@@ -3,8 +3,8 @@
 ghost use Rattle.ls_explore_reports.specs.Laws.{AllWaitForOthers, LinearityIsMeant, NoneIllegal, NoneIllegalThatFits};
 ghost use Rattle.ls_explore_reports.specs.Laws.{NoneIsNotLinearizable, NoneIsNotLinearizableThatFits};
 
-use ls_explore_linearizable::laws::{every_schedule_is_linearizable, rows_decide};
-use ls_explore_verdicts::laws::every_schedule_is_legal;
+use crate::decided::{every_schedule_is_linearizable, rows_decide};
+use crate::legal::every_schedule_is_legal;
 
 /// If the last line says `illegal 0` and that the rows are complete, the history of each schedule of the program that
 /// fits the cells has a legal order. If it says `complete` alone, this is so of every schedule.

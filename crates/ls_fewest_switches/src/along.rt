@@ -6,7 +6,7 @@ ghost use Rattle.ls_fewest_switches.specs.Along.{is_whole, left_after, left_from
 
 use ls_events::event::Event;
 use ls_events::same::is_event;
-use ls_observers::hashing::mixed;
+use ls_observers::hashing::hashed;
 use ls_observers::observer::Observer;
 use ls_serial_observer::laws::events_are_tested;
 use std::alloc::{AllocError, Global};
@@ -81,7 +81,7 @@ impl<'a> Observer for Along<'a> {
     fn hash(&self, noted: &Option<usize>) -> u64 {
         match noted {
             None => 0,
-            Some(done) => mixed(1, *done as u64),
+            Some(done) => hashed(1, *done as u64),
         }
     }
 

@@ -6,7 +6,7 @@ ghost use Rattle.ls_fewest_switches.specs.Among.{history_at, is_one_whole, lefts
 
 use crate::along::{come_after, is_over};
 use ls_events::event::Event;
-use ls_observers::hashing::mixed;
+use ls_observers::hashing::hashed;
 use ls_observers::observer::Observer;
 use std::alloc::{AllocError, Global};
 
@@ -122,11 +122,11 @@ impl<'a> Observer for Among<'a> {
     }
 
     fn hash(&self, noted: &Beginning) -> u64 {
-        let mut sum = mixed(START, noted.done as u64);
+        let mut hash = hashed(START, noted.done as u64);
         for at in &noted.which {
-            sum = mixed(sum, *at as u64);
+            hash = hashed(hash, *at as u64);
         }
-        sum
+        hash
     }
 
     fn is_bad(&self, noted: &Beginning) -> bool {

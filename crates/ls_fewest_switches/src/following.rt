@@ -16,7 +16,7 @@ use crate::spots::{Found, Spot};
 use ls_observers::observer::Observer;
 use ls_search::advancing::take;
 use ls_search::noting::{Pool, note};
-use ls_search::places::{Looked, Place};
+use ls_search::places::{Looked, NumberedState};
 use ls_search::searching::{copy_place, step_from};
 use ls_transitions::moves::{Move, Step};
 use ls_transitions::transitions::Transitions;
@@ -65,11 +65,11 @@ fn is_lost<O: Observer>(
 /// The numbers of the state after a step of a thread, where this is noted then.
 fn place_after(
     alloc: Global,
-    place: &Place,
+    place: &NumberedState,
     thread: u8,
     step: &Step,
     noted: usize,
-) -> Result<Place, AllocError>
+) -> Result<NumberedState, AllocError>
     requires { thread < length place.now.works.items }
     ensures store { IfOk result (λ p. p.store ≡ step.now.store) }
     ensures works { IfOk result (λ p. p.works.items ≡ slice_set place.now.works.items thread step.now.work) }

@@ -24,7 +24,7 @@ use ls_events::schedule::MOST_STEPS;
 use ls_observers::observer::Observer;
 use ls_run_search::numbering::Numbered;
 use ls_search::noting::{Pool, keep_noted};
-use ls_search::places::Place;
+use ls_search::places::NumberedState;
 use std::alloc::{AllocError, Global};
 
 /// The same works.
@@ -89,7 +89,7 @@ fn reached_by<'a, O: Observer>(
     let mut pool = Pool::new(ground.alloc);
     let noted = ground.observer.start(ground.alloc)?;
     let noted = keep_noted(ground.alloc, ground.observer, &mut pool, noted)?;
-    let place = Place {
+    let place = NumberedState {
         store: numbered.store,
         works: copy_works(ground.alloc, &numbered.works)?,
         noted,

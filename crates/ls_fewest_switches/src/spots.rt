@@ -3,17 +3,17 @@
 ghost use Rattle.std.specs.Prelude.{◌≡◌, ◌≤◌, ◌∷◌, [], IfOk, IsTrue, OnOk, false, length};
 ghost use Rattle.ls_fewest_switches.specs.Spots.{HasSpot, Pushed};
 
-use ls_observers::hashing::mixed;
+use ls_observers::hashing::hashed;
 use ls_search::noting::Pool;
-use ls_search::places::Place;
-use ls_transitions::hints::Hints;
+use ls_search::places::NumberedState;
+use ls_transitions::hash_index::HashIndex;
 use std::alloc::{AllocError, Global};
 
 /// A state that was reached, with the number of what is noted of its history. It comes after the one at an earlier place,
 /// by a step of the thread. The first state comes after none.
 #[derive(Drop)]
 pub struct Spot {
-    pub place: Place,
+    pub place: NumberedState,
     /// What is kept of the thread of the step before. It is 0 where there was none.
     pub last: u8,
     /// The thread of the step before. It is the setup where there was none.
@@ -27,7 +27,7 @@ pub struct Spot {
 #[derive(Drop)]
 pub struct Spots {
     pub spots: Vec<Spot>,
-    hints: Hints,
+    hints: HashIndex,
 }
 
 /// The states that were reached, and what is noted of their histories.
@@ -40,13 +40,13 @@ pub struct Found<N> {
 const START: u64 = 0xcbf2_9ce4_8422_2325;
 
 /// A number made of a state, by which it is found. Nothing depends on it.
-fn sum_of(spot: &Spot) -> u64 {
+fn hash_of(spot: &Spot) -> u64 {
     let place = &spot.place;
-    let mut sum = mixed(mixed(START, place.store as u64), place.noted as u64);
+    let mut hash = hashed(hashed(START, place.store as u64), place.noted as u64);
     for work in &place.works {
-        sum = mixed(sum, *work as u64);
+        hash = hashed(hash, *work as u64);
     }
-    mixed(sum, spot.last as u64)
+    hashed(hash, spot.last as u64)
 }
 
 /// Whether works are the same, one by one.
@@ -86,19 +86,19 @@ impl Spots {
     pub(crate) fn first(alloc: Global, spot: Spot) -> Result<Spots, AllocError>
         ensures { IfOk result (λ n. n.spots.items ≡ spot ∷ []) }
     {
-        let sum = sum_of(&spot);
+        let hash = hash_of(&spot);
         let mut spots = Vec::new(alloc);
         spots.push(spot)?;
-        let mut hints = Hints::new(alloc);
-        hints.add(alloc, sum)?;
+        let mut hints = HashIndex::new(alloc);
+        hints.add(alloc, hash)?;
         Ok(Spots { spots, hints })
     }
 
     /// Whether a state is there that was reached at no higher cost. True only where it is.
-    fn has(&self, sum: u64, spot: &Spot) -> bool
+    fn has(&self, hash: u64, spot: &Spot) -> bool
         ensures { IsTrue result → HasSpot self.now.spots.items spot.now }
     {
-        let mut hint = self.hints.last(sum);
+        let mut hint = self.hints.last(hash);
         for _ in 0..self.spots.len() {
             let Some(at) = hint else {
                 return false;
@@ -122,14 +122,14 @@ impl Spots {
         ensures there { IfOk result (λ kept. IsTrue kept → HasSpot self.new.spots.items spot) }
         ensures pushed { OnOk result (Pushed self.old.spots.items self.new.spots.items spot) }
     {
-        let sum = sum_of(&spot);
-        if self.has(sum, &spot) {
+        let hash = hash_of(&spot);
+        if self.has(hash, &spot) {
             return Ok(true);
         }
         if self.spots.len() >= limit {
             return Ok(false);
         }
-        self.hints.add(alloc, sum)?;
+        self.hints.add(alloc, hash)?;
         self.spots.push(spot)?;
         Ok(true)
     }

@@ -7,7 +7,7 @@ use Rattle.std.specs.List.{position_or_len}
 use Rattle.std.proofs.lemmas.Bool.{ltb-false}
 use Rattle.std.proofs.lemmas.List.Quantifiers.{position-Some}
 use Rattle.std.proofs.lemmas.Option.{slice_get-get_or}
-use Rattle.ls_explore_linearizable.specs.Linearizable.{count_unexplained}
+use Rattle.ls_explore_reports.specs.Linearizable.{count_unexplained}
 
 past : (flags : List Bool) → length flags ≤ position_or_len not flags → count_unexplained flags ≡ 0
 past [] over = refl

@@ -6,15 +6,15 @@ use Rattle.ls_checked.specs.CheckedProgram.{Program}
 use Rattle.ls_events.specs.declared.event.Event.{Event}
 use Rattle.ls_explore.specs.Rows.{Told}
 use Rattle.ls_explore_images.specs.Tellings.{TellTruth, TellWhole, schedule_of}
-use Rattle.ls_explore_verdicts.specs.Verdicts.{EachIsLegal, HasLegalOrder}
+use Rattle.ls_explore_reports.specs.Verdicts.{EachIsLegal, HasLegalOrder}
 use Rattle.ls_find.specs.Sought.{AllLegal, AllNamed, AreNamed, EndsWell, IsEndVerdict, IsSetVerdict}
 use Rattle.ls_find.specs.Sought.{IsTurningVerdict, IsVerdictFor}
 use Rattle.ls_find.specs.Verdicts.{IsBad, IsGood, ShowsRow}
 use Rattle.ls_find.specs.declared.sought.Sought.{Sought}
 use Rattle.ls_find.specs.declared.verdict.Reason.{Reason}
 use Rattle.ls_find.specs.declared.verdict.Reason.TheVariants as reasons
-use Rattle.ls_find.specs.declared.verdict.Verdict.{Verdict}
-use Rattle.ls_find.specs.declared.verdict.Verdict.TheVariants as verdicts
+use Rattle.ls_find.specs.declared.verdict.ProgramVerdict.{ProgramVerdict}
+use Rattle.ls_find.specs.declared.verdict.ProgramVerdict.TheVariants as verdicts
 use Rattle.ls_find.proofs.Shown.{got_there}
 use Rattle.ls_meaning.specs.Runs.{source_history}
 use Rattle.ls_verdicts.specs.Verdicts as sets
@@ -47,7 +47,7 @@ some_is e = cc
 -- the row that is shown isn't legal, so neither is the history of its schedule
 pub shown_illegal : (file : File) (program : Program) (k : ℕ) (rows : List Told) (at : ℕ) → TellTruth file program k rows →
     (r : Told) × (slice_get rows at ≡ Some r) × sets.IsVerdict program r.history Illegal →
-    (v : Verdict) → ShowsRow reasons.Illegal k rows at v → IsSetVerdict file program v
+    (v : ProgramVerdict) → ShowsRow reasons.Illegal k rows at v → IsSetVerdict file program v
 shown_illegal file program k rows at truth is verdicts.Good shows = absurd shows
 shown_illegal file program k rows at truth is verdicts.Unknown shows = tt
 shown_illegal file program k rows at truth is (verdicts.Bad reason schedule) shows =
@@ -60,13 +60,13 @@ shown_illegal file program k rows at truth is (verdicts.Bad reason schedule) sho
     (subst (λ (h : List Event). sets.IsVerdict program h Illegal) history is.2)
 
 -- both verdicts together
-pub with_set : (sought : Sought) (file : File) (program : Program) (v : Verdict) → IsGood sought.waiting file program →
+pub with_set : (sought : Sought) (file : File) (program : Program) (v : ProgramVerdict) → IsGood sought.waiting file program →
     IsSetVerdict file program v → IsEndVerdict sought file program v
 with_set sought file program verdicts.Good good legal = record { good = good; legal = λ e. legal }
 with_set sought file program verdicts.Unknown good legal = tt
 with_set sought file program (verdicts.Bad reason schedule) good bad = bad
 
-pub with_turning : (sought : Sought) (file : File) (program : Program) (v : Verdict) → EndsWell sought file program →
+pub with_turning : (sought : Sought) (file : File) (program : Program) (v : ProgramVerdict) → EndsWell sought file program →
     IsTurningVerdict file program v → IsVerdictFor sought file program v
 with_turning sought file program verdicts.Good ends never = record { ends = ends; turns = λ e. never }
 with_turning sought file program verdicts.Unknown ends never = tt

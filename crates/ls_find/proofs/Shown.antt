@@ -7,12 +7,12 @@ use Rattle.ls_meaning.specs.Runs.{source_history}
 use Rattle.ls_events.specs.declared.event.Event.{Event}
 use Rattle.ls_explore.specs.Rows.{Told}
 use Rattle.ls_explore_images.specs.Tellings.{TellTruth, TellWhole}
-use Rattle.ls_explore_linearizable.specs.Linearizable.{UnexplainedIsNot}
-use Rattle.ls_explore_linearizable.specs.Rows.{TellExplained}
+use Rattle.ls_explore_reports.specs.Linearizable.{UnexplainedIsNot}
+use Rattle.ls_explore_reports.specs.Rows.{TellExplained}
 use Rattle.ls_linearizable.specs.Linearizable.{IsLinearizable}
 use Rattle.ls_find.specs.Verdicts.{IsBad, IsVerdict, ShowsRow}
-use Rattle.ls_find.specs.declared.verdict.Verdict.{Verdict}
-use Rattle.ls_find.specs.declared.verdict.Verdict.TheVariants.{Bad, Good, Unknown}
+use Rattle.ls_find.specs.declared.verdict.ProgramVerdict.{ProgramVerdict}
+use Rattle.ls_find.specs.declared.verdict.ProgramVerdict.TheVariants.{Bad, Good, Unknown}
 use Rattle.ls_find.specs.declared.verdict.Reason.{Reason}
 use Rattle.ls_find.specs.declared.verdict.Reason.TheVariants.{NotLinearizable}
 use Rattle.ls_find.proofs.Flags.{one_down}
@@ -38,7 +38,7 @@ got_there (q ∷ rows) (suc i) r at =
 -- the row that is shown isn't explained, so the history of its schedule isn't linearizable
 pub shown_verdict : (file : File) (program : Program) (k : ℕ) (rows : List Told) (flags : List Bool) (at : ℕ) →
     UnexplainedIsNot → TellTruth file program k rows → TellWhole file program rows → TellExplained rows flags →
-    position not flags ≡ Some at → (waiting : Bool) (v : Verdict) → ShowsRow NotLinearizable k rows at v →
+    position not flags ≡ Some at → (waiting : Bool) (v : ProgramVerdict) → ShowsRow NotLinearizable k rows at v →
     IsVerdict waiting file program v
 shown_verdict file program k rows flags at never truth whole explained is waiting Good shows = absurd shows
 shown_verdict file program k rows flags at never truth whole explained is waiting Unknown shows = tt

@@ -15,8 +15,8 @@ use Rattle.ls_find.specs.Verdicts.{AllExcused, AllLinearizable, HasWaiting, IsBa
 use Rattle.ls_find.specs.Verdicts.{ShowsRow, WaitsAt}
 use Rattle.ls_find.specs.declared.verdict.Reason.{Reason}
 use Rattle.ls_find.specs.declared.verdict.Reason.TheVariants.{Waits}
-use Rattle.ls_find.specs.declared.verdict.Verdict.{Verdict}
-use Rattle.ls_find.specs.declared.verdict.Verdict.TheVariants.{Bad, Good, Unknown}
+use Rattle.ls_find.specs.declared.verdict.ProgramVerdict.{ProgramVerdict}
+use Rattle.ls_find.specs.declared.verdict.ProgramVerdict.TheVariants.{Bad, Good, Unknown}
 use Rattle.ls_find.proofs.Shown.{got_there}
 
 some_is : {X : Type 0} {x y : X} → Some x ≡ Some y → x ≡ y
@@ -38,7 +38,7 @@ none_waits file program rows runs among whole are excused schedule c over pendin
 -- if the runs are all, and a call that is pending where a row is over is the last of none, it waits for ever
 pub one_waits : (file : File) (program : Program) (k : ℕ) (rows : List Told) (runs : List (List Event)) (at : ℕ) →
     NeverEndsIsAmong → TellTruth file program k rows → TellEndlessRuns file program runs → WaitsAt runs rows at →
-    (r : Told) × (slice_get rows at ≡ Some r) × (r.ending ≡ Over) → (v : Verdict) → ShowsRow Waits k rows at v →
+    (r : Told) × (slice_get rows at ≡ Some r) × (r.ending ≡ Over) → (v : ProgramVerdict) → ShowsRow Waits k rows at v →
     IsWaitingVerdict file program v
 one_waits file program k rows runs at all truth tell w over Good shows = absurd shows
 one_waits file program k rows runs at all truth tell w over Unknown shows = tt
@@ -62,7 +62,7 @@ one_waits file program k rows runs at all truth tell w over (Bad reason schedule
     ))
 
 -- both verdicts together
-pub both_verdicts : (file : File) (program : Program) (v : Verdict) → AllLinearizable file program →
+pub both_verdicts : (file : File) (program : Program) (v : ProgramVerdict) → AllLinearizable file program →
     IsWaitingVerdict file program v → IsVerdict true file program v
 both_verdicts file program Good linear none = record { linearizable = linear; waits = λ e. none }
 both_verdicts file program Unknown linear none = tt

@@ -4,13 +4,13 @@ use Rattle.ls_checked.specs.CheckedTree.{File}
 use Rattle.ls_checked.specs.CheckedProgram.{Program}
 use Rattle.ls_endless_calls.specs.Turning.{NoneTurnsUnexcused}
 use Rattle.ls_explore.specs.Rows.{Told}
-use Rattle.ls_explore_verdicts.specs.Verdicts.{HasLegalOrder}
+use Rattle.ls_explore_reports.specs.Verdicts.{HasLegalOrder}
 use Rattle.ls_find.specs.Verdicts.{IsBad, IsGood}
 use Rattle.ls_find.specs.declared.legal.Legality.{Legality}
 use Rattle.ls_find.specs.declared.legal.Legality.TheVariants as legality
 use Rattle.ls_find.specs.declared.sought.Sought.{Sought}
-use Rattle.ls_find.specs.declared.verdict.Verdict.{Verdict}
-use Rattle.ls_find.specs.declared.verdict.Verdict.TheVariants as verdicts
+use Rattle.ls_find.specs.declared.verdict.ProgramVerdict.{ProgramVerdict}
+use Rattle.ls_find.specs.declared.verdict.ProgramVerdict.TheVariants as verdicts
 use Rattle.ls_meaning.specs.Runs.{source_history}
 use Rattle.ls_text_laws.specs.Histories.{IsReadable}
 use Rattle.ls_verdicts.specs.Verdicts.{IsHistoryOf, IsVerdict}
@@ -26,7 +26,7 @@ pub record EndsWell (sought : Sought) (file : File) (program : Program) : Type 0
   pub good : IsGood sought.waiting file program
   pub legal : sought.set ≡ true → AllLegal file program
 
-abbrev pub IsEndVerdict : Sought → File → Program → Verdict → Type 0
+abbrev pub IsEndVerdict : Sought → File → Program → ProgramVerdict → Type 0
 IsEndVerdict sought file program verdicts.Good = EndsWell sought file program
 IsEndVerdict sought file program verdicts.Unknown = Unit {0}
 IsEndVerdict sought file program (verdicts.Bad reason schedule) = IsBad reason file program schedule
@@ -37,18 +37,18 @@ pub record IsGoodFor (sought : Sought) (file : File) (program : Program) : Type 
   pub turns : sought.turning ≡ true → NoneTurnsUnexcused file program
 
 -- no threads do, or they do after the schedule that is shown
-abbrev pub IsTurningVerdict : File → Program → Verdict → Type 0
+abbrev pub IsTurningVerdict : File → Program → ProgramVerdict → Type 0
 IsTurningVerdict file program verdicts.Good = NoneTurnsUnexcused file program
 IsTurningVerdict file program verdicts.Unknown = Unit {0}
 IsTurningVerdict file program (verdicts.Bad reason schedule) = IsBad reason file program schedule
 
-abbrev pub IsVerdictFor : Sought → File → Program → Verdict → Type 0
+abbrev pub IsVerdictFor : Sought → File → Program → ProgramVerdict → Type 0
 IsVerdictFor sought file program verdicts.Good = IsGoodFor sought file program
 IsVerdictFor sought file program verdicts.Unknown = Unit {0}
 IsVerdictFor sought file program (verdicts.Bad reason schedule) = IsBad reason file program schedule
 
 -- each history is legal, or that of the schedule that is shown isn't
-abbrev pub IsSetVerdict : File → Program → Verdict → Type 0
+abbrev pub IsSetVerdict : File → Program → ProgramVerdict → Type 0
 IsSetVerdict file program verdicts.Good = AllLegal file program
 IsSetVerdict file program verdicts.Unknown = Unit {0}
 IsSetVerdict file program (verdicts.Bad reason schedule) = IsBad reason file program schedule

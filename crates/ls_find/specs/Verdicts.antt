@@ -9,8 +9,8 @@ use Rattle.ls_explore.specs.Rows.{IsEnd, Told}
 use Rattle.ls_explore_images.specs.Tellings.{schedule_of}
 use Rattle.ls_find.specs.declared.verdict.Reason.{Reason}
 use Rattle.ls_find.specs.declared.verdict.Reason.TheVariants as reasons
-use Rattle.ls_find.specs.declared.verdict.Verdict.{Verdict}
-use Rattle.ls_find.specs.declared.verdict.Verdict.TheVariants as verdicts
+use Rattle.ls_find.specs.declared.verdict.ProgramVerdict.{ProgramVerdict}
+use Rattle.ls_find.specs.declared.verdict.ProgramVerdict.TheVariants as verdicts
 pub use Rattle.ls_source_judge.specs.Judged.{AllLinearizable, IsNotLinearizable}
 use Rattle.ls_waiting.specs.Laws.{NoneWaitsForEver, WaitsForEver}
 use Rattle.ls_waiting.specs.Waits.{AreExcused, IsUnexcused}
@@ -37,13 +37,13 @@ IsBad reasons.Waits file program schedule = HasWaiting file program schedule
 IsBad reasons.Illegal file program schedule = IsIllegal file program schedule
 IsBad reasons.Turns file program schedule = HasTurning file program schedule
 
-abbrev pub IsVerdict : Bool → File → Program → Verdict → Type 0
+abbrev pub IsVerdict : Bool → File → Program → ProgramVerdict → Type 0
 IsVerdict waiting file program verdicts.Good = IsGood waiting file program
 IsVerdict waiting file program verdicts.Unknown = Unit {0}
 IsVerdict waiting file program (verdicts.Bad reason schedule) = IsBad reason file program schedule
 
 -- For a reason it shows the schedule of the row at a place, after so many steps of the setup, or nothing.
-abbrev pub ShowsRow : Reason → ℕ → List Told → ℕ → Verdict → Type 0
+abbrev pub ShowsRow : Reason → ℕ → List Told → ℕ → ProgramVerdict → Type 0
 ShowsRow reason setup rows at verdicts.Good = ⊥
 ShowsRow reason setup rows at verdicts.Unknown = Unit {0}
 ShowsRow reason setup rows at (verdicts.Bad said schedule) =
@@ -68,7 +68,7 @@ pub record WaitsAt (runs : List (List Event)) (rows : List Told) (at : ℕ) : Ty
   pub waits : HasUnexcused runs row
 
 -- no call waits for ever, or one does after the schedule that is shown
-abbrev pub IsWaitingVerdict : File → Program → Verdict → Type 0
+abbrev pub IsWaitingVerdict : File → Program → ProgramVerdict → Type 0
 IsWaitingVerdict file program verdicts.Good = NoneWaitsForEver file program
 IsWaitingVerdict file program verdicts.Unknown = Unit {0}
 IsWaitingVerdict file program (verdicts.Bad reason schedule) = IsBad reason file program schedule

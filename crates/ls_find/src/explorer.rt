@@ -11,7 +11,7 @@ use crate::laws::sound_follows;
 use crate::reasons::{names_in, why_text};
 use crate::simplifying::simplified;
 use crate::sought::{Sought, sought_verdict};
-use crate::verdict::Verdict;
+use crate::verdict::ProgramVerdict;
 use ls_compiler::compile::compile;
 use ls_compiler::fault::CompileFault;
 use ls_exchanged::are_doubles;
@@ -52,9 +52,9 @@ fn judged(
         IfOk result (IsJudgement (IsSound sought classes program) (IsCut classes program) (IsWhy classes program)) }
 {
     match sought_verdict(alloc, image, states, sought)? {
-        Verdict::Good => Ok(Judgement::Good),
-        Verdict::Unknown => Ok(Judgement::Cut),
-        Verdict::Bad(reason, steps) => {
+        ProgramVerdict::Good => Ok(Judgement::Good),
+        ProgramVerdict::Unknown => Ok(Judgement::Cut),
+        ProgramVerdict::Bad(reason, steps) => {
             let run = simplified(alloc, image, reason, &steps)?;
             let why = why_text(alloc, reason, names_in(image), &run)?;
             let schedule = print_schedule(alloc, &run.schedule, image.program())?;

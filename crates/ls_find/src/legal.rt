@@ -6,11 +6,11 @@ ghost use Rattle.ls_explore_images.specs.Tellings.{TellTruth, TellWhole};
 ghost use Rattle.ls_find.specs.Sought.{AllNamed, AreNamed, IsLegality, IsSetVerdict};
 ghost use Rattle.ls_translation.specs.Texts.{file_of, program_of};
 
-use crate::verdict::{Reason, Verdict, bad_row};
+use crate::verdict::{ProgramVerdict, Reason, bad_row};
 use ls_checked::program::Program;
 use ls_explore::{Nobody, Row};
 use ls_explore_images::{ExploreFault, explore_source};
-use ls_explore_verdicts::laws::every_schedule_is_legal;
+use ls_explore_reports::legal::every_schedule_is_legal;
 use ls_image::image::Image;
 use ls_verdicts::{Verdict as SetVerdict, verdict_on};
 use std::alloc::{AllocError, Global};
@@ -52,7 +52,7 @@ fn whole_legality(
     image: &Image,
     setup: usize,
     rows: &[Row],
-) -> Result<Verdict, AllocError>
+) -> Result<ProgramVerdict, AllocError>
     requires named { AllNamed (file_of image.now) (program_of image.now) }
     requires truth { TellTruth (file_of image.now) (program_of image.now) setup rows.now }
     requires whole { TellWhole (file_of image.now) (program_of image.now) rows.now }
@@ -60,9 +60,9 @@ fn whole_legality(
 {
     every_schedule_is_legal();
     match rows_legality(alloc, rows, image.program())? {
-        Legality::AllLegal => Ok(Verdict::Good),
+        Legality::AllLegal => Ok(ProgramVerdict::Good),
         Legality::IllegalAt(at) => bad_row(alloc, Reason::Illegal, setup, rows, at),
-        Legality::NotJudged => Ok(Verdict::Unknown),
+        Legality::NotJudged => Ok(ProgramVerdict::Unknown),
     }
 }
 
@@ -72,18 +72,18 @@ pub(crate) fn set_verdict(
     alloc: Global,
     image: &Image,
     states: usize,
-) -> Result<Verdict, AllocError>
+) -> Result<ProgramVerdict, AllocError>
     requires { AllNamed (file_of image.now) (program_of image.now) }
     ensures { IfOk result (IsSetVerdict (file_of image.now) (program_of image.now)) }
 {
     match explore_source(alloc, image, states, &mut Nobody) {
         Ok(found) => {
             if !found.complete {
-                return Ok(Verdict::Unknown);
+                return Ok(ProgramVerdict::Unknown);
             }
             whole_legality(alloc, image, found.setup, found.rows.as_slice())
         }
         Err(ExploreFault::Memory) => Err(AllocError),
-        Err(_) => Ok(Verdict::Unknown),
+        Err(_) => Ok(ProgramVerdict::Unknown),
     }
 }

@@ -14,4 +14,4 @@ mod waiting;
 
 pub use explorer::{Explorer, Why};
 pub use sought::{Sought, sought_verdict};
-pub use verdict::{Reason, Verdict, verdict_on};
+pub use verdict::{ProgramVerdict, Reason, verdict_on};

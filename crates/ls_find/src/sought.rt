@@ -5,7 +5,7 @@ ghost use Rattle.ls_find.specs.Sought.{AllNamed, IsEndVerdict, IsTurningVerdict,
 ghost use Rattle.ls_translation.specs.Texts.{file_of, program_of};
 
 use crate::legal::set_verdict;
-use crate::verdict::{Reason, Verdict, verdict_on};
+use crate::verdict::{ProgramVerdict, Reason, verdict_on};
 use ls_endless_calls::{Endless, find_endless};
 use ls_image::image::Image;
 use std::alloc::{AllocError, Global};
@@ -34,33 +34,37 @@ fn end_verdict(
     image: &Image,
     states: usize,
     sought: Sought,
-) -> Result<Verdict, AllocError>
+) -> Result<ProgramVerdict, AllocError>
     requires { AllNamed (file_of image.now) (program_of image.now) }
     ensures { IfOk result (IsEndVerdict sought (file_of image.now) (program_of image.now)) }
 {
     match verdict_on(alloc, image, states, sought.waiting)? {
-        Verdict::Good => {
+        ProgramVerdict::Good => {
             if sought.set {
                 return set_verdict(alloc, image, states);
             }
-            Ok(Verdict::Good)
+            Ok(ProgramVerdict::Good)
         }
-        Verdict::Unknown => Ok(Verdict::Unknown),
-        Verdict::Bad(reason, schedule) => Ok(Verdict::Bad(reason, schedule)),
+        ProgramVerdict::Unknown => Ok(ProgramVerdict::Unknown),
+        ProgramVerdict::Bad(reason, schedule) => Ok(ProgramVerdict::Bad(reason, schedule)),
     }
 }
 
 /// Whether threads of the program of an image can turn for ever in calls that end where calls run one at a time.
-fn turning_verdict(alloc: Global, image: &Image, states: usize) -> Result<Verdict, AllocError>
+fn turning_verdict(
+    alloc: Global,
+    image: &Image,
+    states: usize,
+) -> Result<ProgramVerdict, AllocError>
     ensures { IfOk result (IsTurningVerdict (file_of image.now) (program_of image.now)) }
 {
     if states == 0 {
-        return Ok(Verdict::Unknown);
+        return Ok(ProgramVerdict::Unknown);
     }
     match find_endless(alloc, image.checked().file(), image.program(), states)? {
-        Endless::Never => Ok(Verdict::Good),
-        Endless::Unknown => Ok(Verdict::Unknown),
-        Endless::After(schedule) => Ok(Verdict::Bad(Reason::Turns, schedule)),
+        Endless::Never => Ok(ProgramVerdict::Good),
+        Endless::Unknown => Ok(ProgramVerdict::Unknown),
+        Endless::After(schedule) => Ok(ProgramVerdict::Bad(Reason::Turns, schedule)),
     }
 }
 
@@ -73,18 +77,18 @@ pub fn sought_verdict(
     image: &Image,
     states: usize,
     sought: Sought,
-) -> Result<Verdict, AllocError>
+) -> Result<ProgramVerdict, AllocError>
     requires { AllNamed (file_of image.now) (program_of image.now) }
     ensures { IfOk result (IsVerdictFor sought (file_of image.now) (program_of image.now)) }
 {
     match end_verdict(alloc, image, states, sought)? {
-        Verdict::Good => {
+        ProgramVerdict::Good => {
             if sought.turning {
                 return turning_verdict(alloc, image, states);
             }
-            Ok(Verdict::Good)
+            Ok(ProgramVerdict::Good)
         }
-        Verdict::Unknown => Ok(Verdict::Unknown),
-        Verdict::Bad(reason, schedule) => Ok(Verdict::Bad(reason, schedule)),
+        ProgramVerdict::Unknown => Ok(ProgramVerdict::Unknown),
+        ProgramVerdict::Bad(reason, schedule) => Ok(ProgramVerdict::Bad(reason, schedule)),
     }
 }

@@ -5,7 +5,7 @@ ghost use Rattle.ls_find.specs.Verdicts.{IsVerdict};
 ghost use Rattle.ls_source_judge.specs.Judged.{IsNotLinearizable};
 ghost use Rattle.ls_translation.specs.Texts.{file_of, program_of};
 
-use crate::verdict::{Reason, Verdict};
+use crate::verdict::{ProgramVerdict, Reason};
 use ls_events::schedule::{MOST_STEPS, Schedule};
 use ls_image::image::Image;
 use ls_source_judge::{Judged, judge_schedules};
@@ -39,20 +39,20 @@ fn bad_path(
     image: &Image,
     judged: &Judged,
     waiting: bool,
-) -> Result<Verdict, AllocError>
+) -> Result<ProgramVerdict, AllocError>
     requires { IfNone judged.now.doubt (IfSome judged.now.bad (λ path.
         IsNotLinearizable (file_of image.now) (program_of image.now) (replicate judged.now.setup 0 ++ path.items))) }
     ensures { IfOk result (IsVerdict waiting (file_of image.now) (program_of image.now)) }
 {
     if judged.doubt.is_some() {
-        return Ok(Verdict::Unknown);
+        return Ok(ProgramVerdict::Unknown);
     }
     let Some(path) = &judged.bad else {
-        return Ok(Verdict::Unknown);
+        return Ok(ProgramVerdict::Unknown);
     };
     match schedule_of(alloc, judged.setup, path.as_slice())? {
-        Some(schedule) => Ok(Verdict::Bad(Reason::NotLinearizable, schedule)),
-        None => Ok(Verdict::Unknown),
+        Some(schedule) => Ok(ProgramVerdict::Bad(Reason::NotLinearizable, schedule)),
+        None => Ok(ProgramVerdict::Unknown),
     }
 }
 
@@ -63,13 +63,13 @@ pub(crate) fn verdict_by_states(
     image: &Image,
     states: usize,
     waiting: bool,
-) -> Result<Verdict, AllocError>
+) -> Result<ProgramVerdict, AllocError>
     ensures { IfOk result (IsVerdict waiting (file_of image.now) (program_of image.now)) }
 {
     pending_calls_wait();
     let judged = judge_schedules(alloc, image.checked().file(), image.program(), states)?;
     if is_good(&judged, waiting) {
-        return Ok(Verdict::Good);
+        return Ok(ProgramVerdict::Good);
     }
     bad_path(alloc, image, &judged, waiting)
 }

@@ -10,8 +10,8 @@ use crate::waiting::waiting_verdict;
 use ls_events::schedule::{MOST_STEPS, Schedule};
 use ls_explore::{Nobody, Row};
 use ls_explore_images::{ExploreFault, explore_source};
-use ls_explore_linearizable::explained_rows;
-use ls_explore_linearizable::laws::none_is_unexplained;
+use ls_explore_reports::decided::none_is_unexplained;
+use ls_explore_reports::explained_rows;
 use ls_image::image::Image;
 use std::alloc::{AllocError, Global};
 
@@ -36,7 +36,7 @@ impl Clone for Reason {
 
 /// What an exploration says of a program.
 #[derive(Drop)]
-pub enum Verdict {
+pub enum ProgramVerdict {
     /// The history of each schedule is linearizable; no thread waits or turns for ever, and each history is legal, if
     /// that was looked for.
     Good,
@@ -73,15 +73,15 @@ pub(crate) fn bad_row(
     setup: usize,
     rows: &[Row],
     at: usize,
-) -> Result<Verdict, AllocError>
+) -> Result<ProgramVerdict, AllocError>
     ensures { IfOk result (ShowsRow reason setup rows.now at) }
 {
     let Some(row) = rows.get(at) else {
-        return Ok(Verdict::Unknown);
+        return Ok(ProgramVerdict::Unknown);
     };
     match schedule_of(alloc, setup, row)? {
-        Some(schedule) => Ok(Verdict::Bad(reason, schedule)),
-        None => Ok(Verdict::Unknown),
+        Some(schedule) => Ok(ProgramVerdict::Bad(reason, schedule)),
+        None => Ok(ProgramVerdict::Unknown),
     }
 }
 
@@ -92,7 +92,7 @@ fn whole_verdict(
     setup: usize,
     rows: &[Row],
     waiting: bool,
-) -> Result<Verdict, AllocError>
+) -> Result<ProgramVerdict, AllocError>
     requires truth { TellTruth (file_of image.now) (program_of image.now) setup rows.now }
     requires whole { TellWhole (file_of image.now) (program_of image.now) rows.now }
     ensures { IfOk result (IsVerdict waiting (file_of image.now) (program_of image.now)) }
@@ -104,7 +104,7 @@ fn whole_verdict(
             if waiting {
                 return waiting_verdict(alloc, image, setup, rows);
             }
-            Ok(Verdict::Good)
+            Ok(ProgramVerdict::Good)
         }
         Some(at) => bad_row(alloc, Reason::NotLinearizable, setup, rows, at),
     }
@@ -116,18 +116,18 @@ fn explored_verdict(
     image: &Image,
     states: usize,
     waiting: bool,
-) -> Result<Verdict, AllocError>
+) -> Result<ProgramVerdict, AllocError>
     ensures { IfOk result (IsVerdict waiting (file_of image.now) (program_of image.now)) }
 {
     match explore_source(alloc, image, states, &mut Nobody) {
         Ok(found) => {
             if !found.complete {
-                return Ok(Verdict::Unknown);
+                return Ok(ProgramVerdict::Unknown);
             }
             whole_verdict(alloc, image, found.setup, found.rows.as_slice(), waiting)
         }
         Err(ExploreFault::Memory) => Err(AllocError),
-        Err(_) => Ok(Verdict::Unknown),
+        Err(_) => Ok(ProgramVerdict::Unknown),
     }
 }
 
@@ -143,16 +143,16 @@ pub fn verdict_on(
     image: &Image,
     states: usize,
     waiting: bool,
-) -> Result<Verdict, AllocError>
+) -> Result<ProgramVerdict, AllocError>
     ensures { IfOk result (IsVerdict waiting (file_of image.now) (program_of image.now)) }
 {
     let searched = verdict_by_states(alloc, image, states, waiting)?;
-    if let Verdict::Good = searched {
+    if let ProgramVerdict::Good = searched {
         return Ok(searched);
     }
     match explored_verdict(alloc, image, states, waiting)? {
-        Verdict::Unknown => Ok(searched),
-        Verdict::Good => Ok(Verdict::Good),
-        Verdict::Bad(reason, schedule) => Ok(Verdict::Bad(reason, schedule)),
+        ProgramVerdict::Unknown => Ok(searched),
+        ProgramVerdict::Good => Ok(ProgramVerdict::Good),
+        ProgramVerdict::Bad(reason, schedule) => Ok(ProgramVerdict::Bad(reason, schedule)),
     }
 }

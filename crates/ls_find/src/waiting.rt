@@ -9,7 +9,7 @@ ghost use Rattle.ls_serial_search.specs.Histories.{lists_of};
 ghost use Rattle.ls_translation.specs.Texts.{file_of, program_of};
 ghost use Rattle.ls_waiting.specs.Waits.{AreExcused};
 
-use crate::verdict::{Reason, Verdict, bad_row};
+use crate::verdict::{ProgramVerdict, Reason, bad_row};
 use ls_events::event::Event;
 use ls_explore::{Ending, Row};
 use ls_image::image::Image;
@@ -86,14 +86,14 @@ pub(crate) fn waiting_verdict(
     image: &Image,
     setup: usize,
     rows: &[Row],
-) -> Result<Verdict, AllocError>
+) -> Result<ProgramVerdict, AllocError>
     requires truth { TellTruth (file_of image.now) (program_of image.now) setup rows.now }
     requires whole { TellWhole (file_of image.now) (program_of image.now) rows.now }
     ensures { IfOk result (IsWaitingVerdict (file_of image.now) (program_of image.now)) }
 {
     runs_decide();
     if is_quiet(alloc, rows) {
-        return Ok(Verdict::Good);
+        return Ok(ProgramVerdict::Good);
     }
     let bounds = Bounds {
         steps: MOST_STEPS_ALONE,
@@ -101,10 +101,10 @@ pub(crate) fn waiting_verdict(
     };
     let endless = endless_runs(alloc, image.checked().file(), image.program(), &bounds)?;
     match first_waiting(endless.runs.as_slice(), rows) {
-        None => Ok(Verdict::Good),
+        None => Ok(ProgramVerdict::Good),
         Some(at) => {
             if !endless.complete || !is_over(rows, at) {
-                return Ok(Verdict::Unknown);
+                return Ok(ProgramVerdict::Unknown);
             }
             bad_row(alloc, Reason::Waits, setup, rows, at)
         }

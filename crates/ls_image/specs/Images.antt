@@ -12,7 +12,7 @@ use Rattle.ls_types_programs.specs.Programs.{IsTextOf}
 use Rattle.ls_types.specs.Sources as sources
 use Rattle.ls_types.specs.declared.checked.Checked.{Checked}
 use Rattle.ls_types.specs.declared.source.Source.{Source}
-use Rattle.ls_linker_laws.specs.Runs.{Runs}
+use Rattle.ls_linker.specs.Runs.{Runs}
 use Rattle.ls_image.specs.declared.image.Image.{Image}
 
 abbrev pub source_of : Image → Source

@@ -1,7 +1,7 @@
 // Images.
 
 ghost use Rattle.std.specs.Prelude.{◌≡◌, ◌<◌, length};
-ghost use Rattle.ls_linker_laws.specs.Runs.{Runs};
+ghost use Rattle.ls_linker.specs.Runs.{Runs};
 ghost use Rattle.ls_types.specs.Sources.{source_file, source_program};
 
 use ls_checked::program::Program;

@@ -3,8 +3,8 @@
 ghost use Rattle.std.specs.Prelude.{◌<◌, length};
 ghost use Rattle.ls_checked.specs.PlainProgram.{plain_program};
 ghost use Rattle.ls_image.specs.Images.{RunsAsItsTexts, checked_of, code_of_image, program_of_image};
-ghost use Rattle.ls_headline.specs.Acting.{ActsInTime};
-ghost use Rattle.ls_headline.specs.InTime.{EndsInTime};
+ghost use Rattle.ls_preservation.specs.Acting.{ActsInTime};
+ghost use Rattle.ls_preservation.specs.InTime.{EndsInTime};
 ghost use Rattle.ls_types.specs.CheckedFile.{outcome_of};
 
 use crate::image::Image;

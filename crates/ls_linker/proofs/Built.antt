@@ -7,12 +7,12 @@ use Rattle.ls_lowered.specs.LoweredTree as low
 use Rattle.ls_refs_expressions.specs.Lowered.{lowered_file}
 use Rattle.ls_finally.specs.Flat.{flat_file}
 use Rattle.ls_finally.specs.Placed.{AllPlaced}
-use Rattle.ls_emit_laws.specs.Units.{CodeUnit, units_of}
-use Rattle.ls_emit_laws.specs.Emittable.{IsEmittableFile}
+use Rattle.ls_emit.specs.Units.{CodeUnit, units_of}
+use Rattle.ls_emit.specs.Emittable.{IsEmittableFile}
 use Rattle.ls_emit.specs.Short.{AllShort}
-use Rattle.ls_linker_laws.specs.Linked.{linked}
-use Rattle.ls_linker_bounds.specs.Links.{Links}
-use Rattle.ls_linker_laws.specs.Compiled.{flat_of, code_of}
+use Rattle.ls_linker.specs.Linked.{linked}
+use Rattle.ls_linker.specs.Links.{Links}
+use Rattle.ls_linker.specs.Compiled.{flat_of, code_of}
 use Rattle.std.specs.Prelude.{List}
 
 -- the lowered tree of the code is the one that the law is of

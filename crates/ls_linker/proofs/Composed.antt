@@ -14,8 +14,8 @@ use Rattle.ls_finally.specs.Flat.{flat_method}
 use Rattle.ls_finally.specs.Placed.{AllPlaced, Takes, TakesIn}
 use Rattle.ls_finally.specs.Laws.{KeepsCourses}
 use Rattle.ls_soundness.specs.InCall.{SuitedInCall}
-use Rattle.ls_linker_laws.specs.Laws.{LoweredAsks}
-use Rattle.ls_linker_laws.specs.Compiled.{flat_of}
+use Rattle.ls_linker.specs.Laws.{LoweredAsks}
+use Rattle.ls_linker.specs.Compiled.{flat_of}
 
 got : {A B : Type 0} (f : A → B) (xs : List A) (n : ℕ) (x : A) →
     slice_get xs n ≡ Some x →

@@ -10,19 +10,19 @@ use Rattle.ls_refs_expressions.specs.Lowered.{lowered_file}
 use Rattle.ls_refs.specs.Refused.{AllFit}
 use Rattle.ls_finally.specs.Flat.{flat_file}
 use Rattle.ls_finally.specs.Counts.{FewLocals, FewCopies, Refused}
-use Rattle.ls_linker_counts.specs.declared.fault.CountFault.{CountFault}
-use Rattle.ls_linker_counts.specs.declared.fault.CountFault.TheVariants as counts
-use Rattle.ls_linker_counts.specs.Refused as counted
+use Rattle.ls_linker.specs.declared.count_fault.CountFault.{CountFault}
+use Rattle.ls_linker.specs.declared.count_fault.CountFault.TheVariants as counts
+use Rattle.ls_linker.specs.Refused as counted
 use Rattle.ls_emit.specs.Short.{AllShort}
 use Rattle.ls_emit.specs.declared.fault.EmitFault.{EmitFault}
 use Rattle.ls_emit.specs.declared.fault.EmitFault.TheVariants as emit
-use Rattle.ls_emit_laws.specs.Units.{CodeUnit, units_of, file_size}
-use Rattle.ls_linker_laws.specs.Linked.{linked}
-use Rattle.ls_linker_bounds.specs.Floor.{CodeHoldsMethods, KeepsFloor}
+use Rattle.ls_emit.specs.Units.{CodeUnit, units_of, file_size}
+use Rattle.ls_linker.specs.Linked.{linked}
+use Rattle.ls_linker.specs.Floor.{CodeHoldsMethods, KeepsFloor}
 use Rattle.ls_linker.specs.declared.fault.LinkFault.{LinkFault}
 use Rattle.ls_linker.specs.declared.fault.LinkFault.TheVariants as link
 use Rattle.ls_linker.specs.declared.fault.BuildFault.TheVariants.{Lower, Emit, Link}
-use Rattle.ls_linker_laws.specs.Compiled.{flat_of, code_of, count}
+use Rattle.ls_linker.specs.Compiled.{flat_of, code_of, count}
 use Rattle.ls_linker.specs.Limits.{GoesPast}
 use Rattle.ls_linker.specs.Counted.{of_counts}
 

@@ -6,12 +6,12 @@ use Rattle.std.proofs.lemmas.List.{length-append, length-map}
 use Rattle.ls_checked.specs.CheckedTree.{Class, File}
 use Rattle.ls_checked.specs.CheckedProgram.{ThreadProgram, Program}
 use Rattle.ls_code.specs.Code.{Code, IsSmall}
-use Rattle.ls_emit_laws.specs.Units.{CodeUnit}
-use Rattle.ls_headline.specs.Threads.{call_result}
-use Rattle.ls_linker_laws.specs.Threads.{thread_size}
-use Rattle.ls_linker_laws.specs.Linked.{linked, words_of, units_code, method_rows, starts}
-use Rattle.ls_linker_bounds.specs.Landing.{UnitLands}
-use Rattle.ls_linker_bounds.specs.Links.{ThreadLinks, Links}
+use Rattle.ls_emit.specs.Units.{CodeUnit}
+use Rattle.ls_preservation.specs.Threads.{call_result}
+use Rattle.ls_linker.specs.Threads.{thread_size}
+use Rattle.ls_linker.specs.Linked.{linked, words_of, units_code, method_rows, starts}
+use Rattle.ls_linker.specs.Landing.{UnitLands}
+use Rattle.ls_linker.specs.Links.{ThreadLinks, Links}
 use Rattle.ls_linker.specs.Added.{AddsUnits}
 use Rattle.ls_linker.proofs.Wholes.{units_length}
 

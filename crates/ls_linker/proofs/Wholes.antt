@@ -4,8 +4,8 @@ use Rattle.std.proofs.lemmas.List.{length-append}
 use Rattle.ls_checked.specs.CheckedTree.{File}
 use Rattle.ls_checked.specs.CheckedProgram.{Program}
 use Rattle.ls_code.specs.Code.{Code}
-use Rattle.ls_emit_laws.specs.Units.{CodeUnit, moved}
-use Rattle.ls_linker_laws.specs.Linked.{linked, words_of, units_code, threads_code, threads_rows, starts}
+use Rattle.ls_emit.specs.Units.{CodeUnit, moved}
+use Rattle.ls_linker.specs.Linked.{linked, words_of, units_code, threads_code, threads_rows, starts}
 use Rattle.ls_linker.specs.Added.{AddsUnits, AddsThreads, first_parts}
 
 length-map : {A B : Type 0} (f : A → B) (xs : List A) → length (map f xs) ≡ length xs

@@ -4,11 +4,11 @@ use Rattle.ls_checked.specs.CheckedTree.{Class, File}
 use Rattle.ls_checked.specs.CheckedProgram.{ProgramCall, ThreadProgram, Program}
 use Rattle.ls_code.specs.Code.{Code}
 use Rattle.ls_code.specs.declared.instruction.Instruction.{Instruction}
-use Rattle.ls_emit_laws.specs.Units.{CodeUnit}
+use Rattle.ls_emit.specs.Units.{CodeUnit}
 use Rattle.ls_code.specs.declared.code.HandlerRow.{HandlerRow}
-use Rattle.ls_linker_laws.specs.Threads.{calls_code, thread_row}
-use Rattle.ls_linker_laws.specs.Linked.{units_code, units_rows, method_rows, threads_code, threads_rows, starts}
-use Rattle.ls_linker_laws.specs.Linked.{class_size}
+use Rattle.ls_linker.specs.Threads.{calls_code, thread_row}
+use Rattle.ls_linker.specs.Linked.{units_code, units_rows, method_rows, threads_code, threads_rows, starts}
+use Rattle.ls_linker.specs.Linked.{class_size}
 
 -- instructions after others
 pub record Adds (old added new : List Instruction) : Type 0 where

@@ -12,7 +12,7 @@ use Rattle.ls_emit.specs.declared.fault.EmitFault.TheVariants as emit
 use Rattle.ls_linker.specs.declared.fault.LinkFault.TheVariants as link
 use Rattle.ls_linker.specs.declared.fault.BuildFault.{BuildFault}
 use Rattle.ls_linker.specs.declared.fault.BuildFault.TheVariants.{Lower, Emit, Link}
-use Rattle.ls_linker_laws.specs.Compiled.{flat_of, code_of, count}
+use Rattle.ls_linker.specs.Compiled.{flat_of, code_of, count}
 
 -- Each limit of the code is kept. No method has over 128 locals, over 4,096 copies of finally blocks or over 65,536
 -- instructions. The whole code has at most 65,536 instructions.

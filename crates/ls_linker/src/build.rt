@@ -2,21 +2,19 @@
 
 ghost use Rattle.std.specs.Prelude.{◌≡◌, IfOk, IfErr, OnOk};
 ghost use Rattle.ls_types.specs.Sources.{source_file, source_program};
-ghost use Rattle.ls_linker_laws.specs.Compiled.{code_of};
+ghost use Rattle.ls_linker.specs.Compiled.{code_of};
 ghost use Rattle.ls_linker.specs.Limits.{KeepsLimits, GoesPast};
-ghost use Rattle.ls_linker_laws.specs.Runs.{Runs};
+ghost use Rattle.ls_linker.specs.Runs.{Runs};
 
+use crate::compiled::compiled_runs;
 use crate::fault::BuildFault;
-use crate::laws::compiled_runs;
+use crate::files::measure;
+use crate::in_range::{fits_lowered, ranged_is_emittable, ranged_links, typed_is_placed};
+use crate::lengths::sizes;
 use crate::link::link;
 use ls_code::code::Code;
 use ls_emit::emit::emit;
 use ls_finally::files::lower_finally;
-use ls_linker_bounds::in_range::{
-    fits_lowered, ranged_is_emittable, ranged_links, typed_is_placed,
-};
-use ls_linker_bounds::lengths::sizes;
-use ls_linker_counts::files::measure;
 use ls_refs::laws::has_slots;
 use ls_refs::lower::lower_refs;
 use ls_types::laws::source_is_well_typed;

@@ -5,8 +5,8 @@ ghost use Rattle.ls_linker.specs.declared.fault.LinkFault.TheVariants.{Memory};
 ghost use Rattle.ls_linker.specs.declared.fault.BuildFault.TheVariants.{Lower, Emit, Link};
 ghost use Rattle.ls_linker.specs.Counted.{of_counts};
 
+use crate::count_fault::CountFault;
 use ls_emit::fault::EmitFault;
-use ls_linker_counts::fault::CountFault;
 use ls_lowered::fault::LowerFault;
 use std::alloc::AllocError;
 use thiserror::Error;

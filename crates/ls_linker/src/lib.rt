@@ -2,8 +2,16 @@
 #![tactic(auto)]
 
 pub mod build;
+pub mod compiled;
+pub mod count_fault;
+mod counting;
 pub mod fault;
+pub mod files;
+pub mod in_range;
 pub mod laws;
+pub mod lengths;
 pub mod link;
+pub mod quickness;
 mod threads;
 mod units;
+mod ways;

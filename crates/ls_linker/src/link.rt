@@ -4,8 +4,8 @@ ghost use Rattle.ls_code.specs.Limits.{most_instructions};
 ghost use Rattle.std.specs.Prelude.{◌≡◌, ◌<◌, ◌≤◌, All, Err, IfOk, OnOk, length, map};
 ghost use Rattle.ls_checked.specs.Plain.{plain_class, plain_file};
 ghost use Rattle.ls_checked.specs.PlainProgram.{plain_program};
-ghost use Rattle.ls_linker_laws.specs.Linked.{linked, class_size};
-ghost use Rattle.ls_linker_bounds.specs.Links.{ThreadLinks, Links};
+ghost use Rattle.ls_linker.specs.Linked.{linked, class_size};
+ghost use Rattle.ls_linker.specs.Links.{ThreadLinks, Links};
 ghost use Rattle.ls_linker.specs.Added.{AddsThreads, first_parts};
 ghost use Rattle.ls_linker.specs.declared.fault.LinkFault.TheVariants as faults;
 

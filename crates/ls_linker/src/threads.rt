@@ -3,12 +3,12 @@
 ghost use Rattle.std.specs.Prelude.{◌≡◌, ◌++◌, ◌+◌, ◌∷◌, [], ◌<◌, ◌≤◌, ◌^◌, All, IfOk, OnOk, length, map};
 ghost use Rattle.ls_checked.specs.Plain.{plain_class};
 ghost use Rattle.ls_checked.specs.PlainProgram.{plain_call, plain_thread};
-ghost use Rattle.ls_headline.specs.InWords.{word_of};
-ghost use Rattle.ls_headline.specs.Threads.{call_result, result_type};
+ghost use Rattle.ls_preservation.specs.InWords.{word_of};
+ghost use Rattle.ls_preservation.specs.Threads.{call_result, result_type};
 ghost use Rattle.ls_meaning.specs.Expressions.{constructor_of};
-ghost use Rattle.ls_linker_laws.specs.Threads.{pushes, result_code, call_code, calls_code, call_need, calls_need};
+ghost use Rattle.ls_linker.specs.Threads.{pushes, result_code, call_code, calls_code, call_need, calls_need};
 ghost use Rattle.ls_code.specs.declared.instruction.Instruction.TheVariants as op;
-ghost use Rattle.ls_linker_bounds.specs.Links.{IsWritten, CallLinks, ThreadLinks};
+ghost use Rattle.ls_linker.specs.Links.{IsWritten, CallLinks, ThreadLinks};
 ghost use Rattle.ls_linker.specs.Added.{Adds, AddsThreads, PushesThread};
 
 use ls_checked::program::{ProgramCall, ThreadProgram};
@@ -228,7 +228,7 @@ fn call_results(alloc: Global, calls: &[ProgramCall]) -> Result<Vec<CallResult>,
 }
 
 // A thread's code, and the handler row that leads each throw to the end of that code.
-#[tactic(auto, using(crate::proofs::Sizes::thread_pushed))]
+#[tactic(auto, using(crate::proofs::UnitSizes::thread_pushed))]
 fn push_thread(
     code: &mut Vec<Instruction>,
     classes: &[Class],

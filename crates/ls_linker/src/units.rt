@@ -2,8 +2,8 @@
 
 ghost use Rattle.ls_code.specs.Limits.{most_instructions};
 ghost use Rattle.std.specs.Prelude.{◌≡◌, ◌++◌, ◌+◌, ◌*◌, ◌^◌, ◌≤◌, ◌∷◌, [], All, OnOk, length, map};
-ghost use Rattle.ls_emit_laws.specs.Units.{moved, moved_row};
-ghost use Rattle.ls_linker_bounds.specs.Landing.{Lands, RowLands, UnitLands};
+ghost use Rattle.ls_emit.specs.Units.{moved, moved_row};
+ghost use Rattle.ls_linker.specs.Landing.{Lands, RowLands, UnitLands};
 ghost use Rattle.ls_linker.specs.Added.{AddsUnits};
 
 use ls_code::code::{HandlerRow, Method, Parts};

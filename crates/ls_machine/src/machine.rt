@@ -204,12 +204,12 @@ impl Machine {
     }
 
     /// A number that machines which are the same have in common.
-    pub fn mix(&self) -> u64 {
-        let mut mixed = self.cells.mix(self.history.len() as u64);
+    pub fn hash(&self) -> u64 {
+        let mut hash = self.cells.hash(self.history.len() as u64);
         for thread in &self.threads {
-            mixed = thread.mix(mixed);
+            hash = thread.hash(hash);
         }
-        mixed
+        hash
     }
 }
 

@@ -7,8 +7,8 @@ ghost use Rattle.ls_code.specs.Machine.{first_cells};
 ghost use Rattle.ls_machine_moves.specs.Replies.{cells_after, reply_of};
 
 use crate::flow::Reply;
+use crate::hashing::hashed_all;
 use crate::overwriting::overwrite;
-use crate::stirring::stir_all;
 use crate::words;
 use ls_code::lock_word::{Left, Taken, is_own_word, lock_word, unlock_word};
 use ls_events::action::{Action, Answer};
@@ -387,8 +387,8 @@ impl Cells {
     }
 
     /// A number that cells which are the same have in common, made of another.
-    pub fn mix(&self, seed: u64) -> u64 {
-        stir_all(seed, self.words.as_slice())
+    pub fn hash(&self, seed: u64) -> u64 {
+        hashed_all(seed, self.words.as_slice())
     }
 
     /// What a thread's action does to the cells, and their answer.

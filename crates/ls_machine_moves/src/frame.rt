@@ -6,8 +6,8 @@ ghost use Rattle.ls_code.specs.Moves.{stored};
 ghost use Rattle.ls_code.specs.Throws.{caught};
 ghost use Rattle.ls_code.specs.Calls.{entered, calling};
 
+use crate::hashing::{hashed, hashed_all};
 use crate::overwriting::overwrite;
-use crate::stirring::{stir, stir_all};
 use crate::words;
 use ls_code::code::{HandlerRow, Method};
 use ls_events::kind::Kind;
@@ -344,10 +344,10 @@ impl Frame {
     }
 
     /// A number that frames which are the same have in common, made of another.
-    pub fn mix(&self, seed: u64) -> u64 {
-        let start = stir(seed, self.counter as u64);
-        let locals = stir_all(start, self.locals());
-        stir_all(locals, self.operands())
+    pub fn hash(&self, seed: u64) -> u64 {
+        let start = hashed(seed, self.counter as u64);
+        let locals = hashed_all(start, self.locals());
+        hashed_all(locals, self.operands())
     }
 }
 

@@ -5,7 +5,7 @@ pub mod acting;
 pub mod cells;
 pub mod flow;
 pub mod frame;
+pub mod hashing;
 mod overwriting;
 pub mod silent;
-pub mod stirring;
 pub mod words;

@@ -19,7 +19,7 @@ use ls_code::step::Mode;
 use ls_events::kind::Kind;
 use ls_machine_moves::flow::{Flow, Quick};
 use ls_machine_moves::frame::Frame;
-use ls_machine_moves::stirring::stir;
+use ls_machine_moves::hashing::hashed;
 use ls_machine_moves::{acting, silent};
 use std::alloc::{AllocError, Global};
 use std::marker::Model;
@@ -339,12 +339,12 @@ impl Thread {
     }
 
     /// A number that threads which are the same have in common, made of another.
-    pub fn mix(&self, seed: u64) -> u64 {
-        let mut mixed = stir(seed, self.ended as u64);
+    pub fn hash(&self, seed: u64) -> u64 {
+        let mut hash = hashed(seed, self.ended as u64);
         for frame in &self.frames[self.inner..] {
-            mixed = frame.mix(mixed);
+            hash = frame.hash(hash);
         }
-        mixed
+        hash
     }
 
     /// The pending call traps.

@@ -20,7 +20,7 @@ use Rattle.ls_order_search.specs.Telling.{foreign_text}
 use Rattle.ls_order_search.specs.Telling.{hopeless_text}
 use Rattle.ls_order_search.specs.declared.fault.SearchFault.{SearchFault}
 use Rattle.ls_order_search.specs.declared.fault.SearchFault.TheVariants as faults
-use Rattle.ls_order_search.specs.declared.judging.Outcome.TheVariants as outcomes
+use Rattle.ls_order_search.specs.declared.judging.OrderAnswer.TheVariants as outcomes
 use Rattle.ls_order_search.proofs.Names.{number_at, well_formed_at}
 
 -- a line for each event, with a byte at least

@@ -4,8 +4,8 @@ use Rattle.ls_report.specs.Events.{Event, Text}
 use Rattle.ls_orders.specs.Legal.{IsLegal}
 use Rattle.ls_orders.specs.SetCalls.{first_foreign, name_of, set_calls}
 use Rattle.ls_order_search.specs.Trapped.{has_many_trapped}
-use Rattle.ls_order_search.specs.declared.judging.Outcome.{Outcome}
-use Rattle.ls_order_search.specs.declared.judging.Outcome.TheVariants as outcomes
+use Rattle.ls_order_search.specs.declared.judging.OrderAnswer.{OrderAnswer}
+use Rattle.ls_order_search.specs.declared.judging.OrderAnswer.TheVariants as outcomes
 
 abbrev pub HasOrder : List Event → Type 0
 HasOrder history = (order : List Text) × IsLegal history order
@@ -28,7 +28,7 @@ pub record IsDecided (history : List Event) : Type 0 where
 
 -- The history has a call of another kind, or too many trapped calls on an item, or a legal order. Or it has no legal
 -- order from an event on, but a legal order of the events before that event.
-abbrev pub IsOutcome : List Event → Outcome → Type 0
+abbrev pub IsOutcome : List Event → OrderAnswer → Type 0
 IsOutcome history (outcomes.NotOneSet call) = (e : Event) × (first_foreign history ≡ Some e) ×
     (string_bytes call ≡ name_of e)
 IsOutcome history outcomes.TooManyTrapped = (first_foreign history ≡ None) ×

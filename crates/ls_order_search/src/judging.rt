@@ -16,7 +16,7 @@ use std::alloc::{AllocError, Global};
 
 /// Whether a history has a legal order, and with which event it ceases to have one.
 #[derive(Drop)]
-pub enum Outcome {
+pub enum OrderAnswer {
     /// The text of the first call that isn't a set call on the same object as the first set call.
     NotOneSet(String),
     /// An item has more than 12 trapped calls.
@@ -45,8 +45,8 @@ fn find_front(
 }
 
 /// The place of the first event with which no order is legal any more, and a legal order of the events before it. The
-/// place is found by halves.
-fn find_hopeless(alloc: Global, events: &[NamedEvent<'_>]) -> Result<Outcome, AllocError>
+/// place is found by binary search.
+fn find_hopeless(alloc: Global, events: &[NamedEvent<'_>]) -> Result<OrderAnswer, AllocError>
     requires history { is_history (map plain_event events.now) ≡ true }
     requires decided { IsDecided (map plain_event events.now) }
     requires none { NoneIsLegal (map plain_event events.now) }
@@ -55,7 +55,7 @@ fn find_hopeless(alloc: Global, events: &[NamedEvent<'_>]) -> Result<Outcome, Al
     let mut at = 0;
     let mut order = Vec::new(alloc);
     let mut illegal = events.len();
-    'halves: while illegal - at > 1 {
+    'bisect: while illegal - at > 1 {
         let middle = at + (illegal - at) / 2;
         match find_front(alloc, events, middle)? {
             Some(found) => {
@@ -65,7 +65,7 @@ fn find_hopeless(alloc: Global, events: &[NamedEvent<'_>]) -> Result<Outcome, Al
             None => illegal = middle,
         }
     }
-    Ok(Outcome::Hopeless { at, order })
+    Ok(OrderAnswer::Hopeless { at, order })
 }
 
 /// Whether a history with few trapped calls has a legal order, or else the event with which it ceases to have one.
@@ -73,31 +73,31 @@ fn decide(
     alloc: Global,
     events: &[NamedEvent<'_>],
     calls: &[SetCall],
-) -> Result<Outcome, AllocError>
+) -> Result<OrderAnswer, AllocError>
     requires history { is_history (map plain_event events.now) ≡ true }
     requires calls { calls.now ≡ set_calls (map plain_event events.now) }
     requires decided { IsDecided (map plain_event events.now) }
     ensures { IfOk result (λ outcome. IsOutcome (map plain_event events.now) outcome) }
 {
     match order_of(alloc, events, calls)? {
-        Some(order) => Ok(Outcome::Legal(order)),
+        Some(order) => Ok(OrderAnswer::Legal(order)),
         None => find_hopeless(alloc, events),
     }
 }
 
 /// Whether the history has a legal order, or else the event with which it ceases to have one. The only refusal is that
 /// memory ran out.
-pub fn judge(alloc: Global, events: &[NamedEvent<'_>]) -> Result<Outcome, AllocError>
+pub fn judge(alloc: Global, events: &[NamedEvent<'_>]) -> Result<OrderAnswer, AllocError>
     requires { is_history (map plain_event events.now) ≡ true }
     ensures { IfOk result (λ outcome. IsOutcome (map plain_event events.now) outcome) }
 {
     if let Some(event) = first_foreign(events) {
         let call = name_of(alloc, event)?;
-        return Ok(Outcome::NotOneSet(call));
+        return Ok(OrderAnswer::NotOneSet(call));
     }
     let calls = set_calls(alloc, events)?;
     if has_many_trapped(alloc, calls.as_slice())? {
-        return Ok(Outcome::TooManyTrapped);
+        return Ok(OrderAnswer::TooManyTrapped);
     }
     decide(alloc, events, calls.as_slice())
 }

@@ -18,7 +18,7 @@ mod trying;
 
 pub use fault::SearchFault;
 pub use finding::find_order;
-pub use judging::{Outcome, judge};
+pub use judging::{OrderAnswer, judge};
 pub use printing::{order_line, order_reads_back};
 pub use telling::tell;
 pub use trapped::MOST_TRAPPED;

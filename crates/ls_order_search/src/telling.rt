@@ -11,7 +11,7 @@ ghost use Rattle.ls_order_search.specs.Answers.{IsOutcome};
 ghost use Rattle.ls_order_search.specs.Telling.{GivesText, Tells, foreign_text, hopeless_text};
 
 use crate::fault::SearchFault;
-use crate::judging::{Outcome, judge};
+use crate::judging::{OrderAnswer, judge};
 use crate::printing::order_line;
 use ls_report::cuts::cut;
 use ls_report::history::NamedEvent;
@@ -79,23 +79,23 @@ fn outcome_text(
     alloc: Global,
     text: &str,
     events: &[NamedEvent<'_>],
-    outcome: &Outcome,
+    outcome: &OrderAnswer,
 ) -> Result<String, SearchFault>
     requires says { Says text.now (map plain_event events.now) }
     requires outcome { IsOutcome (map plain_event events.now) outcome.now }
     ensures { GivesText (Tells text.now) result }
 {
     match outcome {
-        Outcome::NotOneSet(call) => {
+        OrderAnswer::NotOneSet(call) => {
             let told = foreign_text(alloc, call.as_str())?;
             Ok(told)
         }
-        Outcome::TooManyTrapped => Err(SearchFault::TooManyTrapped),
-        Outcome::Legal(order) => {
+        OrderAnswer::TooManyTrapped => Err(SearchFault::TooManyTrapped),
+        OrderAnswer::Legal(order) => {
             let told = order_line(alloc, order.as_slice())?;
             Ok(told)
         }
-        Outcome::Hopeless { at, order } => {
+        OrderAnswer::Hopeless { at, order } => {
             let line = line_at(text, *at);
             let told = hopeless_text(alloc, *at, line, order.as_slice())?;
             Ok(told)

@@ -13,7 +13,7 @@ use Rattle.ls_orders.specs.Rules.{is_returned, is_same, judged, judgement_of, ju
 use Rattle.ls_orders.specs.Rules.{unless_foreign}
 use Rattle.ls_orders.specs.Legal.{IsLegal, IsRun, Set, after}
 use Rattle.ls_orders.specs.declared.calls.SetCall.{SetCall}
-use Rattle.ls_orders.specs.declared.verdict.Rule.{Rule}
+use Rattle.ls_orders.specs.declared.verdict.OrderRule.{OrderRule}
 use Rattle.ls_orders.proofs.RuleLemmas.{present_push}
 
 -- ---- small steps
@@ -163,13 +163,13 @@ run_right front (c ∷ cs) r =
 
 -- ---- the rules, one after the other
 
-legal_rule : (r : Rule) (name : SetCall → Text) (o : Option SetCall) (next : Judgement) →
+legal_rule : (r : OrderRule) (name : SetCall → Text) (o : Option SetCall) (next : Judgement) →
     or_rule r name o next ≡ Legal →
     (o ≡ None) × (next ≡ Legal)
 legal_rule r name None next e = (refl, e)
 legal_rule r name (Some x) next e = absurd cc
 
-rule_legal : (r : Rule) (name : SetCall → Text) (o : Option SetCall) (next : Judgement) →
+rule_legal : (r : OrderRule) (name : SetCall → Text) (o : Option SetCall) (next : Judgement) →
     o ≡ None →
     next ≡ Legal →
     or_rule r name o next ≡ Legal

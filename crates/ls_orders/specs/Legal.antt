@@ -6,8 +6,8 @@ use Rattle.ls_orders.specs.SetCalls.{call_named, first_foreign, set_calls}
 use Rattle.ls_orders.specs.Rules as rules
 use Rattle.ls_orders.specs.Rules.{Judgement, after_call, answer_of, differs, ended_before, is_returned, is_same}
 use Rattle.ls_orders.specs.declared.calls.SetCall.{SetCall}
-use Rattle.ls_orders.specs.declared.verdict.Verdict.{Verdict}
-use Rattle.ls_orders.specs.declared.verdict.Verdict.TheVariants as verdicts
+use Rattle.ls_orders.specs.declared.verdict.OrderVerdict.{OrderVerdict}
+use Rattle.ls_orders.specs.declared.verdict.OrderVerdict.TheVariants as verdicts
 
 -- a set: for each item, whether it is in the set
 abbrev pub Set : Type 0
@@ -43,6 +43,6 @@ pub record IsLegal (history : List Event) (order : List Text) : Type 0 where
   -- the calls are a run of a set that is empty at the start
   pub run : IsRun empty calls
 
-abbrev pub plain_verdict : Verdict → Judgement
+abbrev pub plain_verdict : OrderVerdict → Judgement
 plain_verdict verdicts.Legal = rules.Legal
 plain_verdict (verdicts.Broken rule call) = rules.Broken rule (string_bytes call)

@@ -9,8 +9,8 @@ use Rattle.ls_orders.specs.declared.calls.Operation.TheVariants.{Add, Remove, Co
 use Rattle.ls_orders.specs.declared.calls.End.{End}
 use Rattle.ls_orders.specs.declared.calls.End.TheVariants.{Pending, Returned, Trapped}
 use Rattle.ls_orders.specs.declared.calls.SetCall.{SetCall}
-use Rattle.ls_orders.specs.declared.verdict.Rule.{Rule}
-use Rattle.ls_orders.specs.declared.verdict.Rule.TheVariants as rules_of
+use Rattle.ls_orders.specs.declared.verdict.OrderRule.{OrderRule}
+use Rattle.ls_orders.specs.declared.verdict.OrderRule.TheVariants as rules_of
 use Rattle.ls_orders.specs.Each.{each}
 use Rattle.ls_orders.specs.SetCalls.{call_named, first_foreign, name_at, name_of, set_calls}
 
@@ -88,9 +88,9 @@ first_repeated (x ∷ xs) = if list_any (is_same x) xs then Some x else first_re
 
 pub data Judgement : Type 0 where
   Legal : Judgement
-  Broken : (rule : Rule) → (call : Text) → Judgement
+  Broken : (rule : OrderRule) → (call : Text) → Judgement
 
-abbrev pub or_rule : Rule → (SetCall → Text) → Option SetCall → Judgement → Judgement
+abbrev pub or_rule : OrderRule → (SetCall → Text) → Option SetCall → Judgement → Judgement
 or_rule r name (Some call) next = Broken r (name call)
 or_rule r name None next = next
 

@@ -12,7 +12,7 @@ use crate::finding::{first_foreign, name_at, name_of, set_calls};
 use crate::naming::{Named, calls_of, names_of};
 use crate::order::Order;
 use crate::rules::{first_late, first_missing, first_repeated, first_wrong};
-use crate::verdict::{Rule, Verdict};
+use crate::verdict::{OrderRule, OrderVerdict};
 use ls_report::history::{History, NamedEvent};
 use std::alloc::{AllocError, Global};
 
@@ -20,13 +20,13 @@ use std::alloc::{AllocError, Global};
 fn broken(
     alloc: Global,
     events: &[NamedEvent<'_>],
-    rule: Rule,
+    rule: OrderRule,
     call: SetCall,
-) -> Result<Verdict, AllocError>
+) -> Result<OrderVerdict, AllocError>
     ensures { IfOk result (λ v. plain_verdict v ≡ Broken rule (name_at (map plain_event events.now) call.called)) }
 {
     let call = name_at(alloc, events, call.called)?;
-    Ok(Verdict::Broken { rule, call })
+    Ok(OrderVerdict::Broken { rule, call })
 }
 
 /// The rules of an order of set calls.
@@ -35,24 +35,24 @@ fn judge_calls(
     events: &[NamedEvent<'_>],
     calls: &[SetCall],
     order: &[&SetCall],
-) -> Result<Verdict, AllocError>
+) -> Result<OrderVerdict, AllocError>
     requires { calls.now ≡ set_calls (map plain_event events.now) }
     ensures { IfOk result
         (λ v. plain_verdict v ≡ judgement_of_calls (map plain_event events.now) (map plain_call order.now)) }
 {
     if let Some(call) = first_repeated(alloc, order)? {
-        return broken(alloc, events, Rule::Repeated, call);
+        return broken(alloc, events, OrderRule::Repeated, call);
     }
     if let Some(call) = first_missing(alloc, calls, order)? {
-        return broken(alloc, events, Rule::Missing, call);
+        return broken(alloc, events, OrderRule::Missing, call);
     }
     if let Some(call) = first_late(order) {
-        return broken(alloc, events, Rule::AgainstTime, call);
+        return broken(alloc, events, OrderRule::AgainstTime, call);
     }
     if let Some(call) = first_wrong(alloc, order)? {
-        return broken(alloc, events, Rule::WrongReply, call);
+        return broken(alloc, events, OrderRule::WrongReply, call);
     }
-    Ok(Verdict::Legal)
+    Ok(OrderVerdict::Legal)
 }
 
 /// Whether the order is a legal order of the history's set calls. If it isn't, the answer is the first rule that is
@@ -61,29 +61,33 @@ pub fn check_order(
     alloc: Global,
     history: &History<'_>,
     order: &Order<'_>,
-) -> Result<Verdict, AllocError>
+) -> Result<OrderVerdict, AllocError>
     ensures legal { IfOk result (λ v. (plain_verdict v ≡ Legal) ↔ IsLegal history.now order.now) }
     ensures exact { IfOk result (λ v. plain_verdict v ≡ judgement_of history.now order.now) }
 {
     judged(alloc, history, order)
 }
 
-fn judged(alloc: Global, history: &History<'_>, order: &Order<'_>) -> Result<Verdict, AllocError>
+fn judged(
+    alloc: Global,
+    history: &History<'_>,
+    order: &Order<'_>,
+) -> Result<OrderVerdict, AllocError>
     ensures { IfOk result (λ v. plain_verdict v ≡ judgement_of history.now order.now) }
 {
     let events = history.events();
     if let Some(event) = first_foreign(events) {
         let call = name_of(alloc, event)?;
-        return Ok(Verdict::Broken {
-            rule: Rule::NotASetCall,
+        return Ok(OrderVerdict::Broken {
+            rule: OrderRule::NotASetCall,
             call,
         });
     }
     let calls = set_calls(alloc, events)?;
     let names = names_of(alloc, events, calls.as_slice())?;
     match calls_of(alloc, &names, calls.as_slice(), order.calls())? {
-        Named::Unknown(call) => Ok(Verdict::Broken {
-            rule: Rule::UnknownCall,
+        Named::Unknown(call) => Ok(OrderVerdict::Broken {
+            rule: OrderRule::UnknownCall,
             call,
         }),
         Named::Calls(order) => judge_calls(alloc, events, calls.as_slice(), order.as_slice()),

@@ -18,4 +18,4 @@ pub use fault::OrderFault;
 pub use judging::check_order;
 pub use order::Order;
 pub use reading::read_order;
-pub use verdict::{Rule, Verdict};
+pub use verdict::{OrderRule, OrderVerdict};

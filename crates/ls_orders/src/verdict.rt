@@ -4,7 +4,7 @@ use std::alloc::AllocError;
 
 /// What an order or its history breaks, in the order of the tests.
 #[derive(Copy, PartialEq, Eq)]
-pub enum Rule {
+pub enum OrderRule {
     NotASetCall,
     UnknownCall,
     Repeated,
@@ -13,15 +13,15 @@ pub enum Rule {
     WrongReply,
 }
 
-impl Clone for Rule {
-    fn clone(&self) -> Result<Rule, AllocError> {
+impl Clone for OrderRule {
+    fn clone(&self) -> Result<OrderRule, AllocError> {
         Ok(*self)
     }
 }
 
 /// Whether an order is legal, or the first rule that is broken, with the text of the first call that breaks it.
 #[derive(Drop)]
-pub enum Verdict {
+pub enum OrderVerdict {
     Legal,
-    Broken { rule: Rule, call: String },
+    Broken { rule: OrderRule, call: String },
 }

@@ -12,7 +12,7 @@ use crate::ordering::{are_same_rests, put_in_order};
 use crate::resting::left_after;
 use crate::stepping::next_events;
 use ls_events::event::Event;
-use ls_observers::hashing::mixed;
+use ls_observers::hashing::hashed;
 use std::alloc::{AllocError, Global};
 
 /// What is left of runs: each rest by the numbers of its events.
@@ -48,21 +48,21 @@ pub(crate) struct Table {
 const MOST: usize = 4096;
 
 /// A number made of another and of the numbers of a rest.
-fn mixed_with(seed: u64, rest: &[usize]) -> u64 {
-    let mut sum = mixed(seed, rest.len() as u64);
+fn hashed_with(seed: u64, rest: &[usize]) -> u64 {
+    let mut hash = hashed(seed, rest.len() as u64);
     for number in rest {
-        sum = mixed(sum, *number as u64);
+        hash = hashed(hash, *number as u64);
     }
-    sum
+    hash
 }
 
 /// A number by which rests are found. Nothing depends on it.
 pub(crate) fn hash_of(rests: &[Vec<usize>]) -> u64 {
-    let mut mixed = 0;
+    let mut hash = 0;
     for rest in rests {
-        mixed = mixed_with(mixed, rest.as_slice());
+        hash = hashed_with(hash, rest.as_slice());
     }
-    mixed
+    hash
 }
 
 /// What is left after an event. The only refusal is that memory ran out.

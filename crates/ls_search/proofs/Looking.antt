@@ -12,7 +12,7 @@ use Rattle.ls_transitions.specs.declared.moves.Step.{Step}
 use Rattle.ls_transitions.specs.Tables.{Table, Grows, Keeps}
 use Rattle.ls_transitions.proofs.Keeping.{below}
 use Rattle.ls_search.specs.declared.places.Node.{Node}
-use Rattle.ls_search.specs.declared.places.Place.{Place}
+use Rattle.ls_search.specs.declared.places.NumberedState.{NumberedState}
 use Rattle.ls_search.specs.Found.{HasPlace, Pushed}
 use Rattle.ls_search.specs.Grown.{GrownBy}
 use Rattle.ls_search.specs.Places.{configuration_of}
@@ -30,7 +30,7 @@ module _ {S : Type 0} (first : S) (next : S → Event → S) (file : File) (prog
     (sound : IsSound first next file program threads t states nodes) (grows : Grows t t') (keeps : Keeps states states')
     (at : ℕ) (n : Node) (here : slice_get nodes at ≡ Some n) (u : ℕ) (step : Step)
     (acts : ActsBy t n.place.works.items u step (stride t.file (configuration_of t n.place) u))
-    (q : Place) (k : ℕ) (other : Program)
+    (q : NumberedState) (k : ℕ) (other : Program)
     (reaches : Reaches t.file (noticed_after first next t.file other (noticed_at first t states n.place) u)
     (noticed_at first t' states' q) u k)
     (width : ℕ) (width_is : width ≡ length n.place.works.items) (is_node : IsNode t' states' width q)
@@ -52,14 +52,14 @@ module _ {S : Type 0} (first : S) (next : S → Event → S) (file : File) (prog
   sound_reached =
       let is_width : width ≡ threads = width_is ∙ (sound.are at n here).width in
       let with_place : IsNode t' states' threads node.place =
-      subst (λ (p : Place). IsNode t' states' threads p) (sym place_is)
+      subst (λ (p : NumberedState). IsNode t' states' threads p) (sym place_is)
       (subst (λ w. IsNode t' states' w q) is_width is_node) in
       let within : node.before < length nodes = let b = below nodes at n here in omega (arith, b, before_is) in
       let there : slice_get (pairs_at first t states nodes) node.before ≡ Some (noticed_at first t states n.place) =
       ap (slice_get (pairs_at first t states nodes)) before_is ∙ pair_here in
       sound_pushed first next file program threads t t' states states' nodes nodes' sound grows keeps node pushed
       with_place within
-      (subst (λ (p : Place). IsAfter first next file program
+      (subst (λ (p : NumberedState). IsAfter first next file program
       (pairs_at first t states nodes) node (noticed_at first t' states' p)) (sym place_is)
       (is_after first next file program t' states' nodes' (noticed_at first t states n.place) u q k reached_so
       (pairs_at first t states nodes) node there place_is thread_is steps_is))

@@ -9,7 +9,7 @@ use Rattle.ls_search_laws.specs.Noticing.{Noticed}
 use Rattle.ls_transitions.specs.Tables.{Table, Grows, Keeps}
 use Rattle.ls_transitions.proofs.Keeping.{below, still_below, there}
 use Rattle.ls_search.specs.declared.places.Node.{Node}
-use Rattle.ls_search.specs.declared.places.Place.{Place}
+use Rattle.ls_search.specs.declared.places.NumberedState.{NumberedState}
 use Rattle.ls_search.specs.Places.{configuration_at, configuration_of}
 use Rattle.ls_search.specs.Found.{HasPlace, Pushed}
 use Rattle.ls_search.specs.Searched.{IsNode, noticed_at, pairs_at}
@@ -80,7 +80,7 @@ same_images f g (x ∷ xs) same =
 
 module _ {S : Type 0} (first : S) (t t' : Table) (states states' : List S) (grows : Grows t t')
     (keeps : Keeps states states') where
-  pub node_stays : (threads : ℕ) (p : Place) → IsNode t states threads p → IsNode t' states' threads p
+  pub node_stays : (threads : ℕ) (p : NumberedState) → IsNode t states threads p → IsNode t' states' threads p
   node_stays threads p h = record {
     numbers = there_still t t' p.store p.works.items grows h.numbers;
     noted_there = still_below states states' p.noted keeps h.noted_there;
@@ -94,7 +94,7 @@ module _ {S : Type 0} (first : S) (t t' : Table) (states states' : List S) (grow
       get_or_from_slice_get states' noted at.0 first (keeps noted at.0 at.1)
       ∙ sym (get_or_from_slice_get states noted at.0 first at.1)
 
-  pub pair_stays : (threads : ℕ) (p : Place) → IsNode t states threads p →
+  pub pair_stays : (threads : ℕ) (p : NumberedState) → IsNode t states threads p →
       noticed_at first t' states' p ≡ noticed_at first t states p
   pair_stays threads p h =
       ap (λ (c : Configuration). record { configuration = c; noted = slice_index_or states' p.noted first })
@@ -124,7 +124,7 @@ module _ {S : Type 0} (first : S) (t t' : Table) (states states' : List S) (grow
         (keeps_pushed (pairs_at first t states nodes) (noticed_at first t' states' node.place))
 
 -- a state that is there stands there with what is noted
-pub place_there : {S : Type 0} (first : S) (t : Table) (states : List S) (nodes : List Node) (p : Place) →
+pub place_there : {S : Type 0} (first : S) (t : Table) (states : List S) (nodes : List Node) (p : NumberedState) →
     HasPlace nodes p →
     (k : ℕ) × (slice_get (pairs_at first t states nodes) k ≡ Some (noticed_at first t states p))
 place_there {S} first t states nodes p h =

@@ -22,7 +22,7 @@ use Rattle.ls_search_laws.specs.Search.{IsPrompt, LeadsTo}
 use Rattle.ls_transitions.specs.declared.moves.Step.{Step}
 use Rattle.ls_transitions.specs.Tables.{Table}
 use Rattle.ls_search.specs.declared.places.Node.{Node}
-use Rattle.ls_search.specs.declared.places.Place.{Place}
+use Rattle.ls_search.specs.declared.places.NumberedState.{NumberedState}
 use Rattle.ls_search.specs.Found.{HasPlace}
 use Rattle.ls_search.specs.Places.{configuration_at, configuration_of}
 use Rattle.ls_search.specs.Strides.{ActsBy, at_once}
@@ -79,12 +79,12 @@ module _ {S : Type 0} (first : S) (next : S → Event → S) (file : File) (prog
 
   -- ---- after an action
 
-  module _ (t0 t1 : Table) (states0 states1 : List S) (p : Place) (u : ℕ) (step : Step)
+  module _ (t0 t1 : Table) (states0 states1 : List S) (p : NumberedState) (u : ℕ) (step : Step)
       (acts : ActsBy t0 p.works.items u step (stride t0.file (configuration_of t0 p) u)) where
     pub acted : Noticed S
     acted = noticed_after first next t0.file program (noticed_at first t0 states0 p) u
 
-    pub reaches_after : (store : ℕ) (works : List ℕ) (q : Place) (n k : ℕ) (last : Configuration) →
+    pub reaches_after : (store : ℕ) (works : List ℕ) (q : NumberedState) (n k : ℕ) (last : Configuration) →
         store ≡ step.store →
         works ≡ slice_set p.works.items u step.work →
         slice_get states1 n ≡ Some (fold next (slice_index_or states0 p.noted first) (events_in (event_of u
@@ -116,7 +116,7 @@ module _ {S : Type 0} (first : S) (next : S → Event → S) (file : File) (prog
 
   -- ---- what a thread does at one of the states that were found
 
-  module _ (t : Table) (states : List S) (nodes : List Node) (p : Noticed S) (u : ℕ) (q : Place) (k : ℕ)
+  module _ (t : Table) (states : List S) (nodes : List Node) (p : Noticed S) (u : ℕ) (q : NumberedState) (k : ℕ)
       (reaches : Reaches file (noticed_after first next file program p u) (noticed_at first t states q) u k) where
     pub acts_in : IsActing (stride file p.configuration u).did → HasPlace nodes q →
         ActsIn first next file program (pairs_at first t states nodes) p u

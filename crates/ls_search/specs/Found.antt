@@ -2,10 +2,10 @@
 use Rattle.std.specs.Prelude.{◌≡◌, ℕ, ◌<◌, ◌⊎◌, ◌++◌, ◌∷◌, [], List, Some, slice_get}
 use Rattle.ls_search.specs.declared.paths.Link.{Link}
 use Rattle.ls_search.specs.declared.places.Node.{Node}
-use Rattle.ls_search.specs.declared.places.Place.{Place}
+use Rattle.ls_search.specs.declared.places.NumberedState.{NumberedState}
 
 -- one of them is this state
-pub record HasPlace (nodes : List Node) (p : Place) : Type 0 where
+pub record HasPlace (nodes : List Node) (p : NumberedState) : Type 0 where
   pub at : ℕ
   pub node : Node
   pub here : slice_get nodes at ≡ Some node

@@ -5,7 +5,7 @@ use Rattle.ls_meaning.specs.Store.{Store}
 use Rattle.ls_meaning.specs.Threads.{Next, Ended}
 use Rattle.ls_search_laws.specs.Configuration.{Configuration}
 use Rattle.ls_transitions.specs.Tables.{Table, goes_on}
-use Rattle.ls_search.specs.declared.places.Place.{Place}
+use Rattle.ls_search.specs.declared.places.NumberedState.{NumberedState}
 
 abbrev pub no_store : Store
 no_store = record { things = []; names = [] }
@@ -26,8 +26,8 @@ pub record AreThere (t : Table) (store : ℕ) (works : List ℕ) : Type 0 where
   pub store_there : store < length t.stores
   pub works_there : (u work : ℕ) → slice_get works u ≡ Some work → work < length t.works
 
-abbrev pub configuration_of : Table → Place → Configuration
+abbrev pub configuration_of : Table → NumberedState → Configuration
 configuration_of t p = configuration_at t p.store p.works.items
 
-abbrev pub IsThere : Table → Place → Type 0
+abbrev pub IsThere : Table → NumberedState → Type 0
 IsThere t p = AreThere t p.store p.works.items

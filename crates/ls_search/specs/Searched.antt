@@ -16,13 +16,13 @@ use Rattle.ls_transitions.specs.Tables.{Table}
 use Rattle.ls_search.specs.declared.places.Looked.{Looked}
 use Rattle.ls_search.specs.declared.places.Looked.TheVariants as looked
 use Rattle.ls_search.specs.declared.places.Node.{Node}
-use Rattle.ls_search.specs.declared.places.Place.{Place}
+use Rattle.ls_search.specs.declared.places.NumberedState.{NumberedState}
 use Rattle.ls_search.specs.declared.places.Seen.{Seen}
 use Rattle.ls_search.specs.Places.{IsThere, configuration_of}
 use Rattle.ls_search.specs.Strides.{at_once}
 
 -- its numbers stand for something, and it has a work for each of so many threads
-pub record IsNode {S : Type 0} (t : Table) (states : List S) (threads : ℕ) (p : Place) : Type 0 where
+pub record IsNode {S : Type 0} (t : Table) (states : List S) (threads : ℕ) (p : NumberedState) : Type 0 where
   pub numbers : IsThere t p
   pub noted_there : p.noted < length states
   pub width : length p.works.items ≡ threads
@@ -74,7 +74,7 @@ abbrev pub seen_with : Seen → Looked → Seen
 seen_with seen l = record { acts = seen.acts || acts_of l; waits = seen.waits || waits_of l }
 
 module _ {S : Type 0} (first : S) where
-  abbrev pub noticed_at : Table → List S → Place → Noticed S
+  abbrev pub noticed_at : Table → List S → NumberedState → Noticed S
   noticed_at t states p = record {
     configuration = configuration_of t p;
     noted = slice_index_or states p.noted first;

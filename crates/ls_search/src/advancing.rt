@@ -9,7 +9,7 @@ ghost use Rattle.ls_search.specs.Places.{IsThere, configuration_of};
 ghost use Rattle.ls_search.specs.Strides.{HasStarted, IsAtOnce, at_once};
 
 use crate::moving::move_of;
-use crate::places::Place;
+use crate::places::NumberedState;
 use ls_events::action::Action;
 use ls_events::value::Value;
 use ls_transitions::moves::{Move, Step};
@@ -39,7 +39,7 @@ fn step_at_once(made: Move) -> Option<Step>
 }
 
 /// Goes to the state after a step of a thread.
-pub fn take(place: &mut Place, thread: usize, step: &Step)
+pub fn take(place: &mut NumberedState, thread: usize, step: &Step)
     requires { thread < length place.old.works.items }
     ensures store { place.new.store ≡ step.now.store }
     ensures works { place.new.works.items ≡ slice_set place.old.works.items thread step.now.work }
@@ -54,7 +54,7 @@ pub fn take(place: &mut Place, thread: usize, step: &Step)
 pub fn settle<'a>(
     alloc: Global,
     transitions: &mut Transitions<'a>,
-    place: &mut Place,
+    place: &mut NumberedState,
     thread: u8,
     most: usize,
 ) -> Result<usize, AllocError>

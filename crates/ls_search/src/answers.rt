@@ -22,7 +22,7 @@ use crate::closing::close;
 use crate::keeping::Nodes;
 use crate::noting::{Pool, keep_noted};
 use crate::paths::path_to;
-use crate::places::{Node, Place, Seen};
+use crate::places::{Node, NumberedState, Seen};
 use crate::searching::{Ground, Search, place_at};
 use ls_observers::observer::Observer;
 use ls_renumbering::renumbering::Renumbering;
@@ -49,7 +49,7 @@ pub struct Found {
 }
 
 /// Whether what is noted at a state is bad.
-fn is_bad_at<O: Observer>(observer: &O, pool: &Pool<O::Noted>, place: &Place) -> bool
+fn is_bad_at<O: Observer>(observer: &O, pool: &Pool<O::Noted>, place: &NumberedState) -> bool
     requires { place.now.noted < length pool.now.values.items }
     ensures { result ≡ O.bad observer.now
         (slice_index_or (map (O.stands observer.now) pool.now.values.items) place.now.noted (O.first observer.now)) }
@@ -133,7 +133,7 @@ pub(crate) fn start<'a, O: Observer>(
     } = root;
     let mut pool = Pool::new(ground.alloc);
     let noted = keep_noted(ground.alloc, ground.observer, &mut pool, noted)?;
-    let place = Place {
+    let place = NumberedState {
         store,
         works,
         noted,

@@ -3,27 +3,27 @@
 ghost use Rattle.std.specs.Prelude.{◌≡◌, ◌<◌, ◌≤◌, ◌⊎◌, ◌++◌, ◌∷◌, [], IfOk, IsTrue, OnOk, false, length};
 ghost use Rattle.ls_search.specs.Found.{HasPlace, Pushed};
 
-use crate::places::{Node, Place};
-use ls_observers::hashing::mixed;
-use ls_transitions::hints::Hints;
+use crate::places::{Node, NumberedState};
+use ls_observers::hashing::hashed;
+use ls_transitions::hash_index::HashIndex;
 use std::alloc::{AllocError, Global};
 
 /// The states that were found.
 #[derive(Drop)]
 pub struct Nodes {
     pub nodes: Vec<Node>,
-    hints: Hints,
+    hints: HashIndex,
 }
 
 const START: u64 = 0xcbf2_9ce4_8422_2325;
 
 /// A number made of a state, by which it is found. Nothing depends on it.
-fn sum_of(place: &Place) -> u64 {
-    let mut sum = mixed(mixed(START, place.store as u64), place.noted as u64);
+fn hash_of(place: &NumberedState) -> u64 {
+    let mut hash = hashed(hashed(START, place.store as u64), place.noted as u64);
     for work in &place.works {
-        sum = mixed(sum, *work as u64);
+        hash = hashed(hash, *work as u64);
     }
-    sum
+    hash
 }
 
 /// Whether works are the same, one by one.
@@ -34,7 +34,7 @@ fn are_same_works(works: &[usize], others: &[usize]) -> bool
 }
 
 /// Whether a state is the other.
-fn is_same_place(place: &Place, other: &Place) -> bool
+fn is_same_place(place: &NumberedState, other: &NumberedState) -> bool
     ensures store { IsTrue result → place.now.store ≡ other.now.store }
     ensures works { IsTrue result → place.now.works.items ≡ other.now.works.items }
     ensures noted { IsTrue result → place.now.noted ≡ other.now.noted }
@@ -45,7 +45,7 @@ fn is_same_place(place: &Place, other: &Place) -> bool
 }
 
 /// Whether the state at a place is this one. True only where it is.
-fn is_at(nodes: &[Node], at: usize, place: &Place) -> bool
+fn is_at(nodes: &[Node], at: usize, place: &NumberedState) -> bool
     ensures { IsTrue result → HasPlace nodes.now place.now }
 {
     match nodes.get(at) {
@@ -59,19 +59,19 @@ impl Nodes {
     pub fn first(alloc: Global, node: Node) -> Result<Nodes, AllocError>
         ensures { IfOk result (λ n. n.nodes.items ≡ node ∷ []) }
     {
-        let sum = sum_of(&node.place);
+        let hash = hash_of(&node.place);
         let mut nodes = Vec::new(alloc);
         nodes.push(node)?;
-        let mut hints = Hints::new(alloc);
-        hints.add(alloc, sum)?;
+        let mut hints = HashIndex::new(alloc);
+        hints.add(alloc, hash)?;
         Ok(Nodes { nodes, hints })
     }
 
     /// Whether a state is there. True only where it is.
-    fn has(&self, sum: u64, place: &Place) -> bool
+    fn has(&self, hash: u64, place: &NumberedState) -> bool
         ensures { IsTrue result → HasPlace self.now.nodes.items place.now }
     {
-        let mut hint = self.hints.last(sum);
+        let mut hint = self.hints.last(hash);
         for _ in 0..self.nodes.len() {
             let Some(at) = hint else {
                 return false;
@@ -92,14 +92,14 @@ impl Nodes {
         ensures same { IfOk result (λ kept. kept ≡ false → self.new.nodes.items ≡ self.old.nodes.items) }
         ensures few { OnOk result (length self.old.nodes.items ≤ limit → length self.new.nodes.items ≤ limit) }
     {
-        let sum = sum_of(&node.place);
-        if self.has(sum, &node.place) {
+        let hash = hash_of(&node.place);
+        if self.has(hash, &node.place) {
             return Ok(true);
         }
         if self.nodes.len() >= limit {
             return Ok(false);
         }
-        self.hints.add(alloc, sum)?;
+        self.hints.add(alloc, hash)?;
         self.nodes.push(node)?;
         Ok(true)
     }

@@ -8,7 +8,7 @@ ghost use Rattle.ls_transitions.specs.Seen.{table_of};
 ghost use Rattle.ls_search.specs.Places.{IsThere, configuration_of};
 ghost use Rattle.ls_search.specs.Strides.{HasStarted, IsStrideBy};
 
-use crate::places::Place;
+use crate::places::NumberedState;
 use ls_transitions::moves::Move;
 use ls_transitions::transitions::Transitions;
 use std::alloc::{AllocError, Global};
@@ -27,7 +27,7 @@ fn work_at(works: &[usize], thread: usize) -> Option<usize>
 pub fn has_setup_ended<'a>(
     alloc: Global,
     transitions: &mut Transitions<'a>,
-    place: &Place,
+    place: &NumberedState,
 ) -> Result<bool, AllocError>
     requires there { IsThere (table_of transitions.old) place.now }
     ensures ended { IfOk result
@@ -47,7 +47,7 @@ pub fn has_setup_ended<'a>(
 pub(crate) fn move_of<'a>(
     alloc: Global,
     transitions: &mut Transitions<'a>,
-    place: &Place,
+    place: &NumberedState,
     thread: usize,
 ) -> Result<Move, AllocError>
     requires there { IsThere (table_of transitions.old) place.now }

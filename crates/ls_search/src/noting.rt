@@ -10,14 +10,14 @@ use ls_events::action::Action;
 use ls_events::event::{Event, Happening};
 use ls_events::value::Value;
 use ls_observers::observer::Observer;
-use ls_transitions::hints::Hints;
+use ls_transitions::hash_index::HashIndex;
 use std::alloc::{AllocError, Global};
 
 /// Noted values, each by its number.
 #[derive(Drop)]
 pub struct Pool<N> {
     pub values: Vec<N>,
-    hints: Hints,
+    hints: HashIndex,
 }
 
 impl<N: Drop> Pool<N> {
@@ -29,7 +29,7 @@ impl<N: Drop> Pool<N> {
     {
         Pool {
             values: Vec::new(alloc),
-            hints: Hints::new(alloc),
+            hints: HashIndex::new(alloc),
         }
     }
 }

@@ -4,7 +4,7 @@ use std::alloc::AllocError;
 
 /// A state by numbers: of the store, of each thread's work, and of what is noted.
 #[derive(Drop)]
-pub struct Place {
+pub struct NumberedState {
     pub store: usize,
     pub works: Vec<usize>,
     pub noted: usize,
@@ -14,7 +14,7 @@ pub struct Place {
 /// found after none.
 #[derive(Drop)]
 pub struct Node {
-    pub place: Place,
+    pub place: NumberedState,
     pub before: usize,
     pub thread: u8,
     pub steps: usize,

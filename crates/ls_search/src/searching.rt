@@ -26,7 +26,7 @@ use crate::advancing::{settle, take};
 use crate::keeping::Nodes;
 use crate::moving::{has_setup_ended, move_of};
 use crate::noting::{Pool, note};
-use crate::places::{Looked, Node, Place, Seen};
+use crate::places::{Looked, Node, NumberedState, Seen};
 use ls_checked::program::Program;
 use ls_checked::tree::File;
 use ls_observers::observer::Observer;
@@ -63,12 +63,12 @@ pub struct Search<'a, N> {
 /// A state after an action, and how many steps were taken at once after that.
 #[derive(Drop)]
 struct After {
-    place: Place,
+    place: NumberedState,
     steps: usize,
 }
 
 /// The state at a place.
-pub fn place_at(nodes: &[Node], at: usize) -> &Place
+pub fn place_at(nodes: &[Node], at: usize) -> &NumberedState
     requires { at < length nodes.now }
     ensures { (n : NodeValue) × (slice_get nodes.now at ≡ Some n) × (result.now ≡ n.place) }
 {
@@ -87,13 +87,13 @@ fn copy_works(alloc: Global, works: &[usize]) -> Result<Vec<usize>, AllocError>
 }
 
 /// The same state. The only refusal is that memory ran out.
-pub fn copy_place(alloc: Global, place: &Place) -> Result<Place, AllocError>
+pub fn copy_place(alloc: Global, place: &NumberedState) -> Result<NumberedState, AllocError>
     ensures store { IfOk result (λ p. p.store ≡ place.now.store) }
     ensures works { IfOk result (λ p. p.works.items ≡ place.now.works.items) }
     ensures noted { IfOk result (λ p. p.noted ≡ place.now.noted) }
 {
     let works = copy_works(alloc, &place.works)?;
-    Ok(Place {
+    Ok(NumberedState {
         store: place.store,
         works,
         noted: place.noted,
@@ -112,7 +112,7 @@ fn has_started(thread: usize, ended: bool) -> bool
 pub fn step_from<'a>(
     alloc: Global,
     transitions: &mut Transitions<'a>,
-    place: &Place,
+    place: &NumberedState,
     thread: usize,
     ended: bool,
 ) -> Result<Move, AllocError>
@@ -137,8 +137,8 @@ pub fn renumber<'a>(
     alloc: Global,
     transitions: &mut Transitions<'a>,
     renumbering: &mut Renumbering,
-    place: Place,
-) -> Result<Place, AllocError>
+    place: NumberedState,
+) -> Result<NumberedState, AllocError>
     requires there { IsThere (table_of transitions.old) place }
     requires constants { FileHasConstants (table_of transitions.old).file }
     ensures other { IfOk result (λ p. IsOther (configuration_of (table_of transitions.new) p)
@@ -150,7 +150,7 @@ pub fn renumber<'a>(
 {
     match renumbering.renumber(alloc, transitions, place.store, &place.works)? {
         None => Ok(place),
-        Some(numbered) => Ok(Place {
+        Some(numbered) => Ok(NumberedState {
             store: numbered.store,
             works: numbered.works,
             noted: place.noted,
@@ -164,7 +164,7 @@ fn go_on<'a, O: Observer>(
     transitions: &mut Transitions<'a>,
     renumbering: &mut Renumbering,
     pool: &mut Pool<O::Noted>,
-    place: &Place,
+    place: &NumberedState,
     thread: u8,
     step: &Step,
 ) -> Result<After, AllocError>

@@ -10,8 +10,8 @@ use Rattle.ls_serial_search.specs.Open.{HasLongCall, HasManyOrders}
 use Rattle.ls_serial_search.specs.Told.{usual}
 use Rattle.ls_report.specs.Events.{Text}
 use Rattle.ls_serial_orders.specs.Calls.{calls_of}
-use Rattle.ls_serial_orders.specs.declared.finding.Outcome.{Outcome}
-use Rattle.ls_serial_orders.specs.declared.finding.Outcome.TheVariants as outcomes
+use Rattle.ls_serial_orders.specs.declared.finding.SerialAnswer.{SerialAnswer}
+use Rattle.ls_serial_orders.specs.declared.finding.SerialAnswer.TheVariants as outcomes
 
 -- ---- orders
 
@@ -38,7 +38,7 @@ pub record IsHopeless (file : File) (program : Program) (h : List RunEvent) (at 
 
 -- An order explains the history. Or none does from an event on, and one explains the events before that event. Or it
 -- isn't known, since a call alone doesn't end, or there are too many orders.
-abbrev pub IsOutcome : File → Program → List RunEvent → Outcome → Type 0
+abbrev pub IsOutcome : File → Program → List RunEvent → SerialAnswer → Type 0
 IsOutcome file program h (outcomes.Ordered order) = IsOrderOf file program h (map string_bytes order.items)
 IsOutcome file program h (outcomes.Hopeless at order) = IsHopeless file program h at ×
     IsOrderOf file program (take at h) (map string_bytes order.items)

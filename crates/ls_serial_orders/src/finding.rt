@@ -17,7 +17,7 @@ use std::alloc::{AllocError, Global};
 
 /// Whether an order of whole calls explains a history, and from which event on none does.
 #[derive(Drop)]
-pub enum Outcome {
+pub enum SerialAnswer {
     /// The calls of methods of such an order, by their texts.
     Ordered(Vec<String>),
     /// The place, from 0, of the event from which on none does, and an order of the events before it.
@@ -72,8 +72,12 @@ fn order_of(
 }
 
 /// The event from which on no order explains a history, and an order of the events before it. The place is found by
-/// halves.
-fn find_hopeless(alloc: Global, known: &Known<'_>, history: &[Event]) -> Result<Outcome, AllocError>
+/// bisect.
+fn find_hopeless(
+    alloc: Global,
+    known: &Known<'_>,
+    history: &[Event],
+) -> Result<SerialAnswer, AllocError>
     requires known { IsKnown known.now }
     requires complete { is_complete known.now ≡ true }
     requires none { IsLinearizable (file_of known.now) (program_of known.now) history.now → ⊥ }
@@ -82,7 +86,7 @@ fn find_hopeless(alloc: Global, known: &Known<'_>, history: &[Event]) -> Result<
     let mut at = 0;
     let mut order = Vec::new(alloc);
     let mut hopeless = history.len();
-    'halves: while hopeless - at > 1 {
+    'bisect: while hopeless - at > 1 {
         let middle = at + (hopeless - at) / 2;
         match order_of(alloc, known, &history[..middle])? {
             Some(found) => {
@@ -92,23 +96,27 @@ fn find_hopeless(alloc: Global, known: &Known<'_>, history: &[Event]) -> Result<
             None => hopeless = middle,
         }
     }
-    Ok(Outcome::Hopeless { at, order })
+    Ok(SerialAnswer::Hopeless { at, order })
 }
 
 /// Why it isn't known whether an order explains a history.
-fn unknown(known: &Known<'_>) -> Outcome
+fn unknown(known: &Known<'_>) -> SerialAnswer
     requires known { IsKnown known.now }
     requires cut { is_complete known.now ≡ false }
     ensures { (history : List EventValue) → IsOutcome (file_of known.now) (program_of known.now) history result }
 {
     if known.search.many {
-        return Outcome::ManyOrders;
+        return SerialAnswer::ManyOrders;
     }
-    Outcome::LongCall
+    SerialAnswer::LongCall
 }
 
 /// What the serial runs say of a history that none of them explains.
-fn unexplained(alloc: Global, known: &Known<'_>, history: &[Event]) -> Result<Outcome, AllocError>
+fn unexplained(
+    alloc: Global,
+    known: &Known<'_>,
+    history: &[Event],
+) -> Result<SerialAnswer, AllocError>
     requires known { IsKnown known.now }
     requires none { is_complete known.now ≡ true →
         IsLinearizable (file_of known.now) (program_of known.now) history.now → ⊥ }
@@ -122,12 +130,12 @@ fn unexplained(alloc: Global, known: &Known<'_>, history: &[Event]) -> Result<Ou
 
 /// What the serial runs say of a history: an order of whole calls that explains it, or else the event from which on
 /// none does. The only refusal is that memory ran out.
-pub fn find(alloc: Global, known: &Known<'_>, history: &[Event]) -> Result<Outcome, AllocError>
+pub fn find(alloc: Global, known: &Known<'_>, history: &[Event]) -> Result<SerialAnswer, AllocError>
     requires { IsKnown known.now }
     ensures { IfOk result (IsOutcome (file_of known.now) (program_of known.now) history.now) }
 {
     match order_of(alloc, known, history)? {
-        Some(order) => Ok(Outcome::Ordered(order)),
+        Some(order) => Ok(SerialAnswer::Ordered(order)),
         None => unexplained(alloc, known, history),
     }
 }

@@ -7,6 +7,6 @@ pub mod laws;
 mod naming;
 mod telling;
 
-pub use finding::{Known, Outcome, find, known_of};
+pub use finding::{Known, SerialAnswer, find, known_of};
 pub use naming::{Named, run_of};
 pub use telling::{tell, tell_known};

@@ -14,7 +14,7 @@ ghost use Rattle.ls_serial_orders.specs.Named.{AreNamed};
 ghost use Rattle.ls_serial_orders.specs.Orders.{IsOutcome};
 ghost use Rattle.ls_serial_orders.specs.Telling.{Tells};
 
-use crate::finding::{Known, Outcome, find, known_of};
+use crate::finding::{Known, SerialAnswer, find, known_of};
 use ls_checked::program::Program;
 use ls_checked::tree::File;
 use ls_events::event::Event;
@@ -59,7 +59,7 @@ fn outcome_text(
     alloc: Global,
     program: &Program,
     history: &[Event],
-    outcome: &Outcome,
+    outcome: &SerialAnswer,
 ) -> Result<String, AllocError>
     requires { (file : FileValue) × IsOutcome file (plain_program program.now) history.now outcome.now }
     ensures { IfOk result (λ text. (file : FileValue) (events : List NamedValue) →
@@ -68,19 +68,19 @@ fn outcome_text(
         Tells file (plain_program program.now) history.now events (string_bytes text)) }
 {
     match outcome {
-        Outcome::Ordered(order) => {
+        SerialAnswer::Ordered(order) => {
             let text = order_line(alloc, order.as_slice())?;
             Ok(text)
         }
-        Outcome::Hopeless { at, order } => {
+        SerialAnswer::Hopeless { at, order } => {
             let text = hopeless_text(alloc, program, history[*at], *at, order.as_slice())?;
             Ok(text)
         }
-        Outcome::LongCall => {
+        SerialAnswer::LongCall => {
             let text = String::from_str(alloc, "not judged: a call goes on\n")?;
             Ok(text)
         }
-        Outcome::ManyOrders => {
+        SerialAnswer::ManyOrders => {
             let text = String::from_str(alloc, "not judged: too many orders\n")?;
             Ok(text)
         }

@@ -21,7 +21,7 @@ use Rattle.ls_meaning.specs.Course.{Answers, Evaluated, Results, Throws, ask}
 use Rattle.ls_meaning.specs.Expressions.{Calls, operate, value_in, field_in, field_of, call, argument}
 use Rattle.ls_types_judgement.specs.Sorts.{HasType, HasSort, HaveTypes}
 use Rattle.ls_types_judgement.specs.Typing.{result_type}
-use Rattle.ls_headline.specs.Sorts.{fields_by, fields_of}
+use Rattle.ls_preservation.specs.Sorts.{fields_by, fields_of}
 use Rattle.ls_soundness.proofs.Values.{div_fits, reference_has, pair_reference, value_at}
 use Rattle.ls_soundness.proofs.Ways.{Way, Good, results_good, throws_good, then_good, weaken, ask_good, either_good}
 use Rattle.ls_soundness.proofs.Ways.{null_good}

@@ -10,14 +10,14 @@ use Rattle.ls_checked.specs.CheckedTree.{Class, Method}
 use Rattle.ls_checked.specs.CheckedProgram.{ThreadProgram, ProgramCall, Making, Calling}
 use Rattle.ls_meaning.specs.declared.sort.Sort.TheVariants.{NoValue}
 use Rattle.ls_types_judgement.specs.Typing.{IsTypedMethod, IsTypedFile, parameters_of}
-use Rattle.ls_headline.specs.Example.{file, program}
+use Rattle.ls_preservation.specs.Example.{file, program}
 use Rattle.ls_types_judgement.specs.Completion.{can_complete}
 use Rattle.ls_types_judgement.specs.Leaving.{JumpsInLoops}
 use Rattle.ls_types_judgement.specs.Classes.{HasItsClasses}
 use Rattle.ls_types_judgement.specs.Jumps.{HasItsLoops, HasItsEnds}
 use Rattle.ls_types_judgement.specs.Limits.{IsRanged, IsRangedProgram}
 use Rattle.ls_types_judgement.specs.WellTyped.{IsWellTyped, IsWellTypedProgram}
-use Rattle.ls_headline.proofs.ExampleSound.{example_constants}
+use Rattle.ls_preservation.proofs.ExampleSound.{example_constants}
 use Rattle.ls_types_judgement.specs.Programs.{AreArguments, IsTypedCalling, IsTypedCall, IsTypedProgram}
 use Rattle.ls_soundness.specs.Cases.{with_call, of_no_name, of_no_method, with_argument, for_an_int, Arguments}
 use Rattle.ls_soundness.specs.Cases.{NoArguments, Pairs}

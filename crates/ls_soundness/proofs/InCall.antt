@@ -25,7 +25,7 @@ use Rattle.ls_refs.specs.Laws as refs
 use Rattle.ls_refs.specs.Laws.{AsksAsFile, answer_word, answer_words, in_words}
 use Rattle.ls_refs.proofs.Sim as sim
 use Rattle.ls_refs.proofs.Methods.{calls_agree, asks_as_file}
-use Rattle.ls_headline.specs.Sorts.{HasSortBy, Suits, Suited}
+use Rattle.ls_preservation.specs.Sorts.{HasSortBy, Suits, Suited}
 use Rattle.ls_soundness.specs.InCall.{then_next, InCall}
 use Rattle.ls_soundness.proofs.Threads.{suited_same}
 use Rattle.ls_soundness.proofs.Split.{End, Gave, Threw, refs_same, EndHas, call_end, thread_end, Past, Split, Goes_on}

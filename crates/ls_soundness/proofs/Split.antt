@@ -18,7 +18,7 @@ use Rattle.ls_meaning.specs.Threads.{Next, Goes}
 use Rattle.ls_types_judgement.specs.Sorts.{HasType, HasSort, HaveTypes}
 use Rattle.ls_types_judgement.specs.Typing.{IsTypedFile, answer_sort, parameters_of}
 use Rattle.ls_refs.specs.Laws as refs
-use Rattle.ls_headline.specs.Sorts.{CanFail, Suits, Suited}
+use Rattle.ls_preservation.specs.Sorts.{CanFail, Suits, Suited}
 use Rattle.ls_soundness.specs.InCall.{then_next}
 use Rattle.ls_soundness.proofs.Values.{Makes, sort_of_answer}
 use Rattle.ls_meaning.proofs.Followers.{ends}

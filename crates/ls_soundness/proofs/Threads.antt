@@ -20,8 +20,8 @@ use Rattle.ls_meaning.specs.Threads.{Next, Goes, Ended, Trapped, result_by, resu
 use Rattle.ls_meaning.specs.Threads.{one_call, event, after_call, all_calls, calls_in}
 use Rattle.ls_types_judgement.specs.Sorts.{HasType, HasSort, HaveTypes}
 use Rattle.ls_types_judgement.specs.Typing.{IsTypedFile, answer_sort}
-use Rattle.ls_headline.specs.Sorts.{Refers, Names, NameHas, call_at, Returns, ActionHas, Suits, Suited}
-use Rattle.ls_headline.specs.Threads.{IsSound}
+use Rattle.ls_preservation.specs.Sorts.{Refers, Names, NameHas, call_at, Returns, ActionHas, Suits, Suited}
+use Rattle.ls_preservation.specs.Threads.{IsSound}
 use Rattle.ls_types_judgement.specs.Classes.{HasItsClasses}
 use Rattle.ls_types_judgement.specs.Programs.{IsArgument, AreArguments, IsPlainResult, IsTypedMaking, IsTypedCalling}
 use Rattle.ls_types_judgement.specs.Programs.{IsTypedCall, IsTypedProgram}

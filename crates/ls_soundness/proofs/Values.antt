@@ -12,7 +12,7 @@ use Rattle.ls_meaning.specs.declared.sort.Sort.{Sort}
 use Rattle.ls_meaning.specs.declared.sort.Sort.TheVariants.{NoValue, ValueOf, NewOf, PairOf}
 use Rattle.ls_meaning.specs.Values.{reference_of, nothing, start_of}
 use Rattle.ls_types_judgement.specs.Sorts.{HasType, HasSort, HaveTypes, IsPair}
-use Rattle.ls_headline.specs.Sorts.{HasTypeBy, HasSortBy}
+use Rattle.ls_preservation.specs.Sorts.{HasTypeBy, HasSortBy}
 
 -- a quotient fits in 32 bits
 pub div_fits : (x y : ℤ) → FitsSigned w32 (int_wrapping_div w32 x y)

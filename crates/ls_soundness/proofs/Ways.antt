@@ -22,7 +22,7 @@ use Rattle.ls_meaning.specs.Course.{Answers, Evaluated, Results, Throws, ask, te
 use Rattle.ls_meaning.specs.Threads.{Goes}
 use Rattle.ls_meaning.proofs.Followers.{ends, ends_with}
 use Rattle.ls_types_judgement.specs.Sorts.{HasType, HasSort}
-use Rattle.ls_headline.specs.Sorts.{HasSortBy, Suits, fields_of}
+use Rattle.ls_preservation.specs.Sorts.{HasSortBy, Suits, fields_of}
 use Rattle.ls_soundness.proofs.Values.{Makes, sort_of_answer}
 
 -- a reference that isn't null, of a type

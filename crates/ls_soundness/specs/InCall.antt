@@ -21,7 +21,7 @@ use Rattle.ls_types_judgement.specs.Sorts.{HasType, HasSort, HaveTypes}
 use Rattle.ls_types_judgement.specs.Typing.{answer_sort, parameters_of}
 use Rattle.ls_refs_expressions.specs.Lowered.{lowered_file}
 use Rattle.ls_refs.specs.Laws.{answer_words, in_words}
-use Rattle.ls_headline.specs.Sorts.{Suited}
+use Rattle.ls_preservation.specs.Sorts.{Suited}
 use Rattle.ls_types_judgement.specs.Programs.{IsTypedMaking, IsTypedCalling}
 
 -- what a thread does next: what a call asks for, or what comes after the call's result or exception

@@ -2,8 +2,8 @@
 
 ghost use Rattle.ls_checked.specs.CheckedTree.{File};
 ghost use Rattle.ls_checked.specs.CheckedProgram.{Program};
-ghost use Rattle.ls_headline.specs.Threads.{IsSound};
-ghost use Rattle.ls_headline.specs.Example;
+ghost use Rattle.ls_preservation.specs.Threads.{IsSound};
+ghost use Rattle.ls_preservation.specs.Example;
 ghost use Rattle.ls_types_judgement.specs.Typing.{IsTypedFile};
 ghost use Rattle.ls_types_judgement.specs.Classes.{HasItsClasses};
 ghost use Rattle.ls_types_judgement.specs.WellTyped.{IsWellTyped, IsWellTypedProgram};

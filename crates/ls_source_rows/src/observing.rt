@@ -8,7 +8,7 @@ use ls_events::event::{Event, Happening};
 use ls_events::kind::Kind;
 use ls_events::same::are_same_events;
 use ls_events::value::Value;
-use ls_observers::hashing::mixed;
+use ls_observers::hashing::hashed;
 use ls_observers::observer::Observer;
 use std::alloc::{AllocError, Global};
 
@@ -30,32 +30,35 @@ fn number_of_kind(kind: Kind) -> u64 {
 }
 
 /// A number made of another and of a value.
-fn mixed_value(sum: u64, value: Value) -> u64 {
+fn hash_of_value(hash: u64, value: Value) -> u64 {
     match value {
-        Value::Int(n) => mixed(
-            mixed(sum, if n < 0 { 1 } else { 2 }),
+        Value::Int(n) => hashed(
+            hashed(hash, if n < 0 { 1 } else { 2 }),
             n.unsigned_abs() as u64,
         ),
-        Value::Boolean(flag) => mixed(sum, if flag { 3 } else { 4 }),
-        Value::Reference(number) => mixed(mixed(sum, 5), number),
-        Value::Pair { reference, mark } => mixed(mixed(sum, if mark { 6 } else { 7 }), reference),
+        Value::Boolean(flag) => hashed(hash, if flag { 3 } else { 4 }),
+        Value::Reference(number) => hashed(hashed(hash, 5), number),
+        Value::Pair { reference, mark } => hashed(
+            hashed(hash, if mark { 6 } else { 7 }),
+            reference,
+        ),
     }
 }
 
 /// A number made of another and of what happened to a call.
-fn mixed_happening(sum: u64, happening: Happening) -> u64 {
+fn hash_of_happening(hash: u64, happening: Happening) -> u64 {
     match happening {
-        Happening::Called => mixed(sum, 8),
-        Happening::Returned(None) => mixed(sum, 9),
-        Happening::Returned(Some(value)) => mixed_value(mixed(sum, 10), value),
-        Happening::Trapped(kind) => mixed(mixed(sum, 11), number_of_kind(kind)),
+        Happening::Called => hashed(hash, 8),
+        Happening::Returned(None) => hashed(hash, 9),
+        Happening::Returned(Some(value)) => hash_of_value(hashed(hash, 10), value),
+        Happening::Trapped(kind) => hashed(hashed(hash, 11), number_of_kind(kind)),
     }
 }
 
 /// A number made of another and of an event.
-fn mixed_event(sum: u64, event: &Event) -> u64 {
-    mixed_happening(
-        mixed(mixed(sum, event.thread as u64), event.call as u64),
+fn hash_of_event(hash: u64, event: &Event) -> u64 {
+    hash_of_happening(
+        hashed(hashed(hash, event.thread as u64), event.call as u64),
         event.happening,
     )
 }
@@ -100,11 +103,11 @@ impl Observer for Histories {
     }
 
     fn hash(&self, noted: &Vec<Event>) -> u64 {
-        let mut sum = 0;
+        let mut hash = 0;
         for event in noted {
-            sum = mixed_event(sum, event);
+            hash = hash_of_event(hash, event);
         }
-        sum
+        hash
     }
 
     fn is_bad(&self, _noted: &Vec<Event>) -> bool {

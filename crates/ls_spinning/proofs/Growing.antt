@@ -10,7 +10,7 @@ use Rattle.ls_search_laws.specs.Configuration.{Configuration, Stride, stride}
 use Rattle.ls_transitions.specs.declared.moves.Step.{Step}
 use Rattle.ls_transitions.specs.Tables.{Table, Grows, Keeps}
 use Rattle.ls_transitions.proofs.Keeping.{there}
-use Rattle.ls_search.specs.declared.places.Place.{Place}
+use Rattle.ls_search.specs.declared.places.NumberedState.{NumberedState}
 use Rattle.ls_search.specs.Places.{AreThere, configuration_at, configuration_of}
 use Rattle.ls_search.specs.Strides.{ActsBy}
 use Rattle.ls_search.proofs.Pairs.{keeps_pushed, map_there, pushed_where}
@@ -123,7 +123,7 @@ module _ (file : File) (threads : ℕ) (t t' : Table) (grows : Grows t t') where
 
 -- a thread that acts leads to the one that is at a place
 pub acts_in : (file : File) (t t' : Table) (spots new : List Spot) (most at : ℕ) (s : Spot) (u : ℕ) (step : Step)
-    (p : Place) (steps to : ℕ) (c : Configuration) →
+    (p : NumberedState) (steps to : ℕ) (c : Configuration) →
     t.file ≡ file →
     slice_get spots at ≡ Some s →
     ActsBy t s.place.works.items u step (stride t.file (configuration_of t s.place) u) →

@@ -4,7 +4,7 @@ use Rattle.ls_checked.specs.CheckedTree.{File}
 use Rattle.ls_meaning.specs.Constants.{FileHasConstants}
 use Rattle.ls_search_laws.specs.Configuration.{Configuration}
 use Rattle.ls_search.specs.Places.{IsThere, configuration_of}
-use Rattle.ls_search.specs.declared.places.Place.{Place}
+use Rattle.ls_search.specs.declared.places.NumberedState.{NumberedState}
 use Rattle.ls_transitions.specs.declared.moves.Move.{Move}
 use Rattle.ls_transitions.specs.declared.moves.Move.TheVariants as moves
 use Rattle.ls_transitions.specs.Tables.{Table, Keeps}
@@ -15,7 +15,7 @@ use Rattle.ls_spinning.specs.declared.graph.Sight.{Sight}
 use Rattle.ls_spinning.specs.declared.spots.Spot.{Spot}
 
 -- the one at a place is this state
-pub record IsPlaceAt (spots : List Spot) (p : Place) (at : ℕ) : Type 0 where
+pub record IsPlaceAt (spots : List Spot) (p : NumberedState) (at : ℕ) : Type 0 where
   pub spot : Spot
   pub here : slice_get spots at ≡ Some spot
   pub store : spot.place.store ≡ p.store

@@ -21,7 +21,7 @@ use ls_events::schedule::Schedule;
 use ls_renaming::constants::file_has_constants;
 use ls_renumbering::renumbering::Renumbering;
 use ls_run_search::numbering::{Numbered, number};
-use ls_search::places::Place;
+use ls_search::places::NumberedState;
 use ls_source::playing::Playing;
 use std::alloc::{AllocError, Global};
 
@@ -72,7 +72,7 @@ pub(crate) fn led_from<'a>(
         works,
     } = number(alloc, &playing)?;
     let root = Spot {
-        place: Place {
+        place: NumberedState {
             store,
             works,
             noted: 0,

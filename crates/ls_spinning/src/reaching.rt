@@ -23,7 +23,7 @@ use ls_events::value::Value;
 use ls_renumbering::renumbering::Renumbering;
 use ls_search::advancing::{settle, take};
 use ls_search::noting::event_of;
-use ls_search::places::Place;
+use ls_search::places::NumberedState;
 use ls_search::searching::{copy_place, renumber, step_from};
 use ls_transitions::moves::{Move, Step};
 use ls_transitions::transitions::Transitions;
@@ -32,7 +32,7 @@ use std::alloc::{AllocError, Global};
 /// A state after a step of a thread, and how many of its steps were taken at once after that.
 #[derive(Drop)]
 pub struct After {
-    pub place: Place,
+    pub place: NumberedState,
     pub steps: usize,
 }
 
@@ -41,7 +41,7 @@ fn place_after<'a>(
     ground: &Ground<'_>,
     transitions: &mut Transitions<'a>,
     renumbering: &mut Renumbering,
-    place: &Place,
+    place: &NumberedState,
     thread: u8,
     step: &Step,
 ) -> Result<After, AllocError>

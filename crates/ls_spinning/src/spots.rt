@@ -3,16 +3,16 @@
 ghost use Rattle.std.specs.Prelude.{◌≡◌, ◌∷◌, [], IfOk, IfSome, IsTrue, OnOk};
 ghost use Rattle.ls_spinning.specs.Spots.{IsPlaceAt, Pushed};
 
-use ls_observers::hashing::mixed;
-use ls_search::places::Place;
-use ls_transitions::hints::Hints;
+use ls_observers::hashing::hashed;
+use ls_search::places::NumberedState;
+use ls_transitions::hash_index::HashIndex;
 use std::alloc::{AllocError, Global};
 
 /// A state that was reached: after the one at an earlier place by a step of a thread and so many steps at once.
 /// The first comes after none.
 #[derive(Drop)]
 pub struct Spot {
-    pub place: Place,
+    pub place: NumberedState,
     pub before: usize,
     pub thread: u8,
     pub steps: usize,
@@ -22,16 +22,16 @@ pub struct Spot {
 #[derive(Drop)]
 pub struct Spots {
     pub spots: Vec<Spot>,
-    hints: Hints,
+    hints: HashIndex,
 }
 
 const START: u64 = 0xcbf2_9ce4_8422_2325;
 
 /// A number made of a state, by which it is found. Nothing depends on it.
-fn sum_of(place: &Place) -> u64 {
-    let mut sum = mixed(START, place.store as u64);
+fn sum_of(place: &NumberedState) -> u64 {
+    let mut sum = hashed(START, place.store as u64);
     for work in &place.works {
-        sum = mixed(sum, *work as u64);
+        sum = hashed(sum, *work as u64);
     }
     sum
 }
@@ -44,7 +44,7 @@ fn are_same_works(works: &[usize], others: &[usize]) -> bool
 }
 
 /// Whether a state is the other.
-fn is_same_place(place: &Place, other: &Place) -> bool
+fn is_same_place(place: &NumberedState, other: &NumberedState) -> bool
     ensures store { IsTrue result → place.now.store ≡ other.now.store }
     ensures works { IsTrue result → place.now.works.items ≡ other.now.works.items }
 {
@@ -52,7 +52,7 @@ fn is_same_place(place: &Place, other: &Place) -> bool
 }
 
 /// Whether the state at a place is this one. True only where it is.
-fn is_at(spots: &[Spot], at: usize, place: &Place) -> bool
+fn is_at(spots: &[Spot], at: usize, place: &NumberedState) -> bool
     ensures { IsTrue result → IsPlaceAt spots.now place.now at }
 {
     match spots.get(at) {
@@ -69,13 +69,13 @@ impl Spots {
         let sum = sum_of(&spot.place);
         let mut spots = Vec::new(alloc);
         spots.push(spot)?;
-        let mut hints = Hints::new(alloc);
+        let mut hints = HashIndex::new(alloc);
         hints.add(alloc, sum)?;
         Ok(Spots { spots, hints })
     }
 
     /// Where a state is, if it was found.
-    fn find(&self, sum: u64, place: &Place) -> Option<usize>
+    fn find(&self, sum: u64, place: &NumberedState) -> Option<usize>
         ensures { IfSome result (IsPlaceAt self.now.spots.items place.now) }
     {
         let mut hint = self.hints.last(sum);

@@ -6,7 +6,7 @@ use Rattle.std.specs.List.{range_with_len}
 use Rattle.std.proofs.lemmas.List.{length-append}
 use Rattle.std.proofs.lemmas.List.FromFn.{length-map-range_with_len}
 use Rattle.ls_checked.specs.CheckedProgram.{Program, ThreadProgram}
-use Rattle.ls_headline.specs.Same.{IsCells}
+use Rattle.ls_preservation.specs.Same.{IsCells}
 use Rattle.ls_image.specs.declared.image.Image.{Image}
 use Rattle.ls_image.specs.Images.{Compiles, code_of_image}
 use Rattle.ls_report.specs.Events.{Text}
@@ -14,7 +14,7 @@ use Rattle.ls_report.specs.Printing.{run_text}
 use Rattle.ls_report.proofs.CutLemmas.{none_is, some_is}
 use Rattle.ls_batch.specs.Printing.{entry_text, head_text, tally_text}
 use Rattle.ls_batch.specs.Samples.{histories_of, history_of, seed_schedule}
-use Rattle.ls_batch.specs.declared.samples.Drawing.{Drawing}
+use Rattle.ls_batch.specs.declared.samples.Sampler.{Sampler}
 use Rattle.ls_batch.proofs.Replayed.{seeds_replay}
 use Rattle.ls_batch_tally.specs.Tallies as counted
 use Rattle.ls_batch_tally.specs.Tallies.{History, IsTally}
@@ -97,20 +97,20 @@ module _ (classes text : Text) (image : Image) (h : Compiles classes text image)
       → i ≡ j
   once_named = (program_names _ text (program_in image) h.reads).once
 
-  seed_readable : (seed : ℕ) (d : Drawing)
+  seed_readable : (seed : ℕ) (d : Sampler)
       → IsReadable (program_in image) (history_of (code_of_image image) cells seed d)
   seed_readable seed d =
       subst (IsReadable (program_in image)) (sym (seeds_replay (code_of_image image) cells seed d).history)
       (compiled_is_readable classes text image h cells within (seed_schedule (code_of_image image) cells seed d))
 
-  each_readable : (first n : ℕ) (d : Drawing) (k : ℕ) (g : History)
+  each_readable : (first n : ℕ) (d : Sampler) (k : ℕ) (g : History)
       → slice_get (histories_of (code_of_image image) cells first n d) k ≡ Some g
       → IsReadable (program_in image) g
   each_readable first n d k g e =
       let i = got_map (λ i. history_of (code_of_image image) cells (first + i) d) (range_with_len 0 n) k g e in
       subst (IsReadable (program_in image)) i.2 (seed_readable (first + i.0) d)
 
-  seeds_apart : (first n : ℕ) (d : Drawing) (all : List counted.Row)
+  seeds_apart : (first n : ℕ) (d : Sampler) (all : List counted.Row)
       → IsTally (histories_of (code_of_image image) cells first n d) first all
       → length (tally_text (program_in image) all) < 2 ^ 64
       → AreToldApart (program_in image) (histories_of (code_of_image image) cells first n d)

@@ -3,14 +3,14 @@ use Rattle.std.specs.Prelude.{◌≡◌, ◌+◌, ◌<◌, ◌^◌, ℕ, List, �
 use Rattle.ls_checked.specs.CheckedProgram.{Program}
 use Rattle.ls_checked.specs.PlainProgram.{plain_program}
 use Rattle.ls_code.specs.Machine.{machine_history}
-use Rattle.ls_headline.specs.Same.{IsCells}
+use Rattle.ls_preservation.specs.Same.{IsCells}
 use Rattle.ls_image.specs.declared.image.Image.{Image}
 use Rattle.ls_image.specs.Images.{Compiles, code_of_image, program_of_image}
 use Rattle.ls_report.specs.Events.{Text}
 use Rattle.ls_report.specs.Printing.{run_text}
 use Rattle.ls_batch.specs.Printing.{tally_text}
 use Rattle.ls_batch.specs.Samples.{histories_of}
-use Rattle.ls_batch.specs.declared.samples.Drawing.{Drawing}
+use Rattle.ls_batch.specs.declared.samples.Sampler.{Sampler}
 use Rattle.ls_batch_tally.specs.Tallies as counted
 use Rattle.ls_batch_tally.specs.Tallies.{History, IsTally}
 use Rattle.ls_tallies.specs.Printing.{rows_text}
@@ -40,7 +40,7 @@ TextsTellApart =
 
 -- Tallies of the n seeds from `first` on, of the m seeds after these, and of all of them, of one code, number of cells
 -- and drawing. The text of the tally of all has fewer than 2^64 bytes, as each string has.
-pub record AreTallies (image : Image) (cells first n m : ℕ) (d : Drawing) (left right all : List counted.Row)
+pub record AreTallies (image : Image) (cells first n m : ℕ) (d : Sampler) (left right all : List counted.Row)
     : Type 0 where
   pub cells_fit : IsCells (code_of_image image) cells
   pub left_is : IsTally (histories_of (code_of_image image) cells first n d) first left
@@ -52,7 +52,7 @@ pub record AreTallies (image : Image) (cells first n m : ℕ) (d : Drawing) (lef
 abbrev pub BatchesMerge : Type 0
 BatchesMerge =
     (classes text : Text) (image : Image) → Compiles classes text image
-    → (cells first n m : ℕ) (d : Drawing) (left right all : List counted.Row)
+    → (cells first n m : ℕ) (d : Sampler) (left right all : List counted.Row)
     → AreTallies image cells first n m d left right all
     → IsMerge (map (text_row (program_in image)) (left ++ right)) (map (text_row (program_in image)) all)
 
@@ -60,7 +60,7 @@ BatchesMerge =
 abbrev pub MergesPrintTheTally : Type 0
 MergesPrintTheTally =
     (classes text : Text) (image : Image) → Compiles classes text image
-    → (cells first n m : ℕ) (d : Drawing) (left right all : List counted.Row)
+    → (cells first n m : ℕ) (d : Sampler) (left right all : List counted.Row)
     → AreTallies image cells first n m d left right all
     → (merge : List Row)
     → IsMerge (map (text_row (program_in image)) (left ++ right)) merge

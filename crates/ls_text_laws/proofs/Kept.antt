@@ -27,13 +27,13 @@ use Rattle.ls_meaning.specs.Effect.{Effect, Waits, Does, Change, Stays, Leaves, 
 use Rattle.ls_meaning.specs.Effect.{held_more, held_less, locking, trying, unlocking, asking_held, with_hold, on_lock}
 use Rattle.ls_meaning.specs.Effect.{on_monitor, same_pair, change, on_thing, put_back, making, fields_in, effect}
 use Rattle.ls_meaning.specs.Threads.{Goes}
-use Rattle.ls_headline.specs.Sorts.{Refers, HasSortBy, HasType, NameHas, fields_by, fields_of, ActionHas, Suits}
-use Rattle.ls_headline.proofs.Lists.{index_there, get_end}
-use Rattle.ls_headline.proofs.Effects.{HaveTypes, IsHold, ThingHas, ThingsHave, Extends, thing_more, things_more}
-use Rattle.ls_headline.proofs.Effects.{things_end, things_set, things_length, thing_there, many_more, value_there}
-use Rattle.ls_headline.proofs.Effects.{values_set, extends_end}
-use Rattle.ls_headline.proofs.FieldCases.{put, on_is, back_is}
-use Rattle.ls_headline.proofs.AllCases.{names_of, name_typed}
+use Rattle.ls_preservation.specs.Sorts.{Refers, HasSortBy, HasType, NameHas, fields_by, fields_of, ActionHas, Suits}
+use Rattle.ls_preservation.proofs.Lists.{index_there, get_end}
+use Rattle.ls_preservation.proofs.Effects.{HaveTypes, IsHold, ThingHas, ThingsHave, Extends, thing_more, things_more}
+use Rattle.ls_preservation.proofs.Effects.{things_end, things_set, things_length, thing_there, many_more, value_there}
+use Rattle.ls_preservation.proofs.Effects.{values_set, extends_end}
+use Rattle.ls_preservation.proofs.FieldCases.{put, on_is, back_is}
+use Rattle.ls_preservation.proofs.AllCases.{names_of, name_typed}
 
 -- fields at their start
 start_has : (σ : List ValueType) (s : ValueType) → HasType σ (start_of s) s

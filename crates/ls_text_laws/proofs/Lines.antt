@@ -16,8 +16,8 @@ use Rattle.ls_events.specs.declared.value.Value.TheVariants as values
 use Rattle.ls_events.specs.declared.value.ValueType.TheVariants as types
 use Rattle.ls_checked.specs.CheckedProgram.{ProgramCall, Making, Calling, ThreadProgram, Program}
 use Rattle.ls_lexer.specs.Names.{is_name}
-use Rattle.ls_headline.specs.Sorts.{Returns}
-use Rattle.ls_headline.proofs.Lists.{get_there, get_within}
+use Rattle.ls_preservation.specs.Sorts.{Returns}
+use Rattle.ls_preservation.proofs.Lists.{get_there, get_within}
 use Rattle.ls_report.specs.Events.{Event, Occurrence, Returned, Text}
 use Rattle.ls_report.specs.Discipline.{has_names, has_value, is_call, is_making, is_next, is_placed, is_shown}
 use Rattle.ls_report.specs.Discipline.{is_well_formed, last_of, may_follow}

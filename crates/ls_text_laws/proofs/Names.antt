@@ -17,7 +17,7 @@ use Rattle.ls_types_programs.specs.Programs as programs
 use Rattle.ls_types_programs.specs.Programs.{IsNewThread, AreCallsOf, AreThreadsOf, IsProgramOf, IsTextOf}
 use Rattle.ls_types_programs.proofs.Pieces.{some_none, same_some}
 use Rattle.ls_types_programs.proofs.Names.{threads_are_named}
-use Rattle.ls_headline.proofs.Lists.{get_left, get_end, get_within}
+use Rattle.ls_preservation.proofs.Lists.{get_left, get_end, get_within}
 
 -- ---- distinct names
 

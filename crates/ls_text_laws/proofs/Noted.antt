@@ -23,7 +23,7 @@ use Rattle.ls_meaning.specs.Threads.{Next, Goes, Ended, Trapped, result_of, clas
 use Rattle.ls_meaning.specs.Threads.{all_calls, calls_in, next}
 use Rattle.ls_types_judgement.specs.Sorts.{HasType}
 use Rattle.ls_types_judgement.specs.Typing.{IsTypedFile}
-use Rattle.ls_headline.specs.Sorts.{Suits, Suited, call_at}
+use Rattle.ls_preservation.specs.Sorts.{Suits, Suited, call_at}
 use Rattle.ls_types_judgement.specs.Programs.{IsTypedMaking, IsTypedCalling, IsTypedCall}
 use Rattle.ls_meaning.proofs.Followers.{ends}
 use Rattle.ls_soundness.proofs.Ways.{HasAction, Way, Sure, Good, results_good, then_good, ask_fits, ask_good, tell_fits}

@@ -26,12 +26,12 @@ use Rattle.ls_meaning.specs.Steps.{Entry, Stepped, Same, Moved, Acted, after, tr
 use Rattle.ls_meaning.specs.Runs.{State, answers_of, start, has_started, performed, idle, step_of, stepped, source_step}
 use Rattle.ls_meaning.specs.Runs.{event_of, history_of, source_history}
 use Rattle.ls_types_judgement.specs.Typing.{IsTypedFile}
-use Rattle.ls_headline.specs.Sorts.{Refers, Returns, ActionHas, Suits, Suited, Known, call_at}
-use Rattle.ls_headline.specs.Threads.{IsSound}
-use Rattle.ls_headline.proofs.Lists.{get_within, length-set}
-use Rattle.ls_headline.proofs.Effects.{HaveTypes, refers_more}
-use Rattle.ls_headline.proofs.AllCases.{names_of}
-use Rattle.ls_headline.proofs.Answers.{suited_end, suited_more}
+use Rattle.ls_preservation.specs.Sorts.{Refers, Returns, ActionHas, Suits, Suited, Known, call_at}
+use Rattle.ls_preservation.specs.Threads.{IsSound}
+use Rattle.ls_preservation.proofs.Lists.{get_within, length-set}
+use Rattle.ls_preservation.proofs.Effects.{HaveTypes, refers_more}
+use Rattle.ls_preservation.proofs.AllCases.{names_of}
+use Rattle.ls_preservation.proofs.Answers.{suited_end, suited_more}
 use Rattle.ls_types_programs.proofs.Pieces.{some_none, same_some}
 use Rattle.ls_types_judgement.specs.Programs.{IsArgument, AreArguments, IsTypedCall, IsTypedProgram}
 use Rattle.ls_report.specs.Events.{Event}

@@ -5,7 +5,7 @@ use Rattle.ls_checked.specs.CheckedProgram.{Program}
 use Rattle.ls_checked.specs.PlainProgram.{plain_program}
 use Rattle.ls_meaning.specs.Runs.{source_history}
 use Rattle.ls_code.specs.Machine.{machine_history}
-use Rattle.ls_headline.specs.Same.{IsCells}
+use Rattle.ls_preservation.specs.Same.{IsCells}
 use Rattle.ls_types_elaboration.specs.Trees.{File, Text}
 use Rattle.ls_types_elaboration.specs.Elaboration.{Outcome, elaborated}
 use Rattle.ls_types_programs.specs.Programs.{IsTextOf}

@@ -18,7 +18,7 @@ ghost use Rattle.ls_tool.specs.Output.{Explores, OnOrder, OnThree, OnTwo, Sample
 
 use ls_command_line::{Request, Side};
 use ls_commands::{
-    Drawing, Sampling, View, aim, batch, check, count, judge_batch, live, order, replay,
+    Sampler, Sampling, View, aim, batch, check, count, judge_batch, live, order, replay,
     replay_live, sample, serial_order, show, translate,
 };
 use ls_explore::Watch;
@@ -172,7 +172,7 @@ fn on_sample(
     alloc: Global,
     cells: usize,
     seed: u64,
-    drawing: Drawing,
+    drawing: Sampler,
     parts: &[&str],
 ) -> Result<String, ToolFault>
     ensures { GivesText (OnTwo (SamplesTo cells seed drawing) (map plain_text parts.now)) result }
@@ -184,10 +184,10 @@ fn on_sample(
 }
 
 /// So many steps, each of which draws a thread by chance 1 in a number.
-fn drawing_of(steps: u64, switch: u64) -> Drawing
+fn drawing_of(steps: u64, switch: u64) -> Sampler
     ensures { result ≡ drawing steps switch }
 {
-    Drawing {
+    Sampler {
         steps: steps as usize,
         switch,
     }

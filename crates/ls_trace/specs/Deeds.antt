@@ -12,8 +12,8 @@ use Rattle.ls_labels.specs.Labelled.{labelled_field, labelled_text}
 use Rattle.ls_labels.specs.Objects.{value_text}
 use Rattle.ls_labels.specs.Threads.{thread_name}
 use Rattle.ls_labels.specs.Words.{action_text, field_text}
-use Rattle.ls_trace.specs.declared.deed.Kind.{Kind}
-use Rattle.ls_trace.specs.declared.deed.Kind.TheVariants as kinds
+use Rattle.ls_trace.specs.declared.deed.DeedKind.{DeedKind}
+use Rattle.ls_trace.specs.declared.deed.DeedKind.TheVariants as kinds
 use Rattle.ls_trace.specs.declared.deed.Deed.{Deed}
 use Rattle.ls_trace.specs.declared.heads.Key.{Key}
 use Rattle.ls_trace.specs.declared.heads.Head.{Head}
@@ -35,7 +35,7 @@ owned_text names label o owner =
     labelled_text names label o ++ (codes ", which " ++ (thread_name names.program owner ++ codes " owns"))
 
 -- what is told of a deed of each kind, by its object's label, its object and its part
-abbrev pub kind_words : Names → Option Label → ℕ → ℕ → Kind → Text
+abbrev pub kind_words : Names → Option Label → ℕ → ℕ → DeedKind → Text
 kind_words names label o part kinds.ReadsField = codes "reads " ++ labelled_field names label o part
 kind_words names label o part kinds.WritesField = codes "writes " ++ (labelled_field names label o part ++ codes ": ")
 kind_words names label o part kinds.ReadsName = codes "reads " ++ object_name names.program part

@@ -16,7 +16,7 @@ use std::alloc::AllocError;
 
 /// What a thread does, or what it waits for.
 #[derive(Copy, PartialEq, Eq)]
-pub enum Kind {
+pub enum DeedKind {
     ReadsField,
     WritesField,
     ReadsName,
@@ -33,8 +33,8 @@ pub enum Kind {
     WaitsForMonitor,
 }
 
-impl Clone for Kind {
-    fn clone(&self) -> Result<Kind, AllocError> {
+impl Clone for DeedKind {
+    fn clone(&self) -> Result<DeedKind, AllocError> {
         Ok(*self)
     }
 }
@@ -43,7 +43,7 @@ impl Clone for Kind {
 /// Where there is none, it is 0.
 #[derive(Copy, PartialEq, Eq)]
 pub struct Deed {
-    pub(crate) kind: Kind,
+    pub(crate) kind: DeedKind,
     pub(crate) object: u64,
     pub(crate) part: usize,
 }
@@ -55,7 +55,7 @@ impl Clone for Deed {
 }
 
 #[inline(always)]
-fn of_kind(kind: Kind, object: u64, part: usize) -> Option<Deed>
+fn of_kind(kind: DeedKind, object: u64, part: usize) -> Option<Deed>
     ensures { result ≡ Some (record { kind = kind; object = object; part = part }) }
 {
     Some(Deed { kind, object, part })
@@ -68,18 +68,18 @@ pub(crate) fn deed_of(action: &Action<Value>) -> Option<Deed>
         deed_words names (label_at labels d.object) d ≡ head_text names labels thread action.now) }
 {
     match action {
-        Action::ReadField { object, field } => of_kind(Kind::ReadsField, *object, *field),
-        Action::WriteField { object, field, .. } => of_kind(Kind::WritesField, *object, *field),
-        Action::ReadName(name) => of_kind(Kind::ReadsName, 0, *name),
-        Action::Turn => of_kind(Kind::Turns, 0, 0),
-        Action::Enter(method) => of_kind(Kind::Enters, 0, *method),
-        Action::Lock(object) => of_kind(Kind::Locks, *object, 0),
-        Action::Unlock(object) => of_kind(Kind::Unlocks, *object, 0),
-        Action::TryLock(object) => of_kind(Kind::Tries, *object, 0),
-        Action::IsHeld(object) => of_kind(Kind::AsksIfHeld, *object, 0),
-        Action::LockMonitor(object) => of_kind(Kind::LocksMonitor, *object, 0),
-        Action::UnlockMonitor(object) => of_kind(Kind::UnlocksMonitor, *object, 0),
-        Action::ReadPair(object) => of_kind(Kind::ReadsPair, *object, 0),
+        Action::ReadField { object, field } => of_kind(DeedKind::ReadsField, *object, *field),
+        Action::WriteField { object, field, .. } => of_kind(DeedKind::WritesField, *object, *field),
+        Action::ReadName(name) => of_kind(DeedKind::ReadsName, 0, *name),
+        Action::Turn => of_kind(DeedKind::Turns, 0, 0),
+        Action::Enter(method) => of_kind(DeedKind::Enters, 0, *method),
+        Action::Lock(object) => of_kind(DeedKind::Locks, *object, 0),
+        Action::Unlock(object) => of_kind(DeedKind::Unlocks, *object, 0),
+        Action::TryLock(object) => of_kind(DeedKind::Tries, *object, 0),
+        Action::IsHeld(object) => of_kind(DeedKind::AsksIfHeld, *object, 0),
+        Action::LockMonitor(object) => of_kind(DeedKind::LocksMonitor, *object, 0),
+        Action::UnlockMonitor(object) => of_kind(DeedKind::UnlocksMonitor, *object, 0),
+        Action::ReadPair(object) => of_kind(DeedKind::ReadsPair, *object, 0),
         _ => None,
     }
 }
@@ -93,11 +93,11 @@ pub(crate) fn wait_of(run: &SourceRun, action: &Action<Value>) -> Option<Deed>
 {
     match action {
         Action::Lock(lock) => match owner_of(run.thing(*lock)) {
-            Some(owner) => of_kind(Kind::WaitsForLock, *lock, owner),
+            Some(owner) => of_kind(DeedKind::WaitsForLock, *lock, owner),
             None => None,
         },
         Action::LockMonitor(object) => match owner_of(run.thing(*object)) {
-            Some(owner) => of_kind(Kind::WaitsForMonitor, *object, owner),
+            Some(owner) => of_kind(DeedKind::WaitsForMonitor, *object, owner),
             None => None,
         },
         _ => None,

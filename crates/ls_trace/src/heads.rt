@@ -6,7 +6,7 @@ ghost use Rattle.ls_labels.specs.Names.{names_of};
 ghost use Rattle.ls_trace.specs.Deeds.{IsOfKey, call_words, deed_words, key_words, owned_text, tail_text};
 ghost use Rattle.ls_trace.specs.declared.heads.Head.{Head};
 
-use crate::deed::{Deed, Kind};
+use crate::deed::{Deed, DeedKind};
 use ls_events::action::Action;
 use ls_events::value::Value;
 use ls_labels::label::Label;
@@ -117,29 +117,29 @@ fn push_deed(out: &mut String, names: &Names, key: &Key) -> Result<(), AllocErro
         ≡ string_bytes out.old ++ deed_words (names_of names.now) key.now.label key.now.deed) }
 {
     match key.deed.kind {
-        Kind::ReadsField => push_on_field(out, names, "reads ", key),
-        Kind::WritesField => {
+        DeedKind::ReadsField => push_on_field(out, names, "reads ", key),
+        DeedKind::WritesField => {
             push_on_field(out, names, "writes ", key)?;
             out.push_str(": ")
         }
-        Kind::ReadsName => {
+        DeedKind::ReadsName => {
             out.push_str("reads ")?;
             out.push_str(object_name(names.program, key.deed.part))
         }
-        Kind::Turns => out.push_str("goes round a loop"),
-        Kind::Enters => {
+        DeedKind::Turns => out.push_str("goes round a loop"),
+        DeedKind::Enters => {
             out.push_str("enters ")?;
             push_method(out, *names, key.deed.part)
         }
-        Kind::Locks => push_on(out, names, "locks ", key),
-        Kind::Unlocks => push_on(out, names, "unlocks ", key),
-        Kind::Tries => push_on(out, names, "tries ", key),
-        Kind::AsksIfHeld => push_on(out, names, "asks whether it holds ", key),
-        Kind::LocksMonitor => push_on(out, names, "locks the monitor of ", key),
-        Kind::UnlocksMonitor => push_on(out, names, "unlocks the monitor of ", key),
-        Kind::ReadsPair => push_on(out, names, "reads ", key),
-        Kind::WaitsForLock => push_owned(out, names, "waits for ", key),
-        Kind::WaitsForMonitor => push_owned(out, names, "waits for the monitor of ", key),
+        DeedKind::Locks => push_on(out, names, "locks ", key),
+        DeedKind::Unlocks => push_on(out, names, "unlocks ", key),
+        DeedKind::Tries => push_on(out, names, "tries ", key),
+        DeedKind::AsksIfHeld => push_on(out, names, "asks whether it holds ", key),
+        DeedKind::LocksMonitor => push_on(out, names, "locks the monitor of ", key),
+        DeedKind::UnlocksMonitor => push_on(out, names, "unlocks the monitor of ", key),
+        DeedKind::ReadsPair => push_on(out, names, "reads ", key),
+        DeedKind::WaitsForLock => push_owned(out, names, "waits for ", key),
+        DeedKind::WaitsForMonitor => push_owned(out, names, "waits for the monitor of ", key),
     }
 }
 
@@ -178,7 +178,7 @@ fn first_head(alloc: Global, names: &Names) -> Result<Head, AllocError>
     ensures { IfOk result (λ h. IsOfKey (names_of names.now) h) }
 {
     let deed = Deed {
-        kind: Kind::Turns,
+        kind: DeedKind::Turns,
         object: 0,
         part: 0,
     };

@@ -3,7 +3,7 @@
 ghost use Rattle.std.specs.Prelude.{◌≡◌, ℕ, IfSome, Some, slice_get};
 ghost use Rattle.ls_transitions.specs.Known.{row_of};
 
-use crate::hints::Hints;
+use crate::hash_index::HashIndex;
 use crate::moves::Move;
 use std::alloc::AllocError;
 
@@ -26,15 +26,15 @@ impl Clone for Row {
 #[inline(always)]
 pub(crate) fn find_move(
     rows: &[Row],
-    hints: &Hints,
-    sum: u64,
+    hints: &HashIndex,
+    hash: u64,
     thread: usize,
     store: usize,
     work: usize,
 ) -> Option<Move>
     ensures { IfSome result (λ m. (i : ℕ) × (slice_get rows.now i ≡ Some (row_of thread store work m))) }
 {
-    let mut hint = hints.last(sum);
+    let mut hint = hints.last(hash);
     for _ in 0..rows.len() {
         let place = hint?;
         let row = rows.get(place)?;

@@ -2,7 +2,7 @@
 
 ghost use Rattle.std.specs.Prelude.{◌≤◌, length};
 
-use crate::hints::Hints;
+use crate::hash_index::HashIndex;
 use crate::moves::{Move, Step};
 use crate::pools::{keep_store, keep_work};
 use crate::stores::copy_store;
@@ -24,8 +24,8 @@ pub struct Tables<'a> {
     pub(crate) program: &'a Program,
     pub(crate) stores: Vec<Store>,
     pub(crate) works: Vec<Thread<'a>>,
-    store_hints: Hints,
-    work_hints: Hints,
+    store_hints: HashIndex,
+    work_hints: HashIndex,
     pub ghost few_stores: { length stores.items ≤ 4294967295 },
     pub ghost few_works: { length works.items ≤ 4294967295 },
 }
@@ -52,8 +52,8 @@ impl<'a> Tables<'a> {
             program,
             stores: Vec::new(alloc),
             works: Vec::new(alloc),
-            store_hints: Hints::new(alloc),
-            work_hints: Hints::new(alloc),
+            store_hints: HashIndex::new(alloc),
+            work_hints: HashIndex::new(alloc),
         }
     }
 

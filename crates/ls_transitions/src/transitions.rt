@@ -3,11 +3,11 @@
 ghost use Rattle.ls_transitions.specs.SeenTables.{tables_of};
 ghost use Rattle.ls_transitions.specs.Known.{AreKnown};
 
-use crate::hints::Hints;
+use crate::hash_index::HashIndex;
+use crate::hashing;
 use crate::moves::Move;
 use crate::rows::{Row, find_move};
 use crate::stores::copy_store;
-use crate::sums;
 use crate::tables::Tables;
 use crate::threads::copy_thread;
 use ls_checked::program::Program;
@@ -22,7 +22,7 @@ use std::alloc::{AllocError, Global};
 pub struct Transitions<'a> {
     pub(crate) tables: Tables<'a>,
     rows: Vec<Row>,
-    row_hints: Hints,
+    row_hints: HashIndex,
     ghost known: { AreKnown (tables_of tables) rows.items },
 }
 
@@ -45,7 +45,7 @@ impl<'a> Transitions<'a> {
         Transitions {
             tables: Tables::new(alloc, file, program),
             rows: Vec::new(alloc),
-            row_hints: Hints::new(alloc),
+            row_hints: HashIndex::new(alloc),
         }
     }
 
@@ -92,12 +92,12 @@ impl<'a> Transitions<'a> {
     }
 
     // A move is kept. If memory runs out, it is not.
-    fn keep(&mut self, alloc: Global, sum: u64, row: Row) -> Result<(), AllocError>
+    fn keep(&mut self, alloc: Global, hash: u64, row: Row) -> Result<(), AllocError>
         requires { IsKnown (table_of self.old) row.thread row.store row.work row.made }
         ensures { table_of self.new ≡ table_of self.old }
     {
         self.rows.reserve(1)?;
-        self.row_hints.add(alloc, sum)?;
+        self.row_hints.add(alloc, hash)?;
         self.rows.push_reserved(row);
         Ok(())
     }
@@ -107,7 +107,7 @@ impl<'a> Transitions<'a> {
     fn make(
         &mut self,
         alloc: Global,
-        sum: u64,
+        hash: u64,
         thread: usize,
         store: usize,
         work: usize,
@@ -124,7 +124,7 @@ impl<'a> Transitions<'a> {
             work,
             made,
         };
-        self.keep(alloc, sum, row)?;
+        self.keep(alloc, hash, row)?;
         Ok(made)
     }
 
@@ -143,10 +143,10 @@ impl<'a> Transitions<'a> {
         ensures made { IfOk result (λ m. IsMove (table_of self.new) thread store work m) }
         ensures grows { Grows (table_of self.old) (table_of self.new) }
     {
-        let sum = sums::of_key(thread, store, work);
-        match find_move(&self.rows, &self.row_hints, sum, thread, store, work) {
+        let hash = hashing::hash_of_key(thread, store, work);
+        match find_move(&self.rows, &self.row_hints, hash, thread, store, work) {
             Some(made) => Ok(made),
-            None => self.make(alloc, sum, thread, store, work),
+            None => self.make(alloc, hash, thread, store, work),
         }
     }
 }

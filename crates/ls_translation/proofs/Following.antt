@@ -11,7 +11,7 @@ use Rattle.ls_meaning.specs.declared.step.Did.{Did}
 use Rattle.ls_meaning.specs.declared.step.Did.TheVariants as did
 use Rattle.ls_source.specs.Progress.{Progress, begun, gone_on}
 use Rattle.ls_code.specs.Machine.{Machine, machine_run}
-use Rattle.ls_headline.specs.Translations.{until_acts, setup_end, has_setup_ended, steps_all, steps_for, steps_from}
+use Rattle.ls_preservation.specs.Translations.{until_acts, setup_end, has_setup_ended, steps_all, steps_for, steps_from}
 use Rattle.ls_translation.specs.declared.fault.TranslationFault.{TranslationFault}
 use Rattle.ls_translation.specs.declared.machine_run.MachineRun.{MachineRun}
 use Rattle.ls_translation.specs.Faults.{CutsShort}

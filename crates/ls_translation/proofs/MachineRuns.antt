@@ -5,7 +5,7 @@ use Rattle.std.proofs.lemmas.List.{append_assoc, append-nil}
 use Rattle.ls_code.specs.Machine.{Machine, machine_step, machine_run, setup_ended}
 use Rattle.ls_code.specs.declared.step.Did.{Did}
 use Rattle.ls_code.specs.declared.step.Did.TheVariants as did
-use Rattle.ls_headline.specs.Translations.{until_acts, until_over, if_silent, unless}
+use Rattle.ls_preservation.specs.Translations.{until_acts, until_over, if_silent, unless}
 use Rattle.ls_translation.specs.declared.fault.TranslationFault.{TranslationFault}
 use Rattle.ls_translation.specs.declared.fault.TranslationFault.TheVariants.{Memory, BadCells, DoesNotFit}
 use Rattle.ls_translation.specs.declared.fault.TranslationFault.TheVariants.{ResultTooLong}

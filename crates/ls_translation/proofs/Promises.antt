@@ -10,10 +10,10 @@ use Rattle.ls_checked.specs.CheckedProgram.{Program}
 use Rattle.ls_meaning.specs.Runs.{source_history, start}
 use Rattle.ls_code.specs.Code.{Code}
 use Rattle.ls_code.specs.Machine.{Machine, loaded, machine_history}
-use Rattle.ls_headline.specs.Same.{Alike, Fits, IsCells}
-use Rattle.ls_headline.specs.Translations.{most_silent, steps_all, to_source, to_machine}
+use Rattle.ls_preservation.specs.Same.{Alike, Fits, IsCells}
+use Rattle.ls_preservation.specs.Translations.{most_silent, steps_all, to_source, to_machine}
 use Rattle.ls_machine.specs.Room.{AreBadCells}
-use Rattle.ls_linker_laws.specs.Runs.{Runs}
+use Rattle.ls_linker.specs.Runs.{Runs}
 
 pub events_prop : (xs ys : List Event) → IsProp (xs ≡ ys)
 events_prop xs ys = hlevel props

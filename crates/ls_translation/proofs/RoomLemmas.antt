@@ -14,11 +14,11 @@ use Rattle.ls_meaning.specs.Effect.{Effect, Waits, Does, effect, fields_in, size
 use Rattle.ls_meaning.specs.Threads.{Next, Goes, Ended, Trapped, next}
 use Rattle.ls_meaning.specs.Runs.{State, Step, source_run, step, step_of, performed, idle, has_started, answers_of}
 use Rattle.ls_source.specs.Progress.{Progress, begun, gone_on}
-use Rattle.ls_headline.specs.Threads.{object_cells}
-use Rattle.ls_headline.specs.Sorts.{fields_by}
-use Rattle.ls_headline.specs.Same.{size_of, total, Fits}
-use Rattle.ls_headline.proofs.Cells.{sizes_of}
-use Rattle.ls_headline.proofs.Total.{Keeps, keeps}
+use Rattle.ls_preservation.specs.Threads.{object_cells}
+use Rattle.ls_preservation.specs.Sorts.{fields_by}
+use Rattle.ls_preservation.specs.Same.{size_of, total, Fits}
+use Rattle.ls_preservation.proofs.Cells.{sizes_of}
+use Rattle.ls_preservation.proofs.Total.{Keeps, keeps}
 use Rattle.ls_meaning.specs.declared.step.Did.{Did}
 use Rattle.ls_translation.specs.Room.{IsFirstUnfit, cells_by, cells_made}
 use Rattle.ls_translation.proofs.SourceSteps.{run_more}

@@ -8,10 +8,10 @@ use Rattle.ls_checked.specs.CheckedProgram.{Program}
 use Rattle.ls_meaning.specs.Steps as source
 use Rattle.ls_code.specs.Code.{Code}
 use Rattle.ls_code.specs.Machine.{Entry}
-use Rattle.ls_headline.specs.InWords.{Agree, births, in_words, numbered}
-use Rattle.ls_headline.specs.Same.{Fits, IsCells, Same}
-use Rattle.ls_headline.specs.Translations.{to_source, to_machine}
-use Rattle.ls_linker_laws.specs.Runs.{Runs}
+use Rattle.ls_preservation.specs.InWords.{Agree, births, in_words, numbered}
+use Rattle.ls_preservation.specs.Same.{Fits, IsCells, Same}
+use Rattle.ls_preservation.specs.Translations.{to_source, to_machine}
+use Rattle.ls_linker.specs.Runs.{Runs}
 use Rattle.ls_translation.specs.RoundTrips.{TranslatesBack, acting_steps}
 use Rattle.ls_translation.proofs.Promises.{events_prop}
 

@@ -7,7 +7,7 @@ use Rattle.ls_source.specs.Progress.{Progress}
 use Rattle.ls_code.specs.Machine.{Machine, machine_step, machine_run}
 use Rattle.ls_code.specs.declared.step.Did.{Did}
 use Rattle.ls_code.specs.declared.step.Did.TheVariants as did
-use Rattle.ls_headline.specs.Translations.{has_setup_ended, setup_end, steps_for, steps_from, until_acts}
+use Rattle.ls_preservation.specs.Translations.{has_setup_ended, setup_end, steps_for, steps_from, until_acts}
 use Rattle.ls_translation.specs.declared.machine_run.MachineRun.{MachineRun}
 
 -- a machine that hasn't taken a step

@@ -8,9 +8,9 @@ use Rattle.ls_checked.specs.CheckedProgram.{Program}
 use Rattle.ls_meaning.specs.Effect.{size_of}
 use Rattle.ls_meaning.specs.declared.step.Did.{Did}
 use Rattle.ls_meaning.specs.declared.step.Did.TheVariants as did
-use Rattle.ls_headline.specs.Threads.{object_cells}
-use Rattle.ls_headline.specs.Sorts.{fields_of}
-use Rattle.ls_headline.specs.Same.{Fits}
+use Rattle.ls_preservation.specs.Threads.{object_cells}
+use Rattle.ls_preservation.specs.Sorts.{fields_of}
+use Rattle.ls_preservation.specs.Same.{Fits}
 
 -- the cells of what an action makes
 abbrev pub cells_made : List Class → Action Value → ℕ

@@ -5,8 +5,8 @@ use Rattle.ls_checked.specs.CheckedProgram.{Program}
 use Rattle.ls_meaning.specs.Runs.{source_history, source_trace}
 use Rattle.ls_code.specs.Code.{Code}
 use Rattle.ls_code.specs.Machine.{machine_history}
-use Rattle.ls_headline.specs.Same.{Fits}
-use Rattle.ls_headline.specs.Translations.{to_source, to_machine}
+use Rattle.ls_preservation.specs.Same.{Fits}
+use Rattle.ls_preservation.specs.Translations.{to_source, to_machine}
 
 -- the steps of a schedule of the source that act, in order
 abbrev pub acting_steps : File → Program → List ℕ → List ℕ

@@ -1,7 +1,7 @@
 // Laws of the translations, as the contracts of functions that compute nothing.
 
 ghost use Rattle.ls_image.specs.Images.{code_of_image};
-ghost use Rattle.ls_headline.specs.Same.{IsCells};
+ghost use Rattle.ls_preservation.specs.Same.{IsCells};
 ghost use Rattle.ls_translation.specs.RoundTrips.{TranslatesBack};
 ghost use Rattle.ls_translation.specs.Texts.{file_of, program_of};
 

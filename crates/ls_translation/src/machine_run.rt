@@ -29,7 +29,7 @@ fn is_loud(did: Did) -> bool
 impl MachineRun {
     ghost use Rattle.std.specs.Prelude.{◌++◌, ◌∷◌, [], IfErr, IfOk, OnOk};
     ghost use Rattle.ls_code.specs.Machine.{machine_step};
-    ghost use Rattle.ls_headline.specs.Translations.{setup_end, until_acts, until_over};
+    ghost use Rattle.ls_preservation.specs.Translations.{setup_end, until_acts, until_over};
     ghost use Rattle.ls_translation.specs.Faults.{CutsShort};
     ghost use Rattle.ls_translation.specs.MachineRuns.{begun, gone, one_more};
 

@@ -5,8 +5,8 @@ ghost use Rattle.std.specs.Prelude.{◌≡◌, ℕ, ◌<◌, ◌≤◌, ◌↔�
 ghost use Rattle.std.specs.Prelude.{length, true};
 ghost use Rattle.ls_code.specs.Machine.{machine_history};
 ghost use Rattle.ls_image.specs.Images.{code_of_image, program_of_image};
-ghost use Rattle.ls_headline.specs.Same.{Alike, Fits};
-ghost use Rattle.ls_headline.specs.Translations.{most_silent, steps_all, to_machine};
+ghost use Rattle.ls_preservation.specs.Same.{Alike, Fits};
+ghost use Rattle.ls_preservation.specs.Translations.{most_silent, steps_all, to_machine};
 ghost use Rattle.ls_machine.specs.Room.{AreBadCells};
 ghost use Rattle.ls_meaning.specs.Runs.{source_history, start};
 ghost use Rattle.ls_source.specs.Shown.{progress_of};

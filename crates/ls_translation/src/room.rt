@@ -2,8 +2,8 @@
 
 ghost use Rattle.std.specs.Prelude.{◌≡◌, ◌+◌, ◌<◌, IfNone, IfSome, length, map};
 ghost use Rattle.ls_checked.specs.Plain.{plain_class};
-ghost use Rattle.ls_headline.specs.Sorts.{fields_of};
-ghost use Rattle.ls_headline.specs.Threads.{object_cells};
+ghost use Rattle.ls_preservation.specs.Sorts.{fields_of};
+ghost use Rattle.ls_preservation.specs.Threads.{object_cells};
 ghost use Rattle.ls_meaning.specs.Effect.{size_of};
 ghost use Rattle.ls_translation.specs.Room.{cells_by, cells_made};
 

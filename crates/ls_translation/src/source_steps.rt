@@ -5,8 +5,8 @@ ghost use Rattle.std.specs.Prelude.{◌≡◌, ◌<◌, ◌≤◌, ◌++◌, ◌
 ghost use Rattle.std.specs.Prelude.{◌⊎◌};
 ghost use Rattle.ls_code.specs.Machine.{machine_history, machine_step};
 ghost use Rattle.ls_image.specs.Images.{code_of_image};
-ghost use Rattle.ls_headline.specs.Same.{Alike};
-ghost use Rattle.ls_headline.specs.Translations.{to_source};
+ghost use Rattle.ls_preservation.specs.Same.{Alike};
+ghost use Rattle.ls_preservation.specs.Translations.{to_source};
 ghost use Rattle.ls_machine.specs.Room.{AreBadCells};
 ghost use Rattle.ls_meaning.specs.Runs.{source_history};
 ghost use Rattle.ls_translation.specs.Acting.{acting, if_acts};

@@ -32,15 +32,15 @@ pub struct About {
     pub seats: usize,
 }
 
-pub struct Rule;
+pub struct TurnstileRule;
 
-impl TableRule<Machine, View, About> for Rule {
+impl TableRule<Machine, View, About> for TurnstileRule {
     ghost holds = { λ k s. Keeps (loaded k.code.value k.cells) k.tape.value.items k.seats s };
 
     ghost first = { λ k. dealer (loaded k.code.value k.cells) k.tape.value.items k.seats 0 };
 }
 
-pub type MachineTable = Table<Machine, View, About, Rule, Global>;
+pub type MachineTable = Table<Machine, View, About, TurnstileRule, Global>;
 
 /// A load of the word: how far the tape is.
 pub struct Look;

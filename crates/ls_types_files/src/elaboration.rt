@@ -9,7 +9,9 @@ ghost use Rattle.ls_types_files.specs.FileViews.{bodies_of};
 ghost use Rattle.ls_types_elaboration.specs.Answers.{Gives};
 ghost use Rattle.ls_types_tables.specs.ByName.{keys_of, class_entry_of};
 
+use crate::classes::checked_classes;
 use crate::methods::class_methods;
+use crate::signs::{Classes, class_names, class_tables};
 use indexmap::IndexSet;
 use ls_checked::tree::{File, Method};
 use ls_tree::tree;
@@ -17,8 +19,6 @@ use ls_tree::tree::ClassFile;
 use ls_types_elaboration::outcome::Outcome;
 use ls_types_elaboration::rule::CheckFault;
 use ls_types_elaboration::together::also;
-use ls_types_signs::classes::checked_classes;
-use ls_types_signs::signs::{Classes, class_names, class_tables};
 use ls_types_tables::known::Known;
 use ls_types_tables::tables::{ClassTables, class_signs, names_of};
 use std::alloc::{AllocError, Global};

@@ -2,6 +2,8 @@
 #![tactic(auto)]
 
 pub mod check;
+pub mod classes;
 mod completion;
 mod elaboration;
 mod methods;
+pub mod signs;

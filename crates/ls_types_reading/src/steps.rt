@@ -36,10 +36,10 @@ use std::alloc::{AllocError, Global};
 use std::mem;
 
 /// The most threads beside the setup.
-pub const MOST_THREADS: usize = 64;
+pub const MOST_PROGRAM_THREADS: usize = 64;
 
 /// The most calls of a thread, and of the setup.
-pub const MOST_CALLS: usize = 256;
+pub const MOST_THREAD_CALLS: usize = 256;
 
 fn is_sign(sign: Sign, kind: TokenKind) -> bool
     ensures { result ≡ is_sign sign (lexeme_of kind.entry) }
@@ -378,7 +378,7 @@ impl Parts {
                 at: token.span.start,
             });
         }
-        if self.calls.len() >= MOST_CALLS {
+        if self.calls.len() >= MOST_THREAD_CALLS {
             return Err(ProgramFault::ProgramLimit);
         }
         self.finish(alloc, p)?;
@@ -396,7 +396,7 @@ impl Parts {
                 at: token.span.start,
             });
         }
-        if self.threads.len() > MOST_THREADS {
+        if self.threads.len() > MOST_PROGRAM_THREADS {
             return Err(ProgramFault::ProgramLimit);
         }
         Ok(Stage::AtThreadName)

@@ -5,10 +5,10 @@ use Rattle.ls_checked.specs.Plain.{plain, plain_statement}
 use Rattle.ls_checked.specs.declared.tree.Statement.{Statement}
 use Rattle.ls_types_statements.specs.declared.scope.Context.{Context}
 use Rattle.ls_types_statements.specs.declared.scope.Scope.{Scope}
-use Rattle.ls_types_statements.specs.declared.statements.Loop.{Loop}
+use Rattle.ls_types_statements.specs.declared.loops.Loop.{Loop}
 use Rattle.ls_types_statements.specs.declared.scope.Slots.{Slots}
-use Rattle.ls_types_statements.specs.declared.statements.Monitor.{Monitor}
-use Rattle.ls_types_statements.specs.declared.statements.Round.{Round}
+use Rattle.ls_types_statements.specs.declared.forms.Monitor.{Monitor}
+use Rattle.ls_types_statements.specs.declared.loops.Round.{Round}
 use Rattle.ls_types_elaboration.specs.Scopes as scopes
 use Rattle.ls_types_elaboration.specs.TypedStatements as typing
 use Rattle.ls_types_elaboration.specs.Tables.{local_of}

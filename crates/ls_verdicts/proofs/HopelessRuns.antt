@@ -5,8 +5,8 @@ use Rattle.ls_events.specs.declared.event.Event.{Event as RunEvent}
 use Rattle.ls_checked.specs.CheckedProgram.{Program}
 use Rattle.ls_report.specs.Events.{Event}
 use Rattle.ls_order_search.specs.Answers.{IsOutcome, NoneIsLegal}
-use Rattle.ls_order_search.specs.declared.judging.Outcome.{Outcome}
-use Rattle.ls_order_search.specs.declared.judging.Outcome.TheVariants as outcomes
+use Rattle.ls_order_search.specs.declared.judging.OrderAnswer.{OrderAnswer}
+use Rattle.ls_order_search.specs.declared.judging.OrderAnswer.TheVariants as outcomes
 use Rattle.ls_orders.specs.SetCalls.{first_foreign, set_calls}
 use Rattle.ls_order_search.specs.Trapped.{has_many_trapped}
 use Rattle.ls_verdicts.specs.Hopeless.{IsHopelessRun, IsIllegal, hopeless_at}
@@ -21,7 +21,7 @@ None≢Some {A} x e = subst (λ o. by o) e tt
     by (Some y) = ⊥
 
 module _ (p : Program) (run : List RunEvent) (events : List Event) (n : IsNamed p run events) where
-  pub outcome_hopeless : (outcome : Outcome) →
+  pub outcome_hopeless : (outcome : OrderAnswer) →
       IsOutcome events outcome →
       IfSome (hopeless_at outcome) (IsHopelessRun p run)
   outcome_hopeless (outcomes.NotOneSet call) h = tt
@@ -34,7 +34,7 @@ module _ (p : Program) (run : List RunEvent) (events : List Event) (n : IsNamed 
   same : (r : IsIllegal p run) → r.events ≡ events
   same r = sym (named_is p run r.events r.named) ∙ named_is p run events n
 
-  pub outcome_other : (outcome : Outcome) →
+  pub outcome_other : (outcome : OrderAnswer) →
       IsOutcome events outcome →
       IfNone (hopeless_at outcome) (¬ IsIllegal p run)
   outcome_other (outcomes.NotOneSet call) h =

@@ -2,8 +2,8 @@
 use Rattle.std.proofs.Common.{ℕ, List, length, map, string_bytes, take_all, le_of_eq, refl, subst}
 use Rattle.ls_report.specs.Events.{Event}
 use Rattle.ls_order_search.specs.Answers.{IsHopeless, IsOutcome, NoneIsLegal}
-use Rattle.ls_order_search.specs.declared.judging.Outcome.{Outcome}
-use Rattle.ls_order_search.specs.declared.judging.Outcome.TheVariants as outcomes
+use Rattle.ls_order_search.specs.declared.judging.OrderAnswer.{OrderAnswer}
+use Rattle.ls_order_search.specs.declared.judging.OrderAnswer.TheVariants as outcomes
 use Rattle.ls_verdicts.specs.Outcomes.{verdict_of}
 use Rattle.ls_verdicts.specs.Verdicts.{IsVerdictOn}
 
@@ -13,7 +13,7 @@ hopeless_is_illegal events at h = subst NoneIsLegal (take_all (length events) ev
     (h.with_it (length events) h.within)
 
 -- an outcome of the search gives its verdict
-pub outcome_told : (events : List Event) (outcome : Outcome) →
+pub outcome_told : (events : List Event) (outcome : OrderAnswer) →
     IsOutcome events outcome →
     IsVerdictOn events (verdict_of outcome)
 outcome_told events (outcomes.NotOneSet call) h = (h.0, h.1)

@@ -4,12 +4,12 @@ use Rattle.ls_events.specs.declared.event.Event.{Event as RunEvent}
 use Rattle.ls_checked.specs.CheckedProgram.{Program}
 use Rattle.ls_report.specs.Events.{Event}
 use Rattle.ls_order_search.specs.Answers.{IsDecided, IsHopeless}
-use Rattle.ls_order_search.specs.declared.judging.Outcome.{Outcome}
-use Rattle.ls_order_search.specs.declared.judging.Outcome.TheVariants as outcomes
+use Rattle.ls_order_search.specs.declared.judging.OrderAnswer.{OrderAnswer}
+use Rattle.ls_order_search.specs.declared.judging.OrderAnswer.TheVariants as outcomes
 use Rattle.ls_verdicts.specs.Verdicts.{IsNamed, IsVerdict}
 use Rattle.ls_verdicts.specs.declared.verdicts.Verdict.TheVariants as verdicts
 
-abbrev pub hopeless_at : Outcome → Option ℕ
+abbrev pub hopeless_at : OrderAnswer → Option ℕ
 hopeless_at (outcomes.NotOneSet call) = None
 hopeless_at outcomes.TooManyTrapped = None
 hopeless_at (outcomes.Legal order) = None

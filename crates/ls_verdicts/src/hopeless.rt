@@ -8,15 +8,15 @@ ghost use Rattle.ls_verdicts.specs.Verdicts.{IsHistoryOf};
 use crate::naming::named_events;
 use ls_checked::program::Program;
 use ls_events::event::Event;
-use ls_order_search::judging::{Outcome, judge};
+use ls_order_search::judging::{OrderAnswer, judge};
 use std::alloc::{AllocError, Global};
 
-fn hopeless_at(outcome: &Outcome) -> Option<usize>
+fn hopeless_at(outcome: &OrderAnswer) -> Option<usize>
     ensures { result ≡ hopeless_at outcome.now }
 {
     match outcome {
-        Outcome::NotOneSet(_) | Outcome::TooManyTrapped | Outcome::Legal(_) => None,
-        Outcome::Hopeless { at, .. } => Some(*at),
+        OrderAnswer::NotOneSet(_) | OrderAnswer::TooManyTrapped | OrderAnswer::Legal(_) => None,
+        OrderAnswer::Hopeless { at, .. } => Some(*at),
     }
 }
 

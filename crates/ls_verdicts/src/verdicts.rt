@@ -8,7 +8,7 @@ ghost use Rattle.ls_verdicts.specs.Verdicts.{IsHistoryOf, IsVerdict};
 use crate::naming::named_events;
 use ls_checked::program::Program;
 use ls_events::event::Event;
-use ls_order_search::judging::{Outcome, judge};
+use ls_order_search::judging::{OrderAnswer, judge};
 use std::alloc::{AllocError, Global};
 
 /// The verdict on a history.
@@ -31,14 +31,14 @@ impl Clone for Verdict {
 }
 
 /// The verdict of an outcome.
-fn verdict_of(outcome: &Outcome) -> Verdict
+fn verdict_of(outcome: &OrderAnswer) -> Verdict
     ensures { result ≡ verdict_of outcome.now }
 {
     match outcome {
-        Outcome::NotOneSet(_) => Verdict::NotOneSet,
-        Outcome::TooManyTrapped => Verdict::TooManyTrapped,
-        Outcome::Legal(_) => Verdict::Legal,
-        Outcome::Hopeless { .. } => Verdict::Illegal,
+        OrderAnswer::NotOneSet(_) => Verdict::NotOneSet,
+        OrderAnswer::TooManyTrapped => Verdict::TooManyTrapped,
+        OrderAnswer::Legal(_) => Verdict::Legal,
+        OrderAnswer::Hopeless { .. } => Verdict::Illegal,
     }
 }
 

@@ -43,16 +43,16 @@ impl Saved {
 
 /// Parts that were saved. For a number that is made of a part, one that may be the same; nothing rests on that.
 #[derive(Drop)]
-pub struct Shelf {
+pub struct Interner {
     threads: HashMap<u64, Rc<SavedThread>>,
     cells: HashMap<u64, Rc<SavedCells>>,
     histories: HashMap<u64, Rc<Vec<Event>>>,
 }
 
-impl Shelf {
+impl Interner {
     /// No parts.
-    pub fn new(alloc: Global) -> Shelf {
-        Shelf {
+    pub fn new(alloc: Global) -> Interner {
+        Interner {
             threads: HashMap::new(alloc),
             cells: HashMap::new(alloc),
             histories: HashMap::new(alloc),
@@ -128,7 +128,7 @@ impl Shelf {
         let mut saved = Vec::with_capacity(alloc, threads.len())?;
         for i in 0..threads.len() {
             let thread = &threads[i];
-            saved.push(self.thread(alloc, thread, thread.mix(0))?)?;
+            saved.push(self.thread(alloc, thread, thread.hash(0))?)?;
         }
         Ok(saved)
     }
@@ -186,11 +186,16 @@ fn remember(history: &mut Vec<Event>, events: &[Event], left: usize, limit: usiz
 
 impl Machine {
     /// This machine as it stands, but for its code. The history's number is given.
-    pub fn saved(&self, alloc: Global, shelf: &mut Shelf, number: u64) -> Result<Saved, AllocError>
+    pub fn saved(
+        &self,
+        alloc: Global,
+        shelf: &mut Interner,
+        number: u64,
+    ) -> Result<Saved, AllocError>
         ensures { IfOk result (λ saved. saved ≡ standing self.now) }
     {
         let threads = shelf.all_threads(alloc, self.threads.as_slice())?;
-        let cells = shelf.cells(alloc, &self.cells, self.cells.mix(0))?;
+        let cells = shelf.cells(alloc, &self.cells, self.cells.hash(0))?;
         let history = shelf.history(alloc, self.history.as_slice(), number)?;
         Ok(Saved {
             threads,

@@ -6,16 +6,16 @@ use Rattle.ls_cuts.proofs.cutting.steps_past.Goals as goal
 
 pub returns : goal.returns
 returns c =
-    let inv = c.halves.invariant in
+    let inv = c.bisect.invariant in
     let file = plain_file c.args.file.now in
     let program = plain_program c.args.program.now in
     record {
       within = inv.1;
       past = inv.3;
       before = λ m lt.
-          let end = c.halves-test.false in
-          let less : m ≤ c.halves.fewer = omega arith in
-          let up = grows file program c.args.steps.now m c.halves.fewer less in
+          let end = c.bisect-test.false in
+          let less : m ≤ c.bisect.fewer = omega arith in
+          let up = grows file program c.args.steps.now m c.bisect.fewer less in
           let few = inv.2 in
           omega (arith, up, few);
     }

@@ -4,10 +4,10 @@ use Rattle.ls_checked.specs.PlainProgram.{plain_program}
 use Rattle.ls_cuts.specs.Cuts.{history_to}
 use Rattle.ls_cuts.proofs.cutting.steps_past.Given as goal
 
-abbrev pub invariant-halves : goal.invariant-halves
-invariant-halves l = (l.fewer < l.enough) × (l.enough ≤ length l.steps)
+abbrev pub invariant-bisect : goal.invariant-bisect
+invariant-bisect l = (l.fewer < l.enough) × (l.enough ≤ length l.steps)
     × (length (history_to (plain_file l.file) (plain_program l.program) l.steps l.fewer) ≤ l.at)
     × (l.at < length (history_to (plain_file l.file) (plain_program l.program) l.steps l.enough))
 
-abbrev pub decreases-halves : goal.decreases-halves
-decreases-halves l = l.enough - l.fewer
+abbrev pub decreases-bisect : goal.decreases-bisect
+decreases-bisect l = l.enough - l.fewer

@@ -1,9 +1,9 @@
 use Rattle.std.proofs.Common.{◌≡◌, ◌∙◌, ◌-◌, ℕ, List, [], ◌∷◌, length, take, drop, sym, subst, arith}
 use Rattle.std.proofs.lemmas.List.{take_all}
 use Rattle.ls_lowered.specs.Plain.{plain_statement}
-use Rattle.ls_emit_laws.specs.Statements.{statement_size}
-use Rattle.ls_emit_sizes.specs.Ahead.{sizes_ahead, AreAhead}
-use Rattle.ls_emit_sizes.proofs.Listed.{listed_ahead}
+use Rattle.ls_emit.specs.Statements.{statement_size}
+use Rattle.ls_emit.specs.Ahead.{sizes_ahead, AreAhead}
+use Rattle.ls_emit.proofs.Listed.{listed_ahead}
 use Rattle.ls_emit.proofs.emit.emit_unit.Goals as goal
 
 pub emit_statement-requires-clause-sized : goal.emit_statement-requires-clause-sized

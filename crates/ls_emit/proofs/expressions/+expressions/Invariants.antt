@@ -1,6 +1,6 @@
 use Rattle.std.proofs.Common.{◌+◌, ◌*◌}
 use Rattle.ls_lowered.specs.Plain.{plain, all_plain}
-use Rattle.ls_emit_laws.specs.Expressions.{size, all_size}
+use Rattle.ls_emit.specs.Expressions.{size, all_size}
 use Rattle.ls_emit.proofs.expressions.+expressions.Given as goal
 
 abbrev pub decreases-emit_expression : goal.decreases-emit_expression

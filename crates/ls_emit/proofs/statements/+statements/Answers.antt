@@ -4,12 +4,12 @@ use Rattle.std.specs.Prelude.{OnOk}
 use Rattle.ls_lowered.specs.LoweredTree as lowered
 use Rattle.ls_lowered.specs.LoweredTree.{Block, Leavable}
 use Rattle.ls_lowered.specs.Plain.{plain_statement, statements_of}
-use Rattle.ls_emit_laws.specs.Statements.{statement_size, statements_size, exits_size, statement_code, statement_rows}
-use Rattle.ls_emit_sizes.specs.Ahead.{AreAhead, AreAheadOfBlock, left_by}
+use Rattle.ls_emit.specs.Statements.{statement_size, statements_size, exits_size, statement_code, statement_rows}
+use Rattle.ls_emit.specs.Ahead.{AreAhead, AreAheadOfBlock, left_by}
 use Rattle.ls_emit.specs.Small.{IsSmallStatement, AreSmallStatements}
 use Rattle.ls_emit.specs.Targets.{targets_of}
-use Rattle.ls_emit_sizes.proofs.Blocks.{block_plain, leavable_plain}
-use Rattle.ls_emit_sizes.proofs.Weights.{weight}
+use Rattle.ls_emit.proofs.Blocks.{block_plain, leavable_plain}
+use Rattle.ls_emit.proofs.Weights.{weight}
 use Rattle.ls_emit.proofs.statements.+statements.Goals as goal
 
 pub emit_statement-emit_block-requires : goal.emit_statement-emit_block-requires

@@ -1,11 +1,11 @@
 use Rattle.std.proofs.Common.{◌≡◌, ◌+◌, ◌*◌, ◌≤◌, ◌++◌, drop}
 use Rattle.ls_lowered.specs.Plain.{plain_statement, statements_of}
-use Rattle.ls_emit_laws.specs.Statements.{statements_size, exits_size, statements_code, exits_code, statements_rows}
-use Rattle.ls_emit_laws.specs.Statements.{exits_rows}
+use Rattle.ls_emit.specs.Statements.{statements_size, exits_size, statements_code, exits_code, statements_rows}
+use Rattle.ls_emit.specs.Statements.{exits_rows}
 use Rattle.ls_emit.specs.Targets.{targets_of}
 use Rattle.ls_emit.specs.Small.{AreSmallStatements}
-use Rattle.ls_emit_sizes.specs.Ahead.{AreAheadOfBlock, AreAheadOfExits, left_by_block, left_by_exits}
-use Rattle.ls_emit_sizes.proofs.Weights.{weight, weights}
+use Rattle.ls_emit.specs.Ahead.{AreAheadOfBlock, AreAheadOfExits, left_by_block, left_by_exits}
+use Rattle.ls_emit.proofs.Weights.{weight, weights}
 use Rattle.ls_emit.proofs.statements.+statements.Given as goal
 
 abbrev pub invariant-emit_block-loop-s : goal.invariant-emit_block-loop-s

@@ -4,7 +4,7 @@ use Rattle.ls_search_laws.specs.Configuration.{stride}
 use Rattle.ls_transitions.specs.declared.moves.Move.{Move}
 use Rattle.ls_transitions.specs.Tables.{Table}
 use Rattle.ls_transitions.specs.Seen.{table_of}
-use Rattle.ls_search.specs.declared.places.Place.{Place}
+use Rattle.ls_search.specs.declared.places.NumberedState.{NumberedState}
 use Rattle.ls_search.specs.Places.{configuration_of}
 use Rattle.ls_search.specs.Strides.{IsStrideBy}
 use Rattle.ls_endless_calls.proofs.Ahead.{at_start, breaks_here, goes_ahead, later}
@@ -24,7 +24,7 @@ pub returns-then-has_event-clause-breaks : goal.returns-then-has_event-clause-br
 returns-then-has_event-clause-breaks c = λ so threads.
     let mid : Table = table_of c.loop.transitions in
     let new : Table = table_of c.step_from.new.transitions in
-    let p : Place = c.loop.here in
+    let p : NumberedState = c.loop.here in
     let u = c.args.thread in
     let acts = subst (λ (m : Move). IsStrideBy new (configuration_of mid p) p.works.items u m
     (stride mid.file (configuration_of mid p) u)) c.in-Acts.is c.in_ok-step.ensures.stride in
@@ -41,7 +41,7 @@ pub loop-preserved : goal.loop-preserved
 loop-preserved c = λ threads.
     let mid : Table = table_of c.loop.transitions in
     let new : Table = table_of c.step_from.new.transitions in
-    let p : Place = c.loop.here in
+    let p : NumberedState = c.loop.here in
     let u = c.args.thread in
     let acts = subst (λ (m : Move). IsStrideBy new (configuration_of mid p) p.works.items u m
     (stride mid.file (configuration_of mid p) u)) c.in-Acts.is c.in_ok-step.ensures.stride in

@@ -1,8 +1,8 @@
 use Rattle.std.proofs.Common.{◌≡◌, ℕ, ◌++◌, List, [], ◌∷◌, get_or, Some, sym, ap, ◌∙◌, subst, arith, slice_get}
 use Rattle.ls_code.specs.Machine.{Machine, loaded}
 use Rattle.ls_machine.proofs.Back.{runs_keep}
-use Rattle.ls_headline.specs.Acting.{first_did}
-use Rattle.ls_headline.proofs.Lists.{index_there}
+use Rattle.ls_preservation.specs.Acting.{first_did}
+use Rattle.ls_preservation.proofs.Lists.{index_there}
 use Rattle.ls_explore.specs.declared.links.Link.{Link}
 use Rattle.ls_explore.specs.Walks.{root_of, walked}
 use Rattle.ls_explore.specs.Searches.{Leads, paths_of}

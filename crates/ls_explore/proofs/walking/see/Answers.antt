@@ -1,7 +1,7 @@
 use Rattle.std.proofs.Common.{◌≡◌, ◌≤◌, ◌∙◌, ℕ, false, List, sym, ap, subst, arith}
 use Rattle.ls_code.specs.Machine.{Machine}
 use Rattle.ls_machine.specs.Saved.{Standing, standing}
-use Rattle.ls_headline.specs.Acting.{first_did}
+use Rattle.ls_preservation.specs.Acting.{first_did}
 use Rattle.ls_explore_laws.specs.Bursts.{IsSilentTo, burst}
 use Rattle.ls_explore.specs.Walks.{is_silent, root_of, tried, walked}
 use Rattle.ls_explore.proofs.Loops.{root_same}

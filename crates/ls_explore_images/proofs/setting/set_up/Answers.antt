@@ -3,7 +3,7 @@ use Rattle.ls_checked.specs.CheckedTree.{File}
 use Rattle.ls_checked.specs.CheckedProgram.{Program}
 use Rattle.ls_code.specs.Code.{Code}
 use Rattle.ls_code.specs.Machine.{loaded, machine_run, setup_ended}
-use Rattle.ls_headline.specs.Translations.{to_machine, to_source}
+use Rattle.ls_preservation.specs.Translations.{to_machine, to_source}
 use Rattle.ls_translation.specs.RoundTrips.{acting_steps}
 use Rattle.ls_translation.specs.Texts.{file_of, program_of}
 use Rattle.ls_explore_images.proofs.Tellings.{is_set_up, same_threads}

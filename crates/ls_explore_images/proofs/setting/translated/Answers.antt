@@ -1,7 +1,7 @@
 use Rattle.std.proofs.Common.{◌∙◌, ap, subst}
 use Rattle.std.proofs.lemmas.Result.{err_from_is_err_and}
-use Rattle.ls_headline.specs.Same.{Fits}
-use Rattle.ls_headline.specs.Translations.{to_machine}
+use Rattle.ls_preservation.specs.Same.{Fits}
+use Rattle.ls_preservation.specs.Translations.{to_machine}
 use Rattle.ls_translation.specs.Texts.{file_of, program_of}
 use Rattle.ls_explore_images.proofs.Refusals.{late_translation}
 use Rattle.ls_explore_images.proofs.setting.translated.Goals as goal

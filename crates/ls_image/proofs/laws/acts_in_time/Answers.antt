@@ -1,5 +1,5 @@
 use Rattle.std.proofs.Math.Logic.{∥∥₁_elim}
-use Rattle.ls_headline.proofs.Once.{acting_prop}
+use Rattle.ls_preservation.proofs.Once.{acting_prop}
 use Rattle.ls_image.proofs.laws.acts_in_time.Goals as goal
 
 pub returns : goal.returns

@@ -1,5 +1,5 @@
 use Rattle.std.proofs.Math.Logic.{∥∥₁_elim}
-use Rattle.ls_headline.proofs.Once.{ends_prop}
+use Rattle.ls_preservation.proofs.Once.{ends_prop}
 use Rattle.ls_image.proofs.laws.ends_in_time.Goals as goal
 
 pub returns : goal.returns

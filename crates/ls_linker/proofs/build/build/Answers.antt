@@ -9,7 +9,7 @@ use Rattle.ls_code.specs.Code.{Code}
 use Rattle.ls_refs.specs.Refused.{AllSlotted}
 use Rattle.ls_refs.proofs.Jumps.{loops_once}
 use Rattle.ls_types_judgement.specs.WellTyped.{IsWellTyped, IsWellTypedProgram}
-use Rattle.ls_linker_laws.specs.Runs.{Runs}
+use Rattle.ls_linker.specs.Runs.{Runs}
 use Rattle.ls_linker.specs.Limits.{GoesPast}
 use Rattle.ls_linker.specs.Counted.{of_counts}
 use Rattle.ls_linker.specs.declared.fault.BuildFault.TheVariants.{Lower, Link}

@@ -2,7 +2,7 @@ use Rattle.std.proofs.Common.{map, sym, subst}
 use Rattle.std.specs.Prelude.{All}
 use Rattle.ls_checked.specs.Plain.{plain_class, plain_file}
 use Rattle.ls_checked.specs.PlainProgram.{plain_thread}
-use Rattle.ls_linker_bounds.specs.Links.{ThreadLinks}
+use Rattle.ls_linker.specs.Links.{ThreadLinks}
 use Rattle.ls_linker.proofs.Rooms.{all_unmapped}
 use Rattle.ls_linker.proofs.link.add_program.Goals as goal
 

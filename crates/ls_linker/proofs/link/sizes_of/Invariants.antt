@@ -1,6 +1,6 @@
 use Rattle.std.proofs.Common.{◌≡◌, map, take}
 use Rattle.ls_checked.specs.Plain.{plain_class}
-use Rattle.ls_linker_laws.specs.Linked.{class_size}
+use Rattle.ls_linker.specs.Linked.{class_size}
 use Rattle.ls_linker.proofs.link.sizes_of.Given as goal
 
 abbrev pub invariant-loop-class : goal.invariant-loop-class

@@ -2,7 +2,7 @@ use Rattle.std.proofs.Common.{map, sym, subst}
 use Rattle.std.specs.Prelude.{All}
 use Rattle.ls_checked.specs.Plain.{plain_class}
 use Rattle.ls_checked.specs.PlainProgram.{plain_call}
-use Rattle.ls_linker_bounds.specs.Links.{CallLinks}
+use Rattle.ls_linker.specs.Links.{CallLinks}
 use Rattle.ls_linker.proofs.Rooms.{all_unmapped}
 use Rattle.ls_linker.proofs.threads.add_thread.Goals as goal
 

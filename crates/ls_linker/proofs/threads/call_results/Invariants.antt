@@ -1,6 +1,6 @@
 use Rattle.std.proofs.Common.{◌≡◌, map, take}
 use Rattle.ls_checked.specs.PlainProgram.{plain_call}
-use Rattle.ls_headline.specs.Threads.{call_result}
+use Rattle.ls_preservation.specs.Threads.{call_result}
 use Rattle.ls_linker.proofs.threads.call_results.Given as goal
 
 abbrev pub invariant-loop-call : goal.invariant-loop-call

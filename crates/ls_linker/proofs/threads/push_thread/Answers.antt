@@ -1,7 +1,7 @@
 use Rattle.std.proofs.Common.{◌≡◌, ◌+◌, ◌-◌, length, map, arith}
 use Rattle.ls_checked.specs.Plain.{plain_class}
 use Rattle.ls_checked.specs.PlainProgram.{plain_call}
-use Rattle.ls_linker.proofs.Sizes.{thread_pushed, code_some}
+use Rattle.ls_linker.proofs.UnitSizes.{thread_pushed, code_some}
 use Rattle.ls_linker.proofs.threads.push_thread.Goals as goal
 
 pub overflow_sub-last : goal.overflow_sub-last

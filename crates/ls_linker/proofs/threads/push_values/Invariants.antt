@@ -1,5 +1,5 @@
 use Rattle.std.proofs.Common.{◌≡◌, ◌++◌, take}
-use Rattle.ls_linker_laws.specs.Threads.{pushes}
+use Rattle.ls_linker.specs.Threads.{pushes}
 use Rattle.ls_linker.proofs.threads.push_values.Given as goal
 
 abbrev pub invariant-loop-value : goal.invariant-loop-value

@@ -1,5 +1,5 @@
 use Rattle.std.proofs.Common.{◌≡◌, ◌++◌, map, take}
-use Rattle.ls_emit_laws.specs.Units.{moved}
+use Rattle.ls_emit.specs.Units.{moved}
 use Rattle.ls_linker.proofs.units.add_instructions.Given as goal
 
 abbrev pub invariant-loop-instruction : goal.invariant-loop-instruction

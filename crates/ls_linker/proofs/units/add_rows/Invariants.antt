@@ -1,5 +1,5 @@
 use Rattle.std.proofs.Common.{◌≡◌, ◌++◌, map, take}
-use Rattle.ls_emit_laws.specs.Units.{moved_row}
+use Rattle.ls_emit.specs.Units.{moved_row}
 use Rattle.ls_linker.proofs.units.add_rows.Given as goal
 
 abbrev pub invariant-loop-row : goal.invariant-loop-row

@@ -7,8 +7,8 @@ use Rattle.ls_order_search.specs.Answers.{NoneIsLegal}
 use Rattle.ls_order_search.proofs.Beginnings.{empty_legal, hopeless_at, some_events}
 use Rattle.ls_order_search.proofs.judging.find_hopeless.Goals as goal
 
-pub halves-init : goal.halves-init
-halves-init c =
+pub bisect-init : goal.bisect-init
+bisect-init c =
     let h = map plain_event c.args.events.now in
     let len = length-map c.args.events.now plain_event in
     let some = some_events h c.requires.none in
@@ -23,9 +23,9 @@ halves-init c =
 pub returns : goal.returns
 returns c =
     let h = map plain_event c.args.events.now in
-    let i = c.halves.invariant in (
+    let i = c.bisect.invariant in (
       c.requires.decided,
-      hopeless_at h (length c.args.events.now) c.halves.at c.halves.illegal _
+      hopeless_at h (length c.args.events.now) c.bisect.at c.bisect.illegal _
           (sym (length-map c.args.events.now plain_event)) i.apart i.within (omega arith) i.before i.after,
       i.before,
     )

@@ -4,13 +4,13 @@ use Rattle.ls_orders.specs.Legal.{IsLegal}
 use Rattle.ls_order_search.specs.Answers.{NoneIsLegal}
 use Rattle.ls_order_search.proofs.judging.find_hopeless.Given as goal
 
-abbrev pub invariant-halves : goal.invariant-halves
-invariant-halves l = record {
+abbrev pub invariant-bisect : goal.invariant-bisect
+invariant-bisect l = record {
   apart : l.at < l.illegal;
   within : l.illegal ≤ length l.events;
   before : IsLegal (take l.at (map plain_event l.events)) (map string_bytes l.order.items);
   after : NoneIsLegal (take l.illegal (map plain_event l.events));
 }
 
-abbrev pub decreases-halves : goal.decreases-halves
-decreases-halves l = l.illegal - l.at
+abbrev pub decreases-bisect : goal.decreases-bisect
+decreases-bisect l = l.illegal - l.at

@@ -8,7 +8,7 @@ use Rattle.ls_transitions.specs.declared.moves.Move.{Move}
 use Rattle.ls_transitions.specs.Tables.{Table}
 use Rattle.ls_transitions.specs.Seen.{table_of}
 use Rattle.ls_transitions.proofs.Growing.{grows_not, grows_on}
-use Rattle.ls_search.specs.declared.places.Place.{Place}
+use Rattle.ls_search.specs.declared.places.NumberedState.{NumberedState}
 use Rattle.ls_search.specs.Places.{AreThere, configuration_at, configuration_of}
 use Rattle.ls_search.specs.Strides.{ActsBy, HasStarted, IsStrideBy, at_once}
 use Rattle.ls_search.proofs.Strides.{stays, there_still}
@@ -30,7 +30,7 @@ returns-in_default-clause-leads c =
     let old : Table = table_of c.args.transitions.now in
     let mid : Table = table_of c.loop-count.transitions in
     let new : Table = table_of c.move_of.new.transitions in
-    let p : Place = c.loop-count.place in
+    let p : NumberedState = c.loop-count.place in
     subst (λ (k : Configuration). LeadsTo at_once old.file (configuration_of old c.args.place.now)
     (replicate c.loop-count.count c.args.thread) k)
     (sym (stays mid new p.store p.works.items c.move_of.ensures.grows c.loop-count.invariant.there))
@@ -46,8 +46,8 @@ loop-count-preserved c =
     let old : Table = table_of c.args.transitions.now in
     let mid : Table = table_of c.loop-count.transitions in
     let new : Table = table_of c.move_of.new.transitions in
-    let p : Place = c.loop-count.place in
-    let q : Place = c.take.new.place in
+    let p : NumberedState = c.loop-count.place in
+    let q : NumberedState = c.take.new.place in
     let u = c.args.thread in
     let step : Step = c.in-Some.step in
     let s : Stride = stride mid.file (configuration_of mid p) u in

@@ -3,7 +3,7 @@ use Rattle.std.specs.Prelude.{slice_get, slice_index_or}
 use Rattle.std.proofs.lemmas.Bool.{cases_lt}
 use Rattle.ls_transitions.specs.Seen.{table_of}
 use Rattle.ls_search.specs.declared.places.Node.{Node}
-use Rattle.ls_search.specs.declared.places.Place.{Place}
+use Rattle.ls_search.specs.declared.places.NumberedState.{NumberedState}
 use Rattle.ls_search.specs.SeenSearch.{pairs_of}
 use Rattle.ls_search.proofs.Answering.{noted_pair}
 use Rattle.ls_search.proofs.answers.first_bad.Goals as goal
@@ -28,7 +28,7 @@ loop-at-preserved g c = λ at p less here.
           (ap (slice_get (pairs_of first (g.O.Observer.stands c.args.ground.now.observer.now) c.args.search.now)) (sym
           same)
           ∙ here)))
-          ∙ ap (λ (q : Place). g.O.Observer.bad c.args.ground.now.observer.now (slice_index_or states q.noted first))
+          ∙ ap (λ (q : NumberedState). g.O.Observer.bad c.args.ground.now.observer.now (slice_index_or states q.noted first))
           (sym c.place_at.ensures.2)
           ∙ sym c.is_bad_at.ensures
           ∙ c.if-is_bad_at.false

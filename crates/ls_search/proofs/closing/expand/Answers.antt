@@ -9,7 +9,7 @@ use Rattle.ls_search_laws.specs.Noticing.{Noticed}
 use Rattle.ls_transitions.specs.Tables.{Table, Keeps}
 use Rattle.ls_transitions.specs.Seen.{table_of}
 use Rattle.ls_search.specs.declared.places.Node.{Node}
-use Rattle.ls_search.specs.declared.places.Place.{Place}
+use Rattle.ls_search.specs.declared.places.NumberedState.{NumberedState}
 use Rattle.ls_search.specs.Places.{configuration_of}
 use Rattle.ls_search.specs.Searched.{noticed_at, pairs_at}
 use Rattle.ls_search.specs.SeenSearch.{pairs_of}
@@ -51,7 +51,7 @@ loop-thread-init g c =
           some_is (sym (pair_here first next file program c.args.ground.now.threads t t' states nodes c.requires.sound
           c.has_setup_ended.ensures.grows c.args.at n here 0) ∙ e) in
           c.in_ok-ended.ensures.ended
-          ∙ ap (λ (q : Place). has_ended ((configuration_of t q).continues 0 [])) c.place_at-place.ensures.2
+          ∙ ap (λ (q : NumberedState). has_ended ((configuration_of t q).continues 0 [])) c.place_at-place.ensures.2
           ∙ ap (λ (q : Noticed g.O.Observer.State). has_ended (q.configuration.continues 0 [])) same;
       few = λ h. h;
       seen_same = refl;

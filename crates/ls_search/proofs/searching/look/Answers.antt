@@ -10,7 +10,7 @@ use Rattle.ls_transitions.specs.declared.moves.Move.TheVariants as moves
 use Rattle.ls_transitions.specs.Tables.{Table}
 use Rattle.ls_transitions.specs.Seen.{table_of}
 use Rattle.ls_search.specs.declared.places.Node.{Node}
-use Rattle.ls_search.specs.declared.places.Place.{Place}
+use Rattle.ls_search.specs.declared.places.NumberedState.{NumberedState}
 use Rattle.ls_search.specs.Places.{configuration_of}
 use Rattle.ls_search.specs.Strides.{HasStarted, IsStrideBy}
 use Rattle.ls_search.specs.Searched.{noticed_at, pairs_at}
@@ -32,7 +32,7 @@ step_from-requires-clause-ended g c =
     let n : Node = c.place_at-place.ensures.0 in
     let here : slice_get nodes c.args.at ≡ Some n =
     ap (λ l. slice_get l c.args.at) (sym c.deref.ensures.value) ∙ c.place_at-place.ensures.1 in
-    subst (λ (p : Place). c.args.ended ≡ has_ended ((configuration_of t p).continues 0 [])) (sym
+    subst (λ (p : NumberedState). c.args.ended ≡ has_ended ((configuration_of t p).continues 0 [])) (sym
     c.place_at-place.ensures.2)
     (c.requires.ended (noticed_at first t states n.place)
     (map_there (λ (m : Node). noticed_at first t states m.place) nodes c.args.at n here))
@@ -67,7 +67,7 @@ reach-requires-clause-started g c =
     started_then first next (plain_file c.args.ground.now.file.now) (plain_program c.args.ground.now.program.now)
     c.args.ground.now.threads t t' states nodes c.requires.sound c.step_from.ensures.grows c.args.at n here
     c.args.thread
-    (subst (λ (p : Place). HasStarted (configuration_of t p) c.args.thread) c.place_at-place.ensures.2
+    (subst (λ (p : NumberedState). HasStarted (configuration_of t p) c.args.thread) c.place_at-place.ensures.2
     (c.in_ok-made.ensures.started c.in-Acts.step c.in-Acts.is))
 
 pub reach-requires-clause-acts : goal.reach-requires-clause-acts
@@ -85,7 +85,7 @@ reach-requires-clause-acts g c =
     let by : (m : Move) → c.in_ok-made.made ≡ m →
     IsStrideBy t' (configuration_of t n.place) n.place.works.items c.args.thread m
     (stride t.file (configuration_of t n.place) c.args.thread) = λ m is.
-    subst (λ (p : Place). IsStrideBy t' (configuration_of t p) p.works.items c.args.thread m
+    subst (λ (p : NumberedState). IsStrideBy t' (configuration_of t p) p.works.items c.args.thread m
     (stride t.file (configuration_of t p) c.args.thread)) c.place_at-place.ensures.2
     (subst (λ (k : Move). IsStrideBy t' (configuration_of t c.place_at-place.result.now)
     c.place_at-place.result.now.works.items c.args.thread k
@@ -230,7 +230,7 @@ returns-in-Ended-clause-looked g c = λ p p_here.
     let by : (m : Move) → c.in_ok-made.made ≡ m →
     IsStrideBy t' (configuration_of t n.place) n.place.works.items c.args.thread m
     (stride t.file (configuration_of t n.place) c.args.thread) = λ m is.
-    subst (λ (p : Place). IsStrideBy t' (configuration_of t p) p.works.items c.args.thread m
+    subst (λ (p : NumberedState). IsStrideBy t' (configuration_of t p) p.works.items c.args.thread m
     (stride t.file (configuration_of t p) c.args.thread)) c.place_at-place.ensures.2
     (subst (λ (k : Move). IsStrideBy t' (configuration_of t c.place_at-place.result.now)
     c.place_at-place.result.now.works.items c.args.thread k
@@ -285,7 +285,7 @@ returns-in-Trapped-clause-looked g c = λ p p_here.
     let by : (m : Move) → c.in_ok-made.made ≡ m →
     IsStrideBy t' (configuration_of t n.place) n.place.works.items c.args.thread m
     (stride t.file (configuration_of t n.place) c.args.thread) = λ m is.
-    subst (λ (p : Place). IsStrideBy t' (configuration_of t p) p.works.items c.args.thread m
+    subst (λ (p : NumberedState). IsStrideBy t' (configuration_of t p) p.works.items c.args.thread m
     (stride t.file (configuration_of t p) c.args.thread)) c.place_at-place.ensures.2
     (subst (λ (k : Move). IsStrideBy t' (configuration_of t c.place_at-place.result.now)
     c.place_at-place.result.now.works.items c.args.thread k
@@ -340,7 +340,7 @@ returns-in-Waits-clause-looked g c = λ p p_here.
     let by : (m : Move) → c.in_ok-made.made ≡ m →
     IsStrideBy t' (configuration_of t n.place) n.place.works.items c.args.thread m
     (stride t.file (configuration_of t n.place) c.args.thread) = λ m is.
-    subst (λ (p : Place). IsStrideBy t' (configuration_of t p) p.works.items c.args.thread m
+    subst (λ (p : NumberedState). IsStrideBy t' (configuration_of t p) p.works.items c.args.thread m
     (stride t.file (configuration_of t p) c.args.thread)) c.place_at-place.ensures.2
     (subst (λ (k : Move). IsStrideBy t' (configuration_of t c.place_at-place.result.now)
     c.place_at-place.result.now.works.items c.args.thread k

@@ -8,7 +8,7 @@ use Rattle.ls_search_laws.specs.Noticing.{noticed_after}
 use Rattle.ls_transitions.specs.Tables.{Table}
 use Rattle.ls_transitions.specs.Seen.{table_of}
 use Rattle.ls_search.specs.declared.places.Node.{Node}
-use Rattle.ls_search.specs.declared.places.Place.{Place}
+use Rattle.ls_search.specs.declared.places.NumberedState.{NumberedState}
 use Rattle.ls_search.specs.Found.{Pushed}
 use Rattle.ls_search.specs.Listed.{FoundBy}
 use Rattle.ls_search.specs.Places.{configuration_of}
@@ -23,7 +23,7 @@ go_on-requires-clause-acts g c =
     let n : Node = c.place_at-place.ensures.0 in
     let here : slice_get c.args.search.now.found.nodes.items c.args.at ≡ Some n =
     ap (λ l. slice_get l c.args.at) (sym c.deref.ensures.value) ∙ c.place_at-place.ensures.1 in
-    subst (λ (p : Place). ActsBy t p.works.items c.args.thread c.args.step.now
+    subst (λ (p : NumberedState). ActsBy t p.works.items c.args.thread c.args.step.now
     (stride t.file (configuration_of t p) c.args.thread)) (sym c.place_at-place.ensures.2) (c.requires.acts n here)
 
 pub go_on-requires-clause-constants : goal.go_on-requires-clause-constants
@@ -41,8 +41,8 @@ returns-clause-sound g c =
     let n : Node = c.place_at-place.ensures.0 in
     let here : slice_get c.args.search.now.found.nodes.items c.args.at ≡ Some n =
     ap (λ l. slice_get l c.args.at) (sym c.deref.ensures.value) ∙ c.place_at-place.ensures.1 in
-    let q : Place = c.in_ok-after.after.place in
-    let reaches = subst (λ (p : Place). Reaches t.file
+    let q : NumberedState = c.in_ok-after.after.place in
+    let reaches = subst (λ (p : NumberedState). Reaches t.file
     (noticed_after first next t.file t.program (noticed_at first t states p) c.args.thread)
     (noticed_at first t' states' q) c.args.thread c.in_ok-after.after.steps) c.place_at-place.ensures.2
     c.in_ok-after.ensures.reaches in
@@ -51,7 +51,7 @@ returns-clause-sound g c =
     c.requires.sound c.go_on.ensures.grows c.go_on.ensures.keeps c.args.at n here c.args.thread c.args.step.now
     (c.requires.acts n here) q c.in_ok-after.after.steps t.program reaches
     (length c.place_at-place.result.now.works.items)
-    (ap (λ (p : Place). length p.works.items) c.place_at-place.ensures.2) c.in_ok-after.ensures.node (record {
+    (ap (λ (p : NumberedState). length p.works.items) c.place_at-place.ensures.2) c.in_ok-after.ensures.node (record {
       place =
           q;
       before = c.args.at;
@@ -72,8 +72,8 @@ returns-clause-keeps g c =
     let n : Node = c.place_at-place.ensures.0 in
     let here : slice_get c.args.search.now.found.nodes.items c.args.at ≡ Some n =
     ap (λ l. slice_get l c.args.at) (sym c.deref.ensures.value) ∙ c.place_at-place.ensures.1 in
-    let q : Place = c.in_ok-after.after.place in
-    let reaches = subst (λ (p : Place). Reaches t.file
+    let q : NumberedState = c.in_ok-after.after.place in
+    let reaches = subst (λ (p : NumberedState). Reaches t.file
     (noticed_after first next t.file t.program (noticed_at first t states p) c.args.thread)
     (noticed_at first t' states' q) c.args.thread c.in_ok-after.after.steps) c.place_at-place.ensures.2
     c.in_ok-after.ensures.reaches in
@@ -82,7 +82,7 @@ returns-clause-keeps g c =
     c.requires.sound c.go_on.ensures.grows c.go_on.ensures.keeps c.args.at n here c.args.thread c.args.step.now
     (c.requires.acts n here) q c.in_ok-after.after.steps t.program reaches
     (length c.place_at-place.result.now.works.items)
-    (ap (λ (p : Place). length p.works.items) c.place_at-place.ensures.2) c.in_ok-after.ensures.node (record {
+    (ap (λ (p : NumberedState). length p.works.items) c.place_at-place.ensures.2) c.in_ok-after.ensures.node (record {
       place =
           q;
       before = c.args.at;
@@ -103,8 +103,8 @@ returns-clause-grown g c =
     let n : Node = c.place_at-place.ensures.0 in
     let here : slice_get c.args.search.now.found.nodes.items c.args.at ≡ Some n =
     ap (λ l. slice_get l c.args.at) (sym c.deref.ensures.value) ∙ c.place_at-place.ensures.1 in
-    let q : Place = c.in_ok-after.after.place in
-    let reaches = subst (λ (p : Place). Reaches t.file
+    let q : NumberedState = c.in_ok-after.after.place in
+    let reaches = subst (λ (p : NumberedState). Reaches t.file
     (noticed_after first next t.file t.program (noticed_at first t states p) c.args.thread)
     (noticed_at first t' states' q) c.args.thread c.in_ok-after.after.steps) c.place_at-place.ensures.2
     c.in_ok-after.ensures.reaches in
@@ -113,7 +113,7 @@ returns-clause-grown g c =
     c.requires.sound c.go_on.ensures.grows c.go_on.ensures.keeps c.args.at n here c.args.thread c.args.step.now
     (c.requires.acts n here) q c.in_ok-after.after.steps t.program reaches
     (length c.place_at-place.result.now.works.items)
-    (ap (λ (p : Place). length p.works.items) c.place_at-place.ensures.2) c.in_ok-after.ensures.node (record {
+    (ap (λ (p : NumberedState). length p.works.items) c.place_at-place.ensures.2) c.in_ok-after.ensures.node (record {
       place =
           q;
       before = c.args.at;
@@ -134,8 +134,8 @@ returns-clause-reached g c = λ kept.
     let n : Node = c.place_at-place.ensures.0 in
     let here : slice_get c.args.search.now.found.nodes.items c.args.at ≡ Some n =
     ap (λ l. slice_get l c.args.at) (sym c.deref.ensures.value) ∙ c.place_at-place.ensures.1 in
-    let q : Place = c.in_ok-after.after.place in
-    let reaches = subst (λ (p : Place). Reaches t.file
+    let q : NumberedState = c.in_ok-after.after.place in
+    let reaches = subst (λ (p : NumberedState). Reaches t.file
     (noticed_after first next t.file t.program (noticed_at first t states p) c.args.thread)
     (noticed_at first t' states' q) c.args.thread c.in_ok-after.after.steps) c.place_at-place.ensures.2
     c.in_ok-after.ensures.reaches in
@@ -144,7 +144,7 @@ returns-clause-reached g c = λ kept.
     c.requires.sound c.go_on.ensures.grows c.go_on.ensures.keeps c.args.at n here c.args.thread c.args.step.now
     (c.requires.acts n here) q c.in_ok-after.after.steps t.program reaches
     (length c.place_at-place.result.now.works.items)
-    (ap (λ (p : Place). length p.works.items) c.place_at-place.ensures.2) c.in_ok-after.ensures.node (record {
+    (ap (λ (p : NumberedState). length p.works.items) c.place_at-place.ensures.2) c.in_ok-after.ensures.node (record {
       place =
           q;
       before = c.args.at;

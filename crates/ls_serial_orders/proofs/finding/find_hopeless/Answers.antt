@@ -6,8 +6,8 @@ use Rattle.ls_serial_orders.specs.Orders.{IsOrderOf}
 use Rattle.ls_serial_orders.proofs.Ordering.{empty_order, hopeless_at, some_events}
 use Rattle.ls_serial_orders.proofs.finding.find_hopeless.Goals as goal
 
-pub halves-init : goal.halves-init
-halves-init c =
+pub bisect-init : goal.bisect-init
+bisect-init c =
     let file = file_of c.args.known.now in
     let program = program_of c.args.known.now in
     let h = c.args.history.now in
@@ -22,8 +22,8 @@ halves-init c =
 
 pub returns : goal.returns
 returns c =
-    let i = c.halves.invariant in (
-      hopeless_at (file_of c.args.known.now) (program_of c.args.known.now) c.args.history.now c.halves.at
-          c.halves.hopeless _ i.apart i.within (omega arith) i.before i.after,
+    let i = c.bisect.invariant in (
+      hopeless_at (file_of c.args.known.now) (program_of c.args.known.now) c.args.history.now c.bisect.at
+          c.bisect.hopeless _ i.apart i.within (omega arith) i.before i.after,
       i.before,
     )

@@ -4,7 +4,7 @@ use Rattle.ls_checked.specs.CheckedTree.{File}
 use Rattle.ls_checked.specs.Plain.{plain_file}
 use Rattle.ls_transitions.specs.Tables.{Table}
 use Rattle.ls_transitions.specs.Seen.{table_of}
-use Rattle.ls_search.specs.declared.places.Place.{Place}
+use Rattle.ls_search.specs.declared.places.NumberedState.{NumberedState}
 use Rattle.ls_search.proofs.Telling.{some_map}
 use Rattle.ls_spinning.specs.declared.spots.Spot.{Spot}
 use Rattle.ls_spinning.specs.Spots.{IsPlaceAt, IsSpot}
@@ -32,7 +32,7 @@ returns c =
     let s : Spot = c.spot_at.result.now in
     let here : slice_get spots c.args.at ≡ Some s =
     ap (λ (l : List Spot). slice_get l c.args.at) (sym c.deref.ensures.value) ∙ c.spot_at.ensures in
-    let after : Place = c.in_ok-after.after.place in
+    let after : NumberedState = c.in_ok-after.after.place in
     let next : Spot = record {
       place = after;
       before = c.args.at;

@@ -6,7 +6,7 @@ use Rattle.ls_checked.specs.PlainProgram.{plain_name, plain_program}
 use Rattle.ls_checked.specs.declared.program.Program.{Program}
 use Rattle.ls_source.specs.Progress.{begun}
 use Rattle.ls_source.specs.Shown.{progress_of}
-use Rattle.ls_headline.specs.Translations.{most_silent, steps_all}
+use Rattle.ls_preservation.specs.Translations.{most_silent, steps_all}
 use Rattle.ls_image.specs.Images.{code_of_image, program_of_image}
 use Rattle.ls_meaning.specs.Runs.{start}
 use Rattle.ls_types.specs.CheckedFile as checked

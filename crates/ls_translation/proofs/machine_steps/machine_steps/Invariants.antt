@@ -1,6 +1,6 @@
 use Rattle.std.proofs.Common.{drop, take}
 use Rattle.ls_meaning.specs.Runs.{start}
-use Rattle.ls_headline.specs.Translations.{steps_all}
+use Rattle.ls_preservation.specs.Translations.{steps_all}
 use Rattle.ls_source.specs.Shown.{progress_of}
 use Rattle.ls_translation.specs.MachineRuns.{begun, gone}
 use Rattle.ls_translation.specs.Texts.{file_of, program_of}

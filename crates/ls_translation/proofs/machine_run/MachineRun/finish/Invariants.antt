@@ -1,5 +1,5 @@
 use Rattle.std.proofs.Common.{◌≡◌, ◌-◌}
-use Rattle.ls_headline.specs.Translations.{until_over}
+use Rattle.ls_preservation.specs.Translations.{until_over}
 use Rattle.ls_translation.specs.MachineRuns.{gone}
 use Rattle.ls_translation.proofs.machine_run.MachineRun.finish.Given as goal
 

@@ -1,8 +1,0 @@
-use Rattle.std.proofs.Common.{refl}
-use Rattle.ls_lowered.specs.Methods.{invoke}
-use Rattle.ls_emit_laws.proofs.Reader.{is_there}
-use Rattle.ls_emit_laws.proofs.laws.rows.Goals as goal
-
-pub returns : goal.returns
-unfolding invoke
-returns c = (refl, refl, refl, refl, refl, (refl, refl, refl, refl, refl, refl, refl), is_there)

@@ -1,5 +1,0 @@
-pub mod Blocks
-pub mod Listed
-pub mod Places
-pub mod Sums
-pub mod Weights

@@ -1,0 +1,13 @@
+use Rattle.std.proofs.Common.{◌≡◌, ◌+◌, ◌-◌, ◌≤◌, length, drop, not}
+use Rattle.std.specs.List.{position_or_len}
+use Rattle.ls_lexer.specs.Characters.{is_part}
+use Rattle.ls_explanations.proofs.tokens.front_name.Given as goal
+
+abbrev pub invariant-loop-end : goal.invariant-loop-end
+invariant-loop-end l =
+    (l.end ≤ length l.text)
+    × (position_or_len (λ b. not (is_part b)) l.text ≡
+    l.end + position_or_len (λ b. not (is_part b)) (drop l.end l.text))
+
+abbrev pub decreases-loop-end : goal.decreases-loop-end
+decreases-loop-end l = length l.text - l.end

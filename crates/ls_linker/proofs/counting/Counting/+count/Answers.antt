@@ -1,0 +1,121 @@
+use Rattle.std.proofs.Common.{◌≡◌, ℕ, ◌+◌, ◌*◌, ◌∷◌, ◌++◌, ◌≤◌, suc, append_assoc, drop, ap, subst, sym, ◌∙◌, rules}
+use Rattle.std.proofs.Common.{arith, List, OnOk, length}
+use Rattle.std.specs.Prelude.{min}
+use Rattle.ls_lowered.specs.declared.tree.Statement.{Statement}
+use Rattle.ls_lowered.specs.LoweredTree.{Leavable}
+use Rattle.ls_lowered.specs.Plain.{plain_statement, statements_of}
+use Rattle.ls_finally_exits.specs.Exits.{count}
+use Rattle.ls_finally_exits.proofs.Counted.{counted}
+use Rattle.ls_finally_copies.proofs.Fronts.{left_at, leavable_read}
+use Rattle.ls_finally_copies.proofs.Weights.{size, size_at}
+use Rattle.ls_linker.specs.declared.ways.Way.{Way}
+use Rattle.ls_linker.specs.Costs.{beyond, ways_of, all_ways, copied, total, returned, flat_size}
+use Rattle.ls_linker.proofs.More.{capped}
+use Rattle.ls_linker.proofs.Times.{scaled_few}
+use Rattle.ls_linker.proofs.counting.Counting.+count.Goals as goal
+
+pub count-count_leavable-requires : goal.count-count_leavable-requires
+count-count_leavable-requires t c =
+    let body = c.deref-in-Leavable.result.now in
+    let own = c.deref-in-Leavable-2.result.now in
+    let e : plain_statement c.args.s.now ≡ Leavable (plain_statement body) (statements_of own) = leavable_read
+    c.args.s.now c.in-Leavable.body c.in-Leavable.own body own c.deref-in-Leavable.ensures
+    c.deref-in-Leavable-2.ensures.value c.in-Leavable.is in
+    (omega (arith, ap size e), (c.requires.few, c.requires.short))
+
+pub count-returns-in-Leavable-clause-ways : goal.count-returns-in-Leavable-clause-ways
+count-returns-in-Leavable-clause-ways t c =
+    let body = c.deref-in-Leavable.result.now in
+    let own = c.deref-in-Leavable-2.result.now in
+    let e : plain_statement c.args.s.now ≡ Leavable (plain_statement body) (statements_of own) = leavable_read
+    c.args.s.now c.in-Leavable.body c.in-Leavable.own body own c.deref-in-Leavable.ensures
+    c.deref-in-Leavable-2.ensures.value c.in-Leavable.is in
+    rw e c.count_leavable.ensures.ways
+
+pub count-returns-in-Leavable-clause-copies : goal.count-returns-in-Leavable-clause-copies
+count-returns-in-Leavable-clause-copies t c =
+    let body = c.deref-in-Leavable.result.now in
+    let own = c.deref-in-Leavable-2.result.now in
+    let e : plain_statement c.args.s.now ≡ Leavable (plain_statement body) (statements_of own) = leavable_read
+    c.args.s.now c.in-Leavable.body c.in-Leavable.own body own c.deref-in-Leavable.ensures
+    c.deref-in-Leavable-2.ensures.value c.in-Leavable.is in
+    rw e c.count_leavable.ensures.copies
+
+pub count-returns-in-Leavable-clause-length : goal.count-returns-in-Leavable-clause-length
+count-returns-in-Leavable-clause-length t c =
+    let body = c.deref-in-Leavable.result.now in
+    let own = c.deref-in-Leavable-2.result.now in
+    let e : plain_statement c.args.s.now ≡ Leavable (plain_statement body) (statements_of own) = leavable_read
+    c.args.s.now c.in-Leavable.body c.in-Leavable.own body own c.deref-in-Leavable.ensures
+    c.deref-in-Leavable-2.ensures.value c.in-Leavable.is in
+    rw e c.count_leavable.ensures.length
+
+pub count-returns-in-Leavable-clause-few : goal.count-returns-in-Leavable-clause-few
+count-returns-in-Leavable-clause-few t c =
+    let body = c.deref-in-Leavable.result.now in
+    let own = c.deref-in-Leavable-2.result.now in
+    let e : plain_statement c.args.s.now ≡ Leavable (plain_statement body) (statements_of own) = leavable_read
+    c.args.s.now c.in-Leavable.body c.in-Leavable.own body own c.deref-in-Leavable.ensures
+    c.deref-in-Leavable-2.ensures.value c.in-Leavable.is in
+    rw e c.count_leavable.ensures.few
+
+pub count_all-count-requires : goal.count_all-count-requires
+count_all-count-requires t c =
+    let xs : List Statement = c.args.statements.now in
+    let i = c.loop-s.s-index in
+    let s = c.s-item.result in
+    let split : drop i xs ≡ s ∷ drop (i + 1) xs = left_at xs i s (search rules) c.s-item.is in
+    let less = size_at xs i s split in
+    (omega (arith, less), (c.loop-s.invariant.3, c.loop-s.invariant.4))
+
+pub count_leavable-returns-clause-ways : goal.count_leavable-returns-clause-ways
+count_leavable-returns-clause-ways t c =
+    let own : List Statement = c.args.own.now in
+    let before : List Way = c.args.out.now.items in
+    let inner : List Way = ways_of (plain_statement c.args.body.now) in
+    let others : List Way = all_ways (statements_of own) in
+    let numbers : length own + 1 ≡ suc (count (statements_of own)) = omega (arith, counted own) in
+    let found : c.deref.result.now ≡ inner = c.deref.ensures.value ∙ c.in_ok-count.ensures.ways ∙
+    ap (λ (ws : List Way). ws ++ inner) c.new-ways.ensures.items in
+    let whole : c.put_beyond.new.out.items ++ others ≡ before ++
+    (beyond (suc (count (statements_of own))) inner ++ others) =
+    ap (λ (ws : List Way). ws ++ others) (c.in_ok-put_beyond.ensures ∙
+    ap (λ n. before ++ beyond n c.deref.result.now) numbers ∙
+    ap (λ (ws : List Way). before ++ beyond (suc (count (statements_of own))) ws) found)
+    ∙ append_assoc before (beyond (suc (count (statements_of own))) inner) others in
+    subst (λ (ws : List Way). OnOk c.count_all.result (c.count_all.new.out.items ≡ ws)) whole c.count_all.ensures.ways
+
+pub count_try-put_scaled-requires : goal.count_try-put_scaled-requires
+count_try-put_scaled-requires t c =
+    let f = plain_statement c.args.finally.now in
+    let before : ℕ = c.count.new.self.copies in
+    let n : ℕ = c.in_ok-blocks.blocks in
+    let inside : ℕ = c.count-2.new.self.copies in
+    let all : List Way → List Way = λ ws. ws ++ ways_of f in
+    let found : c.deref-3.result.now ≡ ways_of f = c.deref-3.ensures.value ∙ c.in_ok-count-2.ensures.ways ∙
+    ap all c.new-inner.ensures.items in
+    let one : inside ≡ copied f = omega (arith, c.in_ok-count-2.ensures.copies) in
+    let few : before + n * (1 + inside) ≤ 4096 = subst (λ k. before + k * (1 + inside) ≤ 4096)
+    (sym c.in_ok-blocks.ensures.count) c.in_ok-blocks.ensures.few in
+    scaled_few before n f c.deref-3.result.now found (subst (λ k. before + n * (1 + k) ≤ 4096) one few)
+
+pub count_try-returns-clause-length : goal.count_try-returns-clause-length
+count_try-returns-clause-length t c =
+    let inner : List Way = ways_of (plain_statement c.args.body.now) in
+    let first : ℕ = flat_size (plain_statement c.args.body.now) in
+    let second : ℕ = flat_size (plain_statement c.args.finally.now) in
+    let before : ℕ = c.args.self.now.length in
+    let all : List Way → List Way = λ ws. ws ++ inner in
+    let counted = c.in_ok-count.ensures.ways ∙ ap all c.new-ways.ensures.items in
+    let seen : c.deref-2.result.now ≡ inner = c.deref-2.ensures.value ∙ counted in
+    let body : c.count.new.self.length ≡ min (before + first) 65537 = c.in_ok-count.ensures.length in
+    let inside : c.count-2.new.self.length ≡ min second 65537 = omega (arith, c.in_ok-count-2.ensures.length) in
+    let whole : c.add_blocks.new.self.length ≡ min (before + first + (2 + total inner) * (second + 2) + 2 * returned
+    inner + 4) 65537 =
+    c.in_ok-blocks.ensures.length
+    ∙ ap (λ (ws : List Way). min (c.count.new.self.length + (2 + total ws) * (c.count-2.new.self.length + 2) + 2 *
+    returned ws + 4) 65537) seen
+    ∙ ap (λ n. min (c.count.new.self.length + (2 + total inner) * (n + 2) + 2 * returned inner + 4) 65537) inside
+    ∙ ap (λ n. min (n + (2 + total inner) * (min second 65537 + 2) + 2 * returned inner + 4) 65537) body
+    ∙ capped (before + first) (total inner) second (returned inner) in
+    omega (arith, whole)

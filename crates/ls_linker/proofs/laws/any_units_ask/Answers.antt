@@ -1,0 +1,7 @@
+use Rattle.ls_linker.proofs.Linked.{linked_asks}
+use Rattle.ls_linker.proofs.UnitRuns.{each_within}
+use Rattle.ls_linker.proofs.laws.any_units_ask.Goals as goal
+
+pub returns : goal.returns
+returns c = λ file program lowered units asks stand typed. linked_asks file program lowered units asks stand.takes
+    (each_within units stand.rows) stand.ask typed

@@ -1,0 +1,7 @@
+use Rattle.std.proofs.Common.{◌≡◌, ◌+◌, ◌≤◌, drop}
+use Rattle.std.specs.Prelude.{min}
+use Rattle.ls_linker.specs.Costs.{total}
+use Rattle.ls_linker.proofs.ways.total_of.Given as goal
+
+abbrev pub invariant-loop-way : goal.invariant-loop-way
+invariant-loop-way l = (min (l.all + total (drop l.way-index l.ways)) 4097 ≡ min (total l.ways) 4097) × (l.all ≤ 4097)

@@ -1,9 +1,0 @@
-use Rattle.std.proofs.Math.Logic.{∥∥₁_elim}
-use Rattle.ls_refs_expressions.specs.Lowered.{lowered_file}
-use Rattle.ls_linker_bounds.proofs.Once.{placed_once}
-use Rattle.ls_linker_bounds.proofs.Placed.{file_placed}
-use Rattle.ls_linker_bounds.proofs.in_range.typed_is_placed.Goals as goal
-
-pub returns : goal.returns
-returns c = λ file well. ∥∥₁_elim well (placed_once (lowered_file file) (lowered_file file))
-    (λ w. file_placed file w.typed)

@@ -1,5 +1,0 @@
-use Rattle.ls_linker_bounds.proofs.Framed.{frames_quick}
-use Rattle.ls_linker_bounds.proofs.quickness.frames_are_quick.Goals as goal
-
-pub returns : goal.returns
-returns c = frames_quick

@@ -1,4 +1,0 @@
-pub mod Idling
-pub mod Floor
-pub mod Landing
-pub mod Links

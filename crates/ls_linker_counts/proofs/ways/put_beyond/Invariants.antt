@@ -1,7 +1,0 @@
-use Rattle.std.proofs.Common.{◌≡◌, ◌++◌, drop}
-use Rattle.ls_linker_counts.specs.Counts.{beyond}
-use Rattle.ls_linker_counts.proofs.ways.put_beyond.Given as goal
-
-abbrev pub invariant-loop-way : goal.invariant-loop-way
-invariant-loop-way l = l.out.items ++ beyond l.inside (drop l.way-index l.ways) ≡ l.initial.out.items ++
-    beyond l.inside l.ways

@@ -1,7 +1,0 @@
-use Rattle.std.proofs.Common.{◌≡◌, ◌+◌, ◌≤◌, drop}
-use Rattle.std.specs.Prelude.{min}
-use Rattle.ls_linker_counts.specs.Counts.{total}
-use Rattle.ls_linker_counts.proofs.ways.total_of.Given as goal
-
-abbrev pub invariant-loop-way : goal.invariant-loop-way
-invariant-loop-way l = (min (l.all + total (drop l.way-index l.ways)) 4097 ≡ min (total l.ways) 4097) × (l.all ≤ 4097)

@@ -1,8 +1,0 @@
-use Rattle.ls_linker_laws.specs.Linked.{linked}
-use Rattle.ls_linker_laws.proofs.laws.any_units_are_same.Goals as goal
-
-pub returns : goal.returns
-returns c = λ file program lowered units asks stand typed classes reads constants program_constants.
-    c.same_traces.ensures file program (linked file program units)
-    (c.any_units_ask.ensures file program lowered units asks stand reads) constants program_constants
-    (c.is_sound.ensures file program typed classes reads)

@@ -1,0 +1,5 @@
+use Rattle.ls_preservation.proofs.Determined.{written_one}
+use Rattle.ls_preservation.proofs.laws.words_determine.Goals as goal
+
+pub returns : goal.returns
+returns c = written_one

@@ -1,9 +1,0 @@
-use Rattle.std.specs.Prelude.{All}
-use Rattle.ls_turnstile.specs.Turns.{IsSeatOf}
-use Rattle.ls_turnstile_trials.proofs.memory.goes_in_order.Given as goal
-
-abbrev pub invariant-loop-place : goal.invariant-loop-place
-invariant-loop-place l = All (IsSeatOf l.turnstile) l.seats
-
-abbrev pub invariant-loop-thread : goal.invariant-loop-thread
-invariant-loop-thread l = All (IsSeatOf l.turnstile) l.seats

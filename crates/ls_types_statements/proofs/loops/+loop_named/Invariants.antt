@@ -1,0 +1,5 @@
+use Rattle.std.proofs.Common.{length}
+use Rattle.ls_types_statements.proofs.loops.+loop_named.Given as goal
+
+abbrev pub decreases-loop_named : goal.decreases-loop_named
+decreases-loop_named l = length l.loops.now

@@ -1,5 +1,0 @@
-use Rattle.std.proofs.Common.{length}
-use Rattle.ls_types_statements.proofs.statements.+loop_named.Given as goal
-
-abbrev pub decreases-loop_named : goal.decreases-loop_named
-decreases-loop_named l = length l.loops.now
