@@ -3,7 +3,7 @@
 
 use ls_lexer::fault::TextFault;
 use ls_lexer::lexing::lex;
-use ls_parser::parse::parse_text;
+use ls_parser::parsing::parse_text;
 use ls_stored_classes::LOCK_FREE;
 use std::alloc::{AllocError, Global};
 use std::{env, io};

@@ -18,11 +18,10 @@ FILES = {
     "ls_events": ("action", "event", "kind", "value"),
     "ls_checked": ("program", "tree"),
     "ls_meaning": ("completion", "sort", "step"),
-    "ls_source_values": ("lookups", "value"),
-    "ls_source_store": ("store", "thing"),
+    "ls_source_store": ("lookups", "store", "thing", "value"),
     "ls_source_pending": ("calls", "expressions", "onward", "operands", "pending", "stack", "tables", "work"),
     "ls_source_moves": ("endings", "moves", "settling", "statements"),
-    "ls_source": ("next", "playing", "run", "stage", "thread"),
+    "ls_source": ("next", "playing", "run", "store_and_events", "thread"),
 }
 
 

@@ -7,7 +7,6 @@ mod ls_source_moves;
 mod ls_source_pending;
 mod ls_source_store;
 mod ls_source;
-mod ls_source_values;
 mod timing;
 mod trees;
 

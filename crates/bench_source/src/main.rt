@@ -7,9 +7,8 @@ mod timing;
 
 use crate::part::{CLASSES, Part, part_of, program_text};
 use crate::timing::{Taken, take_steps};
-use ls_parser::parse::parse_text;
-use ls_types_files::check::check;
-use ls_types_reading::program::read_program;
+use ls_parser::parsing::parse_text;
+use ls_types::{check, read_program};
 use std::alloc::Global;
 use std::{env, io};
 

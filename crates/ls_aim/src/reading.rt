@@ -1,9 +1,8 @@
 // What an item with a target says.
 
-ghost use Rattle.std.specs.Prelude.{◌≡◌, ◌+◌, ◌<◌, ◌≤◌, ◌-◌, IfSome, ℕ, List, length, map, min, option_map, take};
-ghost use Rattle.std.specs.Prelude.{drop, Some};
+ghost use Rattle.std.specs.Prelude.{◌≡◌, ◌+◌, ◌<◌, ◌≤◌, ◌-◌, IfSome, length, map, option_map, take};
+ghost use Rattle.std.specs.Prelude.{Some};
 ghost use Rattle.std.specs.List.{position};
-ghost use Rattle.std.specs.Str.{bytes_eq};
 ghost use Rattle.ls_schedule.specs.Answers.{Says};
 ghost use Rattle.ls_schedule.specs.Reading.{count_of, thread_name};
 ghost use Rattle.ls_aim.specs.Reading.{bare, before, before_counted, before_said, closed_at, is_colon, is_mark};
@@ -15,6 +14,7 @@ use ls_checked::program::ThreadProgram;
 use ls_lexer::names::is_name_bytes;
 use ls_schedule::count;
 use ls_schedule::fault::ScheduleFault;
+use ls_schedule::reading::thread_named;
 
 /// Where a thread is to stop: at its end or where it waits, or before a step whose label has a text, of which it passes
 /// so many.
@@ -164,22 +164,6 @@ fn stop_said(said: &[u8]) -> Option<Stop<'_>>
             }
         }
     }
-}
-
-fn thread_at(threads: &[ThreadProgram], name: &[u8]) -> Option<usize>
-    ensures place { result ≡ position (λ t. bytes_eq (thread_name t) name.now) threads.now }
-    ensures within { IfSome result (λ i. i < length threads.now) }
-{
-    threads.iter().position(|t| t.name.as_bytes() == name)
-}
-
-// The thread of that name.
-#[tactic(auto, using(ls_schedule::proofs::Named::position_map))]
-fn thread_named(threads: &[ThreadProgram], name: &[u8]) -> Option<usize>
-    ensures place { result ≡ position (λ n. bytes_eq n name.now) (map thread_name threads.now) }
-    ensures within { IfSome result (λ i. i < length threads.now) }
-{
-    thread_at(threads, name)
 }
 
 fn named<'t>(

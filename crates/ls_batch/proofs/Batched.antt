@@ -9,11 +9,11 @@ use Rattle.std.proofs.lemmas.List.FromFn.{length-range_with_len}
 use Rattle.std.proofs.lemmas.Bool.{cases_lt}
 use Rattle.ls_batch.specs.Samples.{IsBadCount}
 use Rattle.ls_batch.specs.declared.samples.Sampler.{Sampler}
-use Rattle.ls_batch_tally.specs.declared.counting.Counts.{Counts}
-use Rattle.ls_batch_tally.specs.Numbers.{Key}
-use Rattle.ls_batch_tally.specs.Counted.{AreCounts, both, count_at, counted, Run, run, runs_from}
-use Rattle.ls_batch_tally.specs.Tallies.{History}
-use Rattle.ls_batch_tally.proofs.Both.{counted_append, counted_more, one_run}
+use Rattle.ls_batch.specs.declared.counting.Counts.{Counts}
+use Rattle.ls_batch.specs.Numbers.{Key}
+use Rattle.ls_batch.specs.Counted.{AreCounts, both, count_at, counted, Run, run, runs_from}
+use Rattle.ls_batch.specs.Tallies.{History}
+use Rattle.ls_batch.proofs.Both.{counted_append, counted_more, one_run}
 
 -- the run of one seed more
 pub seed_counted : (h : ℕ → History) (seeds : List ℕ) (k : ℕ) (old new : Counts) →

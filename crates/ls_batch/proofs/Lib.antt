@@ -5,3 +5,16 @@ pub mod Batched
 pub mod Replayed
 pub mod Ended
 pub mod Printed
+pub mod Standing
+pub mod Exact
+pub mod Both
+pub mod Put
+pub mod Tallied
+pub mod Taken
+pub mod Judged
+pub mod Rows
+pub mod Seeds
+pub mod Merged
+pub mod Alone
+pub mod Apart
+pub mod MergedBatches

@@ -6,7 +6,7 @@ use Rattle.std.proofs.lemmas.List.{map-append}
 use Rattle.ls_checked.specs.CheckedProgram.{Program}
 use Rattle.ls_report.specs.Events.{Text}
 use Rattle.ls_batch.specs.Printing.{entry_text, tally_text}
-use Rattle.ls_batch_tally.specs.Tallies.{Row}
+use Rattle.ls_batch.specs.Tallies.{Row}
 use Rattle.ls_batch.proofs.Batched.{zip_last}
 
 abbrev pub whole : List Text → Text

@@ -4,3 +4,12 @@ pub mod Ended
 pub mod Gathered
 pub mod Printing
 pub mod Replays
+pub mod Keys
+pub mod Tallies
+pub mod Rows
+pub mod Numbers
+pub mod Counted
+pub mod Words
+pub mod Judged
+pub mod Merging
+pub mod Batches

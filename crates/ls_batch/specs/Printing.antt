@@ -5,7 +5,7 @@ use Rattle.std.specs.List.{flat_map}
 use Rattle.ls_checked.specs.CheckedProgram.{Program}
 use Rattle.ls_report.specs.Events.{Text}
 use Rattle.ls_report.specs.Printing.{run_text}
-use Rattle.ls_batch_tally.specs.Tallies.{Row}
+use Rattle.ls_batch.specs.Tallies.{Row}
 
 -- as `seed 7 count 3`, with its line feed
 abbrev pub head_text : Row → Text

@@ -1,20 +1,19 @@
 // The runs of consecutive seeds, and their tally.
 
-ghost use Rattle.std.specs.Prelude.{◌≡◌, ◌↔◌, ℕ, ◌+◌, ◌≤◌, ◌^◌, map, IfOk, IsErrOf, IsTrue};
+ghost use Rattle.std.specs.Prelude.{◌≡◌, ◌↔◌, ◌+◌, ◌≤◌, ◌^◌, map, IfOk, IsErrOf, IsTrue};
 ghost use Rattle.std.specs.List.{range_with_len};
 ghost use Rattle.ls_image.specs.Images.{RunsAsItsTexts, code_of_image};
 ghost use Rattle.ls_machine.specs.Room.{AreBadCells};
 ghost use Rattle.ls_batch.specs.Samples.{IsBadCount, IsBadSampler, histories_of};
-ghost use Rattle.ls_batch_tally.specs.Tallies.{IsTally};
+ghost use Rattle.ls_batch.specs.Tallies.{IsTally};
 
+use crate::Tally;
 use crate::fault::BatchFault;
 use crate::gathering::counts_of;
 use crate::samples::Sampler;
-use ls_batch_tally::Tally;
-use ls_code::code::Code;
 use ls_image::image::Image;
 use ls_image::laws::runs;
-use ls_machine::MOST_CELLS;
+use ls_machine::are_bad_cells;
 use std::alloc::{AllocError, Global};
 use std::thread::Threads;
 
@@ -23,13 +22,6 @@ const MOST_SEEDS: usize = 100_000;
 const MOST_STEPS: usize = 900_000;
 
 const MOST_SWITCH: u64 = 900_000;
-
-/// Whether no machine of the code has so many cells.
-pub(crate) fn are_bad_cells(code: &Code, cells: usize) -> bool
-    ensures { IsTrue result ↔ AreBadCells code.now.names cells }
-{
-    cells == 0 || cells > MOST_CELLS || cells < code.names()
-}
 
 /// Whether there are too many steps, or the chance is none or too small.
 fn is_bad_drawing(drawing: Sampler) -> bool

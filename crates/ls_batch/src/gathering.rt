@@ -1,15 +1,15 @@
 // The counts of many seeds' histories.
 
-ghost use Rattle.std.specs.Prelude.{◌≡◌, ◌<◌, ℕ, List, IfOk};
+ghost use Rattle.std.specs.Prelude.{◌<◌, ℕ, List, IfOk};
 ghost use Rattle.std.specs.List.{AllZip, flat_map};
 ghost use Rattle.rayon.specs.Lists.{chunks_of};
 ghost use Rattle.ls_machine.specs.Room.{AreBadCells};
 ghost use Rattle.ls_batch.specs.Gathered.{runs_of};
-ghost use Rattle.ls_batch_tally.specs.Counted.{AreCounts, Run};
+ghost use Rattle.ls_batch.specs.Counted.{AreCounts, Run};
 
 use crate::runs::{load, one_run, threads_of};
 use crate::samples::Sampler;
-use ls_batch_tally::{Counts, joined};
+use crate::{Counts, joined};
 use ls_code::code::Code;
 use rayon::current_num_threads;
 use rayon::prelude::*;

@@ -6,9 +6,9 @@ ghost use Rattle.rayon.specs.Lists.{chunks_of};
 ghost use Rattle.ls_checked.specs.PlainProgram.{plain_program};
 ghost use Rattle.ls_report.specs.Events.{Text};
 ghost use Rattle.ls_batch.specs.Printing.{entry_text, head_text, tally_text};
-ghost use Rattle.ls_batch_tally.specs.Rows.{entry_row};
+ghost use Rattle.ls_batch.specs.Rows.{entry_row};
 
-use ls_batch_tally::{Entry, Tally};
+use crate::{Entry, Tally};
 use ls_checked::program::Program;
 use ls_report::print_history;
 use rayon::current_num_threads;

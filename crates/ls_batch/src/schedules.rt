@@ -1,12 +1,12 @@
 // The schedule of a seed's run.
 
-ghost use Rattle.std.specs.Prelude.{◌≡◌, ◌↔◌, ◌++◌, ◌<◌, ◌≤◌, IfOk, IsErrOf, length, replicate};
+ghost use Rattle.std.specs.Prelude.{◌≡◌, ◌↔◌, ◌++◌, ◌<◌, ◌≤◌, IfOk, IsErrOf, replicate};
 ghost use Rattle.ls_code.specs.Machine.{loaded, machine_history};
 ghost use Rattle.ls_image.specs.Images.{code_of_image};
 ghost use Rattle.ls_machine.specs.Room.{AreBadCells};
-ghost use Rattle.ls_batch.specs.Samples.{IsBadCount, history_of, sample_of, seed_schedule, settling, threads_of};
+ghost use Rattle.ls_batch.specs.Samples.{IsBadCount, history_of, seed_schedule, settling, threads_of};
 
-use crate::batching::{are_bad_cells, is_bad_count};
+use crate::batching::is_bad_count;
 use crate::fault::BatchFault;
 use crate::laws::seeds_replay;
 use crate::runs::{MOST_SETUP_STEPS, load, settle, threads_of};
@@ -14,6 +14,7 @@ use crate::samples::{Sampler, sample};
 use ls_code::code::Code;
 use ls_events::schedule::Schedule;
 use ls_image::image::Image;
+use ls_machine::are_bad_cells;
 use std::alloc::{AllocError, Global};
 
 /// How many steps of the setup are taken before a sample.

@@ -26,7 +26,7 @@ pub record Seen : Type 0 where
 
 abbrev pub seen_of : Moment → Seen
 seen_of m = record {
-  store = store_of m.playing.stage.store;
+  store = store_of m.playing.store_and_events.store;
   threads = map thread_of m.playing.threads.items;
   labels = m.labels.items;
   calls = m.calls.items;

@@ -142,14 +142,17 @@ impl<'a> Moment<'a> {
         ensures { IsTrue result → seen_of self.now ≡ seen_of other.now }
     {
         are_same_calls(&self.calls, &other.calls)
-            && is_same_store(&self.playing.stage.store, &other.playing.stage.store)
+            && is_same_store(
+                &self.playing.store_and_events.store,
+                &other.playing.store_and_events.store,
+            )
             && are_same_threads(&self.playing.threads, &other.playing.threads)
             && are_same_labels(&self.labels, &other.labels)
     }
 
     /// A number by which the same moments are looked for. Nothing depends on it.
     pub fn hash(&self) -> u64 {
-        let mut hash = hashing::hash_of_store(&self.playing.stage.store);
+        let mut hash = hashing::hash_of_store(&self.playing.store_and_events.store);
         for thread in &self.playing.threads {
             let work = hashing::hash_of_thread(thread);
             hash = hashing::hash_of_key(1, hash as usize, work as usize);

@@ -3,25 +3,25 @@ use Rattle.std.specs.Prelude.{◌≡◌, ◌<◌, ◌⊎◌, ℕ, List, Result, 
 use Rattle.ls_lexer.specs.declared.fault.TextFault.{TextFault}
 use Rattle.ls_tree.specs.Trees.{File as ParsedFile}
 use Rattle.ls_parser_spelling.specs.Spells.{TextSpells}
-use Rattle.ls_parser_placing.specs.Files.{IsFileOf}
+use Rattle.ls_parser_spelling.specs.Files.{IsFileOf}
 use Rattle.ls_parser.specs.Comes.{Comes}
 use Rattle.ls_parser_tokens.specs.Answers.{Refuses}
 use Rattle.ls_checked.specs.CheckedProgram.{Program}
-use Rattle.ls_types_elaboration.specs.Elaboration.{Outcome, elaborated}
+use Rattle.ls_types_elaboration.specs.Elaboration.{ElaboratedFile, elaborated}
 use Rattle.ls_types_elaboration.specs.Trees.{File}
 use Rattle.ls_types_elaboration.specs.Refused as typing
 use Rattle.ls_types_programs.specs.Programs.{IsTextOf}
-use Rattle.ls_types.specs.ProgramRefusals.{IsNoProgram}
+use Rattle.ls_types_checked.specs.ProgramRefusals.{IsNoProgram}
 use Rattle.ls_types_elaboration.specs.declared.rule.CheckFault.{CheckFault}
-use Rattle.ls_types.specs.declared.fault.ProgramFault.{ProgramFault}
+use Rattle.ls_types_checked.specs.declared.fault.ProgramFault.{ProgramFault}
 use Rattle.ls_schedule.specs.Reading.{schedule_of}
 use Rattle.ls_schedule.specs.declared.fault.ScheduleFault.{ScheduleFault}
-use Rattle.ls_explore_images.specs.declared.fault.ExploreFault.TheVariants as explore
+use Rattle.ls_explore.specs.declared.fault.ExploreFault.TheVariants as explore
 use Rattle.ls_report.specs.Events.{Text}
 use Rattle.ls_labels.specs.Names.{Names}
 use Rattle.ls_page.specs.Data.{Texts, texts_of}
-use Rattle.ls_choices_page.specs.Data.{IsData}
-use Rattle.ls_choices_page.specs.Setup.{IsLongSetup, IsSetup}
+use Rattle.ls_page.specs.ChoicesData.{IsData}
+use Rattle.ls_page.specs.Setup.{IsLongSetup, IsSetup}
 use Rattle.ls_faults.specs.Faults.{lifted_text, lifted_check, lifted_program, lifted_schedule}
 use Rattle.ls_faults.specs.declared.fault.ToolFault.{ToolFault}
 use Rattle.ls_faults.specs.declared.fault.ToolFault.TheVariants as faults
@@ -60,7 +60,7 @@ pub data FollowsTo (w : Wanted) (names : Names) : Result Text ToolFault → Type
       FollowsTo w names (Err (lifted_schedule f))
 
 -- the program part is a program of the file, and the answer is that of its schedule; or the program part is no program
-pub data RunsTo (w : Wanted) (o : Outcome) : Result Text ToolFault → Type 0 where
+pub data RunsTo (w : Wanted) (o : ElaboratedFile) : Result Text ToolFault → Type 0 where
   Ran : (p : Program) (answer : Result Text ToolFault) →
       IsTextOf o p w.texts.program → FollowsTo w (names_in o p) answer →
       RunsTo w o answer
@@ -69,7 +69,7 @@ pub data RunsTo (w : Wanted) (o : Outcome) : Result Text ToolFault → Type 0 wh
 -- The class part is a file that keeps every rule, and the answer is that of its program. Or it is a file that breaks
 -- the named rule. Or it is no file, and the fault is one that may come of it.
 pub data Chooses (w : Wanted) : Result Text ToolFault → Type 0 where
-  Checks : (file : File) (o : Outcome) (answer : Result Text ToolFault) →
+  Checks : (file : File) (o : ElaboratedFile) (answer : Result Text ToolFault) →
       IsFileOf w.texts.classes file → elaborated file ≡ Ok o → RunsTo w o answer →
       Chooses w answer
   Breaks : (file : File) (f : CheckFault) →

@@ -1,23 +1,21 @@
 // The command `page` where one chooses who steps next.
 
 ghost use Rattle.std.specs.Prelude.{◌≡◌, ◌↔◌, IsTrue};
-ghost use Rattle.ls_types.specs.CheckedFile.{outcome_of};
+ghost use Rattle.ls_types_checked.specs.CheckedFile.{elaborated_file};
 ghost use Rattle.ls_labels.specs.Names.{names_of};
 ghost use Rattle.ls_faults.specs.Given.{GivesText};
 ghost use Rattle.ls_choosing.specs.Chosen.{AreBadStates, ChoosesTo, Chooses, FollowsTo, RunsTo, ShowsTo, wanted_of};
 
 use crate::wanted::Wanted;
-use ls_choices_page::{choices_data, setup_steps};
 use ls_commands::names_in;
-use ls_explore_images::ExploreFault;
+use ls_explore::ExploreFault;
 use ls_faults::fault::ToolFault;
 use ls_labels::names::Names;
-use ls_page::Texts;
-use ls_parser::parse::parse_text;
+use ls_page::{Texts, choices_data, setup_steps};
+use ls_parser::parsing::parse_text;
 use ls_schedule::read_schedule;
-use ls_types::checked::Checked;
-use ls_types_files::check::check;
-use ls_types_reading::program::read_program;
+use ls_types::{check, read_program};
+use ls_types_checked::checked::Checked;
 use std::alloc::Global;
 
 /// The most states that may be kept.
@@ -59,7 +57,7 @@ fn followed(alloc: Global, wanted: Wanted, names: Names) -> Result<String, ToolF
 
 // The page of the program that the text is for the checked file.
 fn run(alloc: Global, wanted: Wanted, checked: &Checked) -> Result<String, ToolFault>
-    ensures { GivesText (RunsTo (wanted_of wanted.entry) (outcome_of checked.now)) result }
+    ensures { GivesText (RunsTo (wanted_of wanted.entry) (elaborated_file checked.now)) result }
 {
     let program = read_program(alloc, wanted.texts.program, checked)?;
     followed(alloc, wanted, names_in(checked, &program))

@@ -21,10 +21,10 @@ use Rattle.ls_tree.specs.Trees.{ClassTree, File, Text}
 use Rattle.ls_tree.specs.Views.{bare_class}
 use Rattle.ls_tree.specs.declared.tree.Class.{Class}
 use Rattle.ls_tree.specs.declared.tree.ClassFile.{ClassFile}
-use Rattle.ls_menus.specs.Limits.{AreTooMany}
-use Rattle.ls_menus.specs.Menus.{constructor_parameters, makings}
-use Rattle.ls_menus.specs.declared.fault.MenuFault.{MenuFault}
-use Rattle.ls_menus.specs.declared.fault.MenuFault.TheVariants as menus
+use Rattle.ls_class_programs.specs.Limits.{AreTooMany}
+use Rattle.ls_class_programs.specs.Menus.{constructor_parameters, makings}
+use Rattle.ls_class_programs.specs.declared.menu_fault.MenuFault.{MenuFault}
+use Rattle.ls_class_programs.specs.declared.menu_fault.MenuFault.TheVariants as menus
 use Rattle.ls_class_programs.specs.Chosen.{chosen}
 use Rattle.ls_class_programs.specs.ClassPrograms.{Chooses, IsClassFault, LacksAtPlace, LacksPrograms, NoFile}
 use Rattle.ls_class_programs.specs.ClassPrograms.{HasTooManyCalls, NoPrograms, OutOfMemory, menu_calls}

@@ -2,7 +2,7 @@
 use Rattle.std.specs.Prelude.{ℕ, zero, suc, nat_lt, cond, List, Option, Some, None, length}
 use Rattle.ls_lexer.specs.Lexemes.{Lexeme}
 use Rattle.ls_tree.specs.Trees.{ClassTree}
-use Rattle.ls_menus.specs.Meant.{meant}
+use Rattle.ls_class_programs.specs.Meant.{meant}
 
 -- the place of the class of a number, from 1, among so many
 abbrev pub numbered : ℕ → ℕ → Option ℕ

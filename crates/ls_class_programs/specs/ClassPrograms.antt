@@ -9,9 +9,9 @@ use Rattle.ls_tree.specs.Trees.{ClassTree, File, Text}
 use Rattle.ls_families.specs.Families.{count_of, family_of}
 use Rattle.ls_families.specs.Shapes.{AreBad}
 use Rattle.ls_family_search.specs.Judged.{Programs}
-use Rattle.ls_menus.specs.Limits.{AreTooMany, ClassHasTooMany}
-use Rattle.ls_menus.specs.Menus.{class_calls, constructor_parameters, makings}
-use Rattle.ls_menus.specs.Written.{Entry, entries}
+use Rattle.ls_class_programs.specs.Limits.{AreTooMany, ClassHasTooMany}
+use Rattle.ls_class_programs.specs.Menus.{class_calls, constructor_parameters, makings}
+use Rattle.ls_class_programs.specs.Written.{Entry, entries}
 use Rattle.ls_class_programs.specs.Chosen.{chosen}
 use Rattle.ls_class_programs.specs.declared.choosing.Choosing.{Choosing}
 use Rattle.ls_class_programs.specs.declared.fault.ClassFault.{ClassFault}

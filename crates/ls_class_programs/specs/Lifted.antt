@@ -3,8 +3,8 @@ use Rattle.ls_families.specs.declared.fault.FamilyFault.{FamilyFault}
 use Rattle.ls_families.specs.declared.fault.FamilyFault.TheVariants as family
 use Rattle.ls_lexer.specs.declared.fault.TextFault.{TextFault}
 use Rattle.ls_lexer.specs.declared.fault.TextFault.TheVariants as text
-use Rattle.ls_menus.specs.declared.fault.MenuFault.{MenuFault}
-use Rattle.ls_menus.specs.declared.fault.MenuFault.TheVariants as menu
+use Rattle.ls_class_programs.specs.declared.menu_fault.MenuFault.{MenuFault}
+use Rattle.ls_class_programs.specs.declared.menu_fault.MenuFault.TheVariants as menu
 use Rattle.ls_class_programs.specs.declared.fault.ClassFault.{ClassFault}
 use Rattle.ls_class_programs.specs.declared.fault.ClassFault.TheVariants as faults
 

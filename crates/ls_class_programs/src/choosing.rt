@@ -5,9 +5,9 @@ ghost use Rattle.ls_lexer.specs.Lexemes.{lexemes};
 ghost use Rattle.ls_tree.specs.Views.{bare_class};
 ghost use Rattle.ls_class_programs.specs.Chosen.{chosen, numbered};
 
+use crate::meant;
 use ls_families::Bounds;
 use ls_lexer::token::Token;
-use ls_menus::meant;
 use ls_tree::tree::Class;
 use std::alloc::AllocError;
 

@@ -4,9 +4,9 @@ ghost use Rattle.std.specs.Prelude.{◌≡◌};
 ghost use Rattle.ls_class_programs.specs.Lifted.{fault_of_family, fault_of_menu, fault_of_text};
 ghost use Rattle.ls_class_programs.specs.declared.fault.ClassFault.TheVariants.{Memory};
 
+use crate::MenuFault;
 use ls_families::FamilyFault;
 use ls_lexer::fault::TextFault;
-use ls_menus::MenuFault;
 use std::alloc::AllocError;
 use thiserror::Error;
 

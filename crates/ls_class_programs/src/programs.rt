@@ -2,8 +2,8 @@
 
 ghost use Rattle.std.specs.Prelude.{◌≡◌, ◌≤◌, ◌⊎◌, ◌↔◌, [], IfErr, IfOk, IsTrue, Some, map, slice_get};
 ghost use Rattle.std.specs.Prelude.{option_map, string_bytes};
-ghost use Rattle.ls_menus.specs.Written.{entries};
-ghost use Rattle.ls_parts.specs.Cutting.{plain_text};
+ghost use Rattle.ls_class_programs.specs.Written.{entries};
+ghost use Rattle.ls_items.specs.Cutting.{plain_text};
 ghost use Rattle.ls_tree.specs.Views.{bare_class};
 ghost use Rattle.ls_class_programs.specs.ClassPrograms.{AreBadValues, AreOfClass, AreOfPlace, AreProgramsOf};
 ghost use Rattle.ls_class_programs.specs.ClassPrograms.{HasTooManyCalls, IsClassFault, LacksAtPlace, LacksPrograms};
@@ -11,11 +11,11 @@ ghost use Rattle.ls_class_programs.specs.ClassPrograms.{calls_in, menu_calls};
 
 use crate::choosing::{Choosing, chosen};
 use crate::fault::ClassFault;
+use crate::{MOST_VALUES, calls_of, entries_of, makings_of};
 use ls_families::Family;
 use ls_family_search::Programs;
 use ls_lexer::lexing::lex;
-use ls_menus::{MOST_VALUES, calls_of, entries_of, makings_of};
-use ls_parser::parse::parse_text;
+use ls_parser::parsing::parse_text;
 use ls_tree::tree::Class;
 use std::alloc::{AllocError, Global};
 use std::marker::Model;

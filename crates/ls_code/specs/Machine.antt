@@ -6,7 +6,7 @@ use Rattle.ls_code.specs.Frame.{Frame}
 use Rattle.ls_code.specs.Thread.{Thread}
 use Rattle.ls_code.specs.Cells.{Cells}
 use Rattle.ls_code.specs.Events.{events_of}
-use Rattle.ls_code.specs.Steps.{Outcome, performed, thread_move}
+use Rattle.ls_code.specs.Steps.{StepResult, performed, thread_move}
 use Rattle.ls_code.specs.declared.step.Mode.{Mode}
 use Rattle.ls_code.specs.declared.step.Mode.TheVariants as mode
 use Rattle.ls_code.specs.declared.step.Did.{Did}
@@ -79,7 +79,7 @@ stops did.Waits = false
 stops did.Idle = false
 
 -- the machine after an outcome of its thread n
-abbrev pub after : Machine → ℕ → Outcome → Machine
+abbrev pub after : Machine → ℕ → StepResult → Machine
 after m n o = record m {
   threads = slice_set m.threads n o.thread;
   cells = o.cells;

@@ -131,47 +131,47 @@ abbrev pub thread_move : Code → Thread → Move
 thread_move p t = fetched_move p t (slice_get p.instructions t.top.counter)
 
 -- a whole step
-pub record Outcome : Type 0 where
+pub record StepResult : Type 0 where
   pub thread : Thread
   pub cells : Cells
   pub did : Did
 
-abbrev pub outcome_of : Thread → Cells → Did → Outcome
-outcome_of t c d = record { thread = t; cells = c; did = d }
+abbrev pub step_result : Thread → Cells → Did → StepResult
+step_result t c d = record { thread = t; cells = c; did = d }
 
-abbrev pub replied : Cells → Thread → Action ℕ → Answer ℕ → Option Thread → Outcome
-replied c t action answer None = outcome_of t c did.Silent
-replied c t action answer (Some s) = outcome_of s c (did.Acted action answer)
+abbrev pub replied : Cells → Thread → Action ℕ → Answer ℕ → Option Thread → StepResult
+replied c t action answer None = step_result t c did.Silent
+replied c t action answer (Some s) = step_result s c (did.Acted action answer)
 
-abbrev pub settled : Cells → Thread → Action ℕ → (Answer ℕ → Option Thread) → Effect → Outcome
+abbrev pub settled : Cells → Thread → Action ℕ → (Answer ℕ → Option Thread) → Effect → StepResult
 settled c t action go (Answers d answer) = replied d t action answer (go answer)
-settled c t action go Waits = outcome_of t c did.Waits
-settled c t action go Stops = outcome_of t c did.Stopped
-settled c t action go Unfit = outcome_of t c did.Silent
+settled c t action go Waits = step_result t c did.Waits
+settled c t action go Stops = step_result t c did.Stopped
+settled c t action go Unfit = step_result t c did.Silent
 
-abbrev pub ended_so : Cells → Thread → Option Thread → Did → Outcome
-ended_so c t None d = outcome_of t c did.Silent
-ended_so c t (Some s) d = outcome_of s c d
+abbrev pub ended_so : Cells → Thread → Option Thread → Did → StepResult
+ended_so c t None d = step_result t c did.Silent
+ended_so c t (Some s) d = step_result s c d
 
-abbrev pub seen_outcome : Cells → Thread → Seen → Outcome
+abbrev pub seen_outcome : Cells → Thread → Seen → StepResult
 seen_outcome c t (Quietly s) = ended_so c t s did.Silent
 seen_outcome c t (Reports action answer s) = ended_so c t s (did.Acted action answer)
 
-abbrev pub touched : Cells → Thread → (ℕ → Seen) → Effect → Outcome
+abbrev pub touched : Cells → Thread → (ℕ → Seen) → Effect → StepResult
 touched c t go (Answers d Done) = seen_outcome d t (go 0)
 touched c t go (Answers d (Gives word)) = seen_outcome d t (go word)
-touched c t go (Answers d (Fails kind)) = outcome_of t d did.Silent
-touched c t go Waits = outcome_of t c did.Silent
-touched c t go Stops = outcome_of t c did.Silent
-touched c t go Unfit = outcome_of t c did.Silent
+touched c t go (Answers d (Fails kind)) = step_result t d did.Silent
+touched c t go Waits = step_result t c did.Silent
+touched c t go Stops = step_result t c did.Silent
+touched c t go Unfit = step_result t c did.Silent
 
-abbrev pub planned : Cells → ℕ → Thread → Plan → Outcome
+abbrev pub planned : Cells → ℕ → Thread → Plan → StepResult
 planned c n t (Says seen) = seen_outcome c t seen
 planned c n t (Touches operation touch go) = touched c t go (effect c n touch)
 planned c n t (Stores touch seen) = touched c t (λ word. seen) (effect c n touch)
 
-abbrev pub performed : Cells → ℕ → Thread → Move → Outcome
-performed c number t (Silent s) = outcome_of s c did.Silent
-performed c number t Still = outcome_of t c did.Silent
+abbrev pub performed : Cells → ℕ → Thread → Move → StepResult
+performed c number t (Silent s) = step_result s c did.Silent
+performed c number t Still = step_result t c did.Silent
 performed c number t (Asks action go) = settled c t action go (effect c number action)
 performed c number t (Plans go) = planned c number t (go number)

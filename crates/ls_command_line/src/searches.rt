@@ -1,9 +1,10 @@
 // The commands `explore` and `find` as clap has them.
 
 ghost use Rattle.std.specs.Prelude.{◌≡◌, IfOk, codes, false};
-ghost use Rattle.clap.specs.Words.{app_of, rule_of};
+ghost use Rattle.clap.specs.Words.{app_of, rule_of, with_rule};
 ghost use Rattle.clap.specs.declared.builder.command.Command.TheViews.{out-Command};
-ghost use Rattle.ls_command_line.specs.Words.{bounds_line, explore_line, find_line, number_rule, numbers_line};
+ghost use Rattle.ls_command_line.specs.Words.{bounds_line, cells_rule, explore_line, find_line, number_rule};
+ghost use Rattle.ls_command_line.specs.Words.{numbers_line, with_explain};
 
 use crate::line::{flag_option, number_option, plain_command, with_option};
 use clap::{Arg, Command};
@@ -22,8 +23,10 @@ fn machine_option<'a>(alloc: Global) -> Arg<'a>
     )
 }
 
-pub(crate) fn explore_command<'a>(alloc: Global) -> Result<Command<'a>, AllocError>
-    ensures shape { IfOk result (λ c. app_of c ≡ explore_line) }
+/// The command with what it explores: a machine of so many words, or the source, up to so many states.
+fn states_command<'a>(alloc: Global) -> Result<Command<'a>, AllocError>
+    ensures shape { IfOk result (λ c. app_of c ≡
+        with_rule (with_rule (with_explain (codes "explore")) cells_rule) (number_rule false (codes "states"))) }
     ensures local { IfOk result (λ c. (out-Command c).has_globals ≡ false) }
 {
     let command = plain_command(
@@ -33,13 +36,21 @@ pub(crate) fn explore_command<'a>(alloc: Global) -> Result<Command<'a>, AllocErr
         "Standard input has two parts, class text and thread program, with a line %% between them:\n  \
          printf 'class C { }\\n%%%%\\nsetup { c = new C(); }\\n' | listset explore",
     );
+    let command = with_option(command, machine_option(alloc));
     let states = number_option(
         alloc,
         "states",
         false,
         "how many states are kept at the most, 1 to 16777216 [default: 1000000]",
     );
-    let command = with_option(with_option(command, machine_option(alloc)), states);
+    with_option(command, states)
+}
+
+pub(crate) fn explore_command<'a>(alloc: Global) -> Result<Command<'a>, AllocError>
+    ensures shape { IfOk result (λ c. app_of c ≡ explore_line) }
+    ensures local { IfOk result (λ c. (out-Command c).has_globals ≡ false) }
+{
+    let command = states_command(alloc);
     let illegal = flag_option(
         alloc,
         "illegal",
@@ -49,7 +60,7 @@ pub(crate) fn explore_command<'a>(alloc: Global) -> Result<Command<'a>, AllocErr
     let first = flag_option(
         alloc,
         "first",
-        "prints only the first of the histories; with --illegal, the shortest beginning without a legal order",
+        "prints only the first of the histories; with --illegal, a shortest schedule without a legal order",
     );
     let command = with_option(command, first);
     let order = flag_option(

@@ -4,7 +4,8 @@ ghost use Rattle.std.specs.Prelude.{◌≡◌, ◌||◌, codes, map, string_byte
 ghost use Rattle.clap.specs.Words.{found_of, rows_of, subcommand_rows_of};
 ghost use Rattle.ls_command_line.specs.Words.{IsWordsAnswer, asked, asked_by, asked_explore, asked_find, asked_page};
 ghost use Rattle.ls_command_line.specs.Words.{asked_state, flag_of, is_given, is_mixed, named_side, number_asked};
-ghost use Rattle.ls_command_line.specs.Words.{number_of, side_of};
+ghost use Rattle.ls_command_line.specs.Words.{cells_of, number_of, side_of, switch_of};
+ghost use Rattle.ls_command_line.specs.declared.words.Request.TheVariants as requests;
 
 use crate::line::program;
 use clap::error::ErrorKind;
@@ -385,6 +386,34 @@ fn asked_explore(options: &ArgMatches<'_>) -> Request
     }
 }
 
+fn asked_batch(options: &ArgMatches<'_>) -> Request
+    ensures { let rows = rows_of (found_of options.now) in
+        result ≡ requests.Batch (number_of (codes "seed") 0 rows) (number_of (codes "count") 0 rows)
+        (number_of (codes "steps") 0 rows) (switch_of rows) (cells_of rows) (flag_of (codes "judge") rows) }
+{
+    Request::Batch {
+        seed: number(options, "seed", 0),
+        count: number(options, "count", 0),
+        steps: number(options, "steps", 0),
+        switch: number(options, "switch", SWITCH),
+        cells: number(options, "cells", CELLS),
+        judge: flag(options, "judge"),
+    }
+}
+
+fn asked_sample(options: &ArgMatches<'_>) -> Request
+    ensures { let rows = rows_of (found_of options.now) in
+        result ≡ requests.Sample (number_of (codes "seed") 0 rows) (number_of (codes "steps") 0 rows) (switch_of rows)
+        (cells_of rows) }
+{
+    Request::Sample {
+        seed: number(options, "seed", 0),
+        steps: number(options, "steps", 0),
+        switch: number(options, "switch", SWITCH),
+        cells: number(options, "cells", CELLS),
+    }
+}
+
 fn asked(name: &str, options: &ArgMatches<'_>) -> Request
     ensures { result ≡ asked name.now (rows_of (found_of options.now)) }
 {
@@ -412,20 +441,8 @@ fn asked(name: &str, options: &ArgMatches<'_>) -> Request
             cells: number(options, "cells", CELLS),
             limit: number(options, "limit", LIMIT),
         },
-        "batch" => Request::Batch {
-            seed: number(options, "seed", 0),
-            count: number(options, "count", 0),
-            steps: number(options, "steps", 0),
-            switch: number(options, "switch", SWITCH),
-            cells: number(options, "cells", CELLS),
-            judge: flag(options, "judge"),
-        },
-        "sample" => Request::Sample {
-            seed: number(options, "seed", 0),
-            steps: number(options, "steps", 0),
-            switch: number(options, "switch", SWITCH),
-            cells: number(options, "cells", CELLS),
-        },
+        "batch" => asked_batch(options),
+        "sample" => asked_sample(options),
         "explore" => asked_explore(options),
         "find" => Request::Find(asked_find(options)),
         "merge" => Request::Merge {

@@ -6,21 +6,21 @@ use Rattle.ls_lexer.specs.declared.fault.TextFault.{TextFault}
 use Rattle.ls_lexer.specs.declared.fault.TextFault.TheVariants as text
 use Rattle.ls_tree.specs.Trees.{File as ParsedFile}
 use Rattle.ls_parser_spelling.specs.Spells.{TextSpells}
-use Rattle.ls_parser_placing.specs.Files.{IsFileOf}
+use Rattle.ls_parser_spelling.specs.Files.{IsFileOf}
 use Rattle.ls_parser_tokens.specs.Answers.{Refuses}
 use Rattle.ls_parser.specs.Comes.{Comes}
 use Rattle.ls_checked.specs.CheckedProgram.{Program}
 use Rattle.ls_checked.specs.PlainProgram.{plain_program}
 use Rattle.ls_checked.specs.declared.program.Program as code
-use Rattle.ls_types_elaboration.specs.Elaboration.{Outcome, elaborated}
+use Rattle.ls_types_elaboration.specs.Elaboration.{ElaboratedFile, elaborated}
 use Rattle.ls_types_elaboration.specs.Trees.{File}
 use Rattle.ls_types_elaboration.specs.Refused as typing
 use Rattle.ls_types_elaboration.specs.declared.rule.CheckFault.{CheckFault}
 use Rattle.ls_types_elaboration.specs.declared.rule.CheckFault.TheVariants as rule
 use Rattle.ls_types_programs.specs.Programs.{IsTextOf}
-use Rattle.ls_types.specs.ProgramRefusals.{IsNoProgram}
-use Rattle.ls_types.specs.declared.fault.ProgramFault.{ProgramFault}
-use Rattle.ls_types.specs.declared.fault.ProgramFault.TheVariants as program
+use Rattle.ls_types_checked.specs.ProgramRefusals.{IsNoProgram}
+use Rattle.ls_types_checked.specs.declared.fault.ProgramFault.{ProgramFault}
+use Rattle.ls_types_checked.specs.declared.fault.ProgramFault.TheVariants as program
 use Rattle.ls_labels.specs.Names.{Names}
 use Rattle.ls_report.specs.Events.{Text}
 use Rattle.ls_schedule.specs.Printing.{schedule_text}
@@ -69,7 +69,7 @@ aim_shows names p targets steps t is e same =
 -- what is printed reads back
 read_back : SchedulesReadBack →
     WhatIsReadIsASchedule →
-    (o : Outcome) (said : Text) (p : code.Program) (targets : Text) →
+    (o : ElaboratedFile) (said : Text) (p : code.Program) (targets : Text) →
     IsTextOf o (plain_program p) said
     → IsReadBack (names_in o (plain_program p)) (aimed (names_in o (plain_program p)) targets)
 read_back printed read o said p targets spelled = by_read (aimed (names_in o (plain_program p)) targets)
@@ -97,14 +97,14 @@ read_back printed read o said p targets spelled = by_read (aimed (names_in o (pl
 
 pub program_aims : SchedulesReadBack →
     WhatIsReadIsASchedule →
-    (o : Outcome) (said targets : Text) (p : code.Program) (r : Result (String Global) ToolFault)
+    (o : ElaboratedFile) (said targets : Text) (p : code.Program) (r : Result (String Global) ToolFault)
     → IsTextOf o (plain_program p) said → GivesText (IsAim (names_in o (plain_program p)) targets) r →
     GivesText (AimsIn o said targets) r
 program_aims printed read o said targets p r spelled g =
     wider (IsAim (names_in o (plain_program p)) targets) (AimsIn o said targets) r
     (λ a h. Aims (plain_program p) a spelled h (read_back printed read o said p targets spelled)) g
 
-pub no_program_aims : (o : Outcome) (said targets : Text) (f : ProgramFault) →
+pub no_program_aims : (o : ElaboratedFile) (said targets : Text) (f : ProgramFault) →
     IsNoProgram o said f →
     GivesText (AimsIn o said targets) (Failed (lifted_program f))
 no_program_aims o said targets program.Memory r = tt
@@ -132,7 +132,7 @@ pub check_aims : (c p s : Text) (file : File) (f : CheckFault) →
 check_aims c p s file rule.Memory t n = tt
 check_aims c p s file (rule.Broken b) t n = Breaks file (rule.Broken b) t n
 
-pub checked_aims : (c p s : Text) (file : File) (o : Outcome) (r : Result (String Global) ToolFault) →
+pub checked_aims : (c p s : Text) (file : File) (o : ElaboratedFile) (r : Result (String Global) ToolFault) →
     IsFileOf c file →
     elaborated file ≡ Ok o
     → GivesText (AimsIn o p s) r → GivesText (AimsTo c p s) r

@@ -12,10 +12,10 @@ use Rattle.ls_image.specs.Images.{code_of_image}
 use Rattle.ls_image.specs.declared.image.Image.{Image}
 use Rattle.ls_batch.specs.Replays.{SeedsReplay}
 use Rattle.ls_batch.specs.Samples.{histories_of, history_of, IsBadCount, seed_schedule}
-use Rattle.ls_batch_tally.specs.Tallies.{IsTally, Row}
+use Rattle.ls_batch.specs.Tallies.{IsTally, Row}
 use Rattle.ls_batch.specs.declared.fault.BatchFault.{BatchFault}
 use Rattle.ls_batch.specs.declared.fault.BatchFault.TheVariants as batch
-use Rattle.ls_judged_tallies.specs.Judged.{AreHistoriesOf, IsJudged}
+use Rattle.ls_batch.specs.Judged.{AreHistoriesOf, IsJudged}
 use Rattle.ls_report.specs.Events.{Text}
 use Rattle.ls_text_laws.specs.Histories.{IsReadable}
 use Rattle.ls_verdicts.specs.Verdicts.{IsHistoryOf}

@@ -15,10 +15,10 @@ use Rattle.ls_schedule.specs.declared.replaying.Record.{Record}
 use Rattle.ls_live.specs.declared.fault.LiveFault.TheVariants as opening
 use Rattle.ls_live.specs.declared.fault.PlayFault.{PlayFault as LiveFault}
 use Rattle.ls_live.specs.declared.fault.PlayFault.TheVariants as live
-use Rattle.ls_following.specs.declared.fault.FollowFault.{FollowFault}
-use Rattle.ls_following.specs.declared.fault.FollowFault.TheVariants as follow
-use Rattle.ls_following.specs.declared.fault.TapeFault.{TapeFault as TurnsFault}
-use Rattle.ls_following.specs.declared.fault.TapeFault.TheVariants as turns
+use Rattle.ls_live.specs.declared.follow_fault.FollowFault.{FollowFault}
+use Rattle.ls_live.specs.declared.follow_fault.FollowFault.TheVariants as follow
+use Rattle.ls_live.specs.declared.follow_fault.TapeFault.{TapeFault as TurnsFault}
+use Rattle.ls_live.specs.declared.follow_fault.TapeFault.TheVariants as turns
 use Rattle.ls_report.specs.Events.{Text}
 use Rattle.ls_report.specs.Printing.{run_text}
 use Rattle.ls_faults.specs.Faults.{lifted_live, lifted_turns}

@@ -3,9 +3,9 @@ use Rattle.std.proofs.Common.{◌≡◌, ◌<◌, ◌^◌, ℕ, List, Option, Ok
 use Rattle.ls_report.specs.Events.{Text}
 use Rattle.ls_tallies.specs.Printing.{rows_text}
 use Rattle.ls_tallies.specs.Tallies.{IsMerge, Row, total_of}
-use Rattle.ls_tallies_reading.specs.Reading.{Explains, Lists}
-use Rattle.ls_tallies_reading.specs.declared.fault.TallyFault.{TallyFault}
-use Rattle.ls_tallies_reading.specs.declared.fault.TallyFault.TheVariants as tally
+use Rattle.ls_tallies.specs.Reading.{Explains, Lists}
+use Rattle.ls_tallies.specs.declared.fault.TallyFault.{TallyFault}
+use Rattle.ls_tallies.specs.declared.fault.TallyFault.TheVariants as tally
 use Rattle.ls_faults.specs.Faults.{lifted_tally}
 use Rattle.ls_faults.specs.Given.{GivesText}
 use Rattle.ls_faults.proofs.Answering.{Failed}

@@ -10,7 +10,7 @@ use Rattle.ls_code.specs.Code.{Code}
 use Rattle.ls_code.specs.Machine.{machine_history}
 use Rattle.ls_preservation.specs.Same.{IsCells}
 use Rattle.ls_machine.specs.Room.{AreBadCells}
-use Rattle.ls_types.specs.CheckedFile.{outcome_of}
+use Rattle.ls_types_checked.specs.CheckedFile.{elaborated_file}
 use Rattle.ls_image.specs.Images.{checked_of, code_of_image, Compiles, program_of_image}
 use Rattle.ls_image.specs.declared.image.Image.{Image}
 use Rattle.ls_schedule.specs.Reading.{schedule_of, thread_name}
@@ -86,7 +86,7 @@ module _ (readable : CompiledIsReadable) (classes program : Text) (i : Image) (c
         schedule_of (names_of_image i) (lived_schedule i steps) ≡ Ok steps
     read_again steps most lived =
         let few = lived.few in
-        prints (outcome_of (checked_of i)) program (program_of_image i) steps compiles.reads
+        prints (elaborated_file (checked_of i)) program (program_of_image i) steps compiles.reads
         (record {
           there = subst (λ n. All (λ t. t < n) steps) (sym (names_count classes program i compiles))
               lived.there;

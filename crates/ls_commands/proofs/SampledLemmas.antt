@@ -6,7 +6,7 @@ use Rattle.std.proofs.lemmas.Bool.{cases_lt}
 use Rattle.std.specs.Global.{Global}
 use Rattle.ls_checked.specs.CheckedProgram.{ThreadProgram}
 use Rattle.ls_machine.specs.Room.{AreBadCells}
-use Rattle.ls_types.specs.CheckedFile.{outcome_of}
+use Rattle.ls_types_checked.specs.CheckedFile.{elaborated_file}
 use Rattle.ls_image.specs.Images.{checked_of, code_of_image, Compiles, program_of_image}
 use Rattle.ls_image.specs.declared.image.Image.{Image}
 use Rattle.ls_schedule.specs.Reading.{schedule_of}
@@ -72,7 +72,7 @@ module _ (i : Image) (cells seed : ℕ) (d : Sampler) where
     read_again few =
         let r = replay (code_of_image i) cells seed d in
         let count = r.count in
-        prints (outcome_of (checked_of i)) program (program_of_image i) (seed_schedule (code_of_image i) cells seed d)
+        prints (elaborated_file (checked_of i)) program (program_of_image i) (seed_schedule (code_of_image i) cells seed d)
         compiles.reads
         (record {
           there = subst (λ n. All (λ t. t < n) (seed_schedule (code_of_image i) cells seed d))

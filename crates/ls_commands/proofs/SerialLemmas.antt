@@ -6,20 +6,20 @@ use Rattle.ls_lexer.specs.declared.fault.TextFault.{TextFault}
 use Rattle.ls_lexer.specs.declared.fault.TextFault.TheVariants as text
 use Rattle.ls_tree.specs.Trees.{File as ParsedFile}
 use Rattle.ls_parser_spelling.specs.Spells.{TextSpells}
-use Rattle.ls_parser_placing.specs.Files.{IsFileOf}
+use Rattle.ls_parser_spelling.specs.Files.{IsFileOf}
 use Rattle.ls_parser_tokens.specs.Answers.{Refuses}
 use Rattle.ls_parser.specs.Comes.{Comes}
 use Rattle.ls_checked.specs.CheckedProgram.{Program}
 use Rattle.ls_events.specs.declared.event.Event.{Event as RunEvent}
-use Rattle.ls_types_elaboration.specs.Elaboration.{Outcome, elaborated}
+use Rattle.ls_types_elaboration.specs.Elaboration.{ElaboratedFile, elaborated}
 use Rattle.ls_types_elaboration.specs.Trees.{File}
 use Rattle.ls_types_elaboration.specs.Refused as typing
 use Rattle.ls_types_elaboration.specs.declared.rule.CheckFault.{CheckFault}
 use Rattle.ls_types_elaboration.specs.declared.rule.CheckFault.TheVariants as rule
 use Rattle.ls_types_programs.specs.Programs.{IsTextOf}
-use Rattle.ls_types.specs.ProgramRefusals.{IsNoProgram}
-use Rattle.ls_types.specs.declared.fault.ProgramFault.{ProgramFault}
-use Rattle.ls_types.specs.declared.fault.ProgramFault.TheVariants as program
+use Rattle.ls_types_checked.specs.ProgramRefusals.{IsNoProgram}
+use Rattle.ls_types_checked.specs.declared.fault.ProgramFault.{ProgramFault}
+use Rattle.ls_types_checked.specs.declared.fault.ProgramFault.TheVariants as program
 use Rattle.ls_report.specs.Events.{Event, Text}
 use Rattle.ls_report.specs.Reading.{BreaksAt, Explains, Says}
 use Rattle.ls_report.specs.declared.fault.HistoryFault.{HistoryFault}
@@ -37,21 +37,21 @@ use Rattle.ls_commands.specs.SerialOrdered.{OtherProgram, Ran, Told}
 
 -- ---- the history
 
-pub history_fails : (o : Outcome) (p : Program) (h t : Text) (f : HistoryFault) →
+pub history_fails : (o : ElaboratedFile) (p : Program) (h t : Text) (f : HistoryFault) →
     t ≡ with_feed h →
     Explains t f →
     GivesText (OrdersOf o p h) (Failed (lifted_history f))
 history_fails o p h t history_faults.Memory e b = tt
 history_fails o p h t (history_faults.BadHistory at) e b = NoHistory at (subst (λ x. BreaksAt x at) e b)
 
-pub foreign_fails : (o : Outcome) (p : Program) (h t : Text) (events : List Event) (at : ℕ) →
+pub foreign_fails : (o : ElaboratedFile) (p : Program) (h t : Text) (events : List Event) (at : ℕ) →
     t ≡ with_feed h →
     Says t events →
     IsFirstForeign p events at →
     OrdersOf o p h (Err (faults.History (history_faults.BadHistory at)))
 foreign_fails o p h t events at e s foreign = OtherProgram events at (subst (λ x. Says x events) e s) foreign
 
-pub order_told : (o : Outcome) (p : Program) (h t : Text) (events : List Event) (run : List RunEvent) (text : Text) →
+pub order_told : (o : ElaboratedFile) (p : Program) (h t : Text) (events : List Event) (run : List RunEvent) (text : Text) →
     t ≡ with_feed h →
     Says t events →
     AreNamed p run events →
@@ -62,7 +62,7 @@ order_told o p h t events run text e s named tells =
 
 -- ---- the program
 
-pub no_program_orders : (o : Outcome) (said h : Text) (f : ProgramFault) →
+pub no_program_orders : (o : ElaboratedFile) (said h : Text) (f : ProgramFault) →
     IsNoProgram o said f →
     GivesText (OrdersIn o said h) (Failed (lifted_program f))
 no_program_orders o said h program.Memory r = tt
@@ -71,7 +71,7 @@ no_program_orders o said h (program.UnknownThing at) r = NoProgram (program.Unkn
 no_program_orders o said h (program.ReferenceResult at) r = NoProgram (program.ReferenceResult at) r
 no_program_orders o said h program.ProgramLimit r = NoProgram program.ProgramLimit r
 
-pub program_orders : (o : Outcome) (said h : Text) (p : Program) (r : Result (String Global) ToolFault) →
+pub program_orders : (o : ElaboratedFile) (said h : Text) (p : Program) (r : Result (String Global) ToolFault) →
     IsTextOf o p said →
     GivesText (OrdersOf o p h) r →
     GivesText (OrdersIn o said h) r
@@ -98,7 +98,7 @@ pub check_orders : (c p h : Text) (file : File) (f : CheckFault) →
 check_orders c p h file rule.Memory t n = tt
 check_orders c p h file (rule.Broken b) t n = Breaks file (rule.Broken b) t n
 
-pub checked_orders : (c p h : Text) (file : File) (o : Outcome) (r : Result (String Global) ToolFault) →
+pub checked_orders : (c p h : Text) (file : File) (o : ElaboratedFile) (r : Result (String Global) ToolFault) →
     IsFileOf c file →
     elaborated file ≡ Ok o
     → GivesText (OrdersIn o p h) r → GivesText (OrdersSerially c p h) r

@@ -1,7 +1,7 @@
 -- Histories that are shown are read again.
 use Rattle.std.proofs.Common.{◌≡◌, ℕ, List, Result, Ok, Err}
 use Rattle.ls_checked.specs.CheckedProgram.{Program}
-use Rattle.ls_types_elaboration.specs.Elaboration.{Outcome, elaborated}
+use Rattle.ls_types_elaboration.specs.Elaboration.{ElaboratedFile, elaborated}
 use Rattle.ls_types_elaboration.specs.Trees.{File}
 use Rattle.ls_types_programs.specs.Programs.{IsTextOf}
 use Rattle.ls_schedule.specs.Reading.{schedule_of}
@@ -14,7 +14,7 @@ use Rattle.ls_commands.specs.declared.showing.View.{View}
 use Rattle.ls_commands.specs.declared.showing.View.TheVariants as views
 use Rattle.ls_faults.specs.declared.fault.ToolFault.{ToolFault}
 
-module _ (readable : SourceIsReadable) (file : File) (o : Outcome) (checks : elaborated file ≡ Ok o)
+module _ (readable : SourceIsReadable) (file : File) (o : ElaboratedFile) (checks : elaborated file ≡ Ok o)
     (program schedule : Text) where
   run_back : (p : Program) →
       IsTextOf o p program →

@@ -12,16 +12,16 @@ use Rattle.ls_checked.specs.CheckedProgram.{Program}
 use Rattle.ls_checked.specs.PlainProgram.{plain_thread, plain_program}
 use Rattle.ls_checked.specs.declared.program.ThreadProgram.{ThreadProgram}
 use Rattle.ls_checked.specs.declared.program.Program as code
-use Rattle.ls_types_elaboration.specs.Elaboration.{Outcome, elaborated}
+use Rattle.ls_types_elaboration.specs.Elaboration.{ElaboratedFile, elaborated}
 use Rattle.ls_types_elaboration.specs.Trees.{File}
-use Rattle.ls_parser_placing.specs.Files.{IsFileOf}
+use Rattle.ls_parser_spelling.specs.Files.{IsFileOf}
 use Rattle.ls_types_elaboration.specs.Refused as typing
-use Rattle.ls_types.specs.ProgramRefusals.{IsNoProgram}
+use Rattle.ls_types_checked.specs.ProgramRefusals.{IsNoProgram}
 use Rattle.ls_types_programs.specs.Programs.{IsTextOf}
 use Rattle.ls_types_elaboration.specs.declared.rule.CheckFault.{CheckFault}
 use Rattle.ls_types_elaboration.specs.declared.rule.CheckFault.TheVariants as rule
-use Rattle.ls_types.specs.declared.fault.ProgramFault.{ProgramFault}
-use Rattle.ls_types.specs.declared.fault.ProgramFault.TheVariants as program
+use Rattle.ls_types_checked.specs.declared.fault.ProgramFault.{ProgramFault}
+use Rattle.ls_types_checked.specs.declared.fault.ProgramFault.TheVariants as program
 use Rattle.ls_schedule.specs.Answers.{Fails}
 use Rattle.ls_schedule.specs.Reading.{schedule_of, thread_name, thread_names}
 use Rattle.ls_schedule.specs.declared.fault.ScheduleFault.{ScheduleFault}
@@ -64,7 +64,7 @@ check_fails v c p s file rule.Memory t n = tt
 check_fails v c p s file (rule.Broken b) t n = Breaks file (rule.Broken b) t n
 
 pub checked_runs : SourceIsReadable →
-    (v : View) (c p s : Text) (file : File) (o : Outcome) (r : Result (String Global) ToolFault) →
+    (v : View) (c p s : Text) (file : File) (o : ElaboratedFile) (r : Result (String Global) ToolFault) →
     IsFileOf c file →
     elaborated file ≡ Ok o →
     GivesText (RunsTo v o p s) r →
@@ -72,7 +72,7 @@ pub checked_runs : SourceIsReadable →
 checked_runs readable v c p s file o r t e g = wider (RunsTo v o p s) (ViewsTo v c p s) r
     (λ a h. Checks file o a t e h (shows_back readable file o e p s v h)) g
 
-pub program_fails : (v : View) (o : Outcome) (p s : Text) (f : ProgramFault) →
+pub program_fails : (v : View) (o : ElaboratedFile) (p s : Text) (f : ProgramFault) →
     IsNoProgram o p f →
     GivesText (RunsTo v o p s) (Failed (lifted_program f))
 program_fails v o p s program.Memory r = tt
@@ -81,7 +81,7 @@ program_fails v o p s (program.UnknownThing at) r = NoProgram (program.UnknownTh
 program_fails v o p s (program.ReferenceResult at) r = NoProgram (program.ReferenceResult at) r
 program_fails v o p s program.ProgramLimit r = NoProgram program.ProgramLimit r
 
-pub program_runs : (v : View) (o : Outcome) (p s : Text) (q : Program) (r : Result (String Global) ToolFault) →
+pub program_runs : (v : View) (o : ElaboratedFile) (p s : Text) (q : Program) (r : Result (String Global) ToolFault) →
     IsTextOf o q p →
     GivesText (λ a. a ≡ viewed v (names_in o q) s) r →
     GivesText (RunsTo v o p s) r

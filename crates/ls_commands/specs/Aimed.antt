@@ -3,17 +3,17 @@ use Rattle.std.specs.Prelude.{◌≡◌, ℕ, List, Result, Ok, Err}
 use Rattle.ls_lexer.specs.declared.fault.TextFault.{TextFault}
 use Rattle.ls_tree.specs.Trees.{File as ParsedFile}
 use Rattle.ls_parser_spelling.specs.Spells.{TextSpells}
-use Rattle.ls_parser_placing.specs.Files.{IsFileOf}
+use Rattle.ls_parser_spelling.specs.Files.{IsFileOf}
 use Rattle.ls_parser.specs.Comes.{Comes}
 use Rattle.ls_parser_tokens.specs.Answers.{Refuses}
 use Rattle.ls_checked.specs.CheckedProgram.{Program}
-use Rattle.ls_types_elaboration.specs.Elaboration.{Outcome, elaborated}
+use Rattle.ls_types_elaboration.specs.Elaboration.{ElaboratedFile, elaborated}
 use Rattle.ls_types_elaboration.specs.Trees.{File}
 use Rattle.ls_types_elaboration.specs.Refused as typing
 use Rattle.ls_types_programs.specs.Programs.{IsTextOf}
-use Rattle.ls_types.specs.ProgramRefusals.{IsNoProgram}
+use Rattle.ls_types_checked.specs.ProgramRefusals.{IsNoProgram}
 use Rattle.ls_types_elaboration.specs.declared.rule.CheckFault.{CheckFault}
-use Rattle.ls_types.specs.declared.fault.ProgramFault.{ProgramFault}
+use Rattle.ls_types_checked.specs.declared.fault.ProgramFault.{ProgramFault}
 use Rattle.ls_schedule.specs.Printing.{schedule_text}
 use Rattle.ls_schedule.specs.Reading.{schedule_of}
 use Rattle.ls_report.specs.Events.{Text}
@@ -40,7 +40,7 @@ IsReadBack names (Err f) = Unit {0}
 
 -- The program part is a program of the file, and the answer the schedule to which the targets lead, whose text reads
 -- back; or it is none.
-pub data AimsIn (o : Outcome) (program targets : Text) : Result Text ToolFault → Type 0 where
+pub data AimsIn (o : ElaboratedFile) (program targets : Text) : Result Text ToolFault → Type 0 where
   Aims : (p : Program) (answer : Result Text ToolFault) → IsTextOf o p program → IsAim (names_in o p) targets answer →
       IsReadBack (names_in o p) (aimed (names_in o p) targets) → AimsIn o program targets answer
   NoProgram : (f : ProgramFault) → IsNoProgram o program f → AimsIn o program targets (Err (lifted_program f))
@@ -48,7 +48,7 @@ pub data AimsIn (o : Outcome) (program targets : Text) : Result Text ToolFault �
 -- The class part is a file that keeps every rule, and the answer is that of its program and targets; or it is
 -- one that breaks the rule that is named; or it spells none, and the fault is one that may come of it.
 pub data AimsTo (classes program targets : Text) : Result Text ToolFault → Type 0 where
-  Checks : (file : File) (o : Outcome) (answer : Result Text ToolFault) →
+  Checks : (file : File) (o : ElaboratedFile) (answer : Result Text ToolFault) →
       IsFileOf classes file → elaborated file ≡ Ok o → AimsIn o program targets answer →
       AimsTo classes program targets answer
   Breaks : (file : File) (f : CheckFault) →

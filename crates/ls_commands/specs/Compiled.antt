@@ -4,7 +4,7 @@ use Rattle.std.specs.Fmt.{decimal}
 use Rattle.ls_checked.specs.CheckedTree.{File}
 use Rattle.ls_checked.specs.CheckedProgram.{Program}
 use Rattle.ls_checked.specs.PlainProgram.{plain_program}
-use Rattle.ls_types.specs.CheckedFile.{outcome_of}
+use Rattle.ls_types_checked.specs.CheckedFile.{elaborated_file}
 use Rattle.ls_code.specs.Machine.{machine_history}
 use Rattle.ls_machine.specs.Room.{AreBadCells}
 use Rattle.ls_image.specs.Images.{checked_of, code_of_image, Compiles, program_of_image}
@@ -21,7 +21,7 @@ use Rattle.ls_faults.specs.declared.fault.ToolFault.{ToolFault}
 use Rattle.ls_faults.specs.declared.fault.ToolFault.TheVariants as faults
 
 abbrev pub file_of_image : Image → File
-file_of_image i = (outcome_of (checked_of i)).file
+file_of_image i = (elaborated_file (checked_of i)).file
 
 abbrev pub plain_program_of : Image → Program
 plain_program_of i = plain_program (program_of_image i)

@@ -4,10 +4,10 @@ use Rattle.ls_machine.specs.Room.{AreBadCells}
 use Rattle.ls_image.specs.Images.{code_of_image}
 use Rattle.ls_image.specs.declared.image.Image.{Image}
 use Rattle.ls_batch.specs.Samples.{histories_of, IsBadCount}
-use Rattle.ls_batch_tally.specs.Tallies.{IsTally, Row}
+use Rattle.ls_batch.specs.Tallies.{IsTally, Row}
 use Rattle.ls_batch.specs.declared.fault.BatchFault.TheVariants as batch
-use Rattle.ls_judged_tallies.specs.Judged.{AreJudgements, judged_text}
-use Rattle.ls_judged_tallies.specs.declared.judging.Judgement.{Judgement}
+use Rattle.ls_batch.specs.Judged.{AreJudgements, judged_text}
+use Rattle.ls_batch.specs.declared.judging.Judgement.{Judgement}
 use Rattle.ls_report.specs.Events.{Text}
 use Rattle.ls_faults.specs.declared.fault.ToolFault.{ToolFault}
 use Rattle.ls_faults.specs.declared.fault.ToolFault.TheVariants as faults

@@ -9,13 +9,13 @@ use Rattle.ls_image.specs.declared.image.Image.{Image}
 use Rattle.ls_schedule.specs.Printing.{schedule_text}
 use Rattle.ls_schedule.specs.Reading.{schedule_of}
 use Rattle.ls_schedule.specs.declared.fault.ScheduleFault.{ScheduleFault}
-use Rattle.ls_live_book.specs.Answers.{is_over}
-use Rattle.ls_live_book.specs.Due.{AreDue}
+use Rattle.ls_live.specs.Answers.{is_over}
+use Rattle.ls_live.specs.Due.{AreDue}
 use Rattle.ls_live.specs.declared.fault.LiveFault.TheVariants as opening
 use Rattle.ls_live.specs.declared.fault.PlayFault.TheVariants as live
-use Rattle.ls_following.specs.declared.fault.FollowFault.{FollowFault}
-use Rattle.ls_following.specs.declared.fault.FollowFault.TheVariants as follow
-use Rattle.ls_following.specs.declared.fault.TapeFault.TheVariants as turns
+use Rattle.ls_live.specs.declared.follow_fault.FollowFault.{FollowFault}
+use Rattle.ls_live.specs.declared.follow_fault.FollowFault.TheVariants as follow
+use Rattle.ls_live.specs.declared.follow_fault.TapeFault.TheVariants as turns
 use Rattle.ls_report.specs.Events.{Text}
 use Rattle.ls_report.specs.Printing.{run_text}
 use Rattle.ls_faults.specs.declared.fault.ToolFault.{ToolFault}

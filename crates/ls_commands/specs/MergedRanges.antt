@@ -3,11 +3,11 @@ use Rattle.std.specs.Prelude.{◌≡◌, ◌==◌, ℕ, Bool, codes, Option, Res
 use Rattle.std.specs.List.{starts_with}
 use Rattle.ls_faults.specs.declared.fault.ToolFault.{ToolFault}
 use Rattle.ls_faults.specs.declared.fault.ToolFault.TheVariants as faults
-use Rattle.ls_find_ranges.specs.Sums.{AddsTo}
-use Rattle.ls_find_ranges.specs.declared.fault.RangeFault.{RangeFault}
-use Rattle.ls_find_ranges.specs.declared.fault.RangeFault.TheVariants as range
+use Rattle.ls_find_reports.specs.Sums.{AddsTo}
+use Rattle.ls_find_reports.specs.declared.fault.RangeFault.{RangeFault}
+use Rattle.ls_find_reports.specs.declared.fault.RangeFault.TheVariants as range
 use Rattle.ls_report.specs.Events.{Text}
-use Rattle.ls_tallies_reading.specs.declared.fault.TallyFault.TheVariants as tally
+use Rattle.ls_tallies.specs.declared.fault.TallyFault.TheVariants as tally
 
 -- whether a text is of what `find` says, and not of tallies
 abbrev pub is_of_ranges : Text → Bool

@@ -3,8 +3,8 @@ use Rattle.std.specs.Prelude.{◌≢◌, ◌<◌, ◌≤◌, ◌^◌, ℕ, List,
 use Rattle.ls_report.specs.Events.{Text}
 use Rattle.ls_tallies.specs.Printing.{rows_text}
 use Rattle.ls_tallies.specs.Tallies.{IsMerge, Row, total_of}
-use Rattle.ls_tallies_reading.specs.Reading.{BreaksAt, Lists}
-use Rattle.ls_tallies_reading.specs.declared.fault.TallyFault.TheVariants as tally
+use Rattle.ls_tallies.specs.Reading.{BreaksAt, Lists}
+use Rattle.ls_tallies.specs.declared.fault.TallyFault.TheVariants as tally
 use Rattle.ls_faults.specs.declared.fault.ToolFault.{ToolFault}
 use Rattle.ls_faults.specs.declared.fault.ToolFault.TheVariants as faults
 use Rattle.ls_commands.specs.MergedRanges.{is_of_ranges, MergesRangesTo}

@@ -5,16 +5,16 @@ use Rattle.ls_events.specs.declared.event.Event.{Event as RunEvent}
 use Rattle.ls_lexer.specs.declared.fault.TextFault.{TextFault}
 use Rattle.ls_tree.specs.Trees.{File as ParsedFile}
 use Rattle.ls_parser_spelling.specs.Spells.{TextSpells}
-use Rattle.ls_parser_placing.specs.Files.{IsFileOf}
+use Rattle.ls_parser_spelling.specs.Files.{IsFileOf}
 use Rattle.ls_parser.specs.Comes.{Comes}
 use Rattle.ls_parser_tokens.specs.Answers.{Refuses}
-use Rattle.ls_types_elaboration.specs.Elaboration.{Outcome, elaborated}
+use Rattle.ls_types_elaboration.specs.Elaboration.{ElaboratedFile, elaborated}
 use Rattle.ls_types_elaboration.specs.Trees.{File}
 use Rattle.ls_types_elaboration.specs.Refused as typing
 use Rattle.ls_types_elaboration.specs.declared.rule.CheckFault.{CheckFault}
 use Rattle.ls_types_programs.specs.Programs.{IsTextOf}
-use Rattle.ls_types.specs.ProgramRefusals.{IsNoProgram}
-use Rattle.ls_types.specs.declared.fault.ProgramFault.{ProgramFault}
+use Rattle.ls_types_checked.specs.ProgramRefusals.{IsNoProgram}
+use Rattle.ls_types_checked.specs.declared.fault.ProgramFault.{ProgramFault}
 use Rattle.ls_report.specs.Events.{Event, Text}
 use Rattle.ls_report.specs.Reading.{BreaksAt, Says}
 use Rattle.ls_report.specs.declared.fault.HistoryFault.TheVariants as history_faults
@@ -27,7 +27,7 @@ use Rattle.ls_commands.specs.Check.{with_feed}
 
 -- The history part is a history of the program, and the answer what is told of it; or the first event is named that is
 -- none of the program; or the part breaks at a place.
-pub data OrdersOf (o : Outcome) (p : Program) (history : Text) : Result Text ToolFault → Type 0 where
+pub data OrdersOf (o : ElaboratedFile) (p : Program) (history : Text) : Result Text ToolFault → Type 0 where
   Told : (events : List Event) (run : List RunEvent) (text : Text) →
       Says (with_feed history) events →
       AreNamed p run events →
@@ -42,7 +42,7 @@ pub data OrdersOf (o : Outcome) (p : Program) (history : Text) : Result Text Too
       OrdersOf o p history (Err (faults.History (history_faults.BadHistory at)))
 
 -- the program part is a program of the file, and the answer that of its history; or it is none
-pub data OrdersIn (o : Outcome) (program history : Text) : Result Text ToolFault → Type 0 where
+pub data OrdersIn (o : ElaboratedFile) (program history : Text) : Result Text ToolFault → Type 0 where
   Ran : (p : Program) (answer : Result Text ToolFault) →
       IsTextOf o p program →
       OrdersOf o p history answer →
@@ -52,7 +52,7 @@ pub data OrdersIn (o : Outcome) (program history : Text) : Result Text ToolFault
 -- The class part is a file that keeps every rule, and the answer is that of its program and history; or it is one that
 -- breaks the rule that is named; or it spells none, and the fault is one that may come of it.
 pub data OrdersSerially (classes program history : Text) : Result Text ToolFault → Type 0 where
-  Checks : (file : File) (o : Outcome) (answer : Result Text ToolFault) →
+  Checks : (file : File) (o : ElaboratedFile) (answer : Result Text ToolFault) →
       IsFileOf classes file →
       elaborated file ≡ Ok o →
       OrdersIn o program history answer →

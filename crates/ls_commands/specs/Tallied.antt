@@ -5,7 +5,7 @@ use Rattle.ls_image.specs.Images.{code_of_image}
 use Rattle.ls_image.specs.declared.image.Image.{Image}
 use Rattle.ls_batch.specs.Printing.{tally_text}
 use Rattle.ls_batch.specs.Samples.{histories_of, IsBadCount}
-use Rattle.ls_batch_tally.specs.Tallies.{IsTally, Row}
+use Rattle.ls_batch.specs.Tallies.{IsTally, Row}
 use Rattle.ls_batch.specs.declared.fault.BatchFault.TheVariants as batch
 use Rattle.ls_batch.specs.declared.samples.Sampler.{Sampler}
 use Rattle.ls_report.specs.Events.{Text}

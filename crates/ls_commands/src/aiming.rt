@@ -3,19 +3,18 @@
 ghost use Rattle.ls_checked.specs.PlainProgram.{plain_program};
 ghost use Rattle.ls_faults.specs.Given.{GivesText};
 ghost use Rattle.ls_labels.specs.Names.{names_of};
-ghost use Rattle.ls_types.specs.CheckedFile.{outcome_of};
+ghost use Rattle.ls_types_checked.specs.CheckedFile.{elaborated_file};
 ghost use Rattle.ls_commands.specs.Aimed.{AimsIn, AimsTo, IsAim};
 
 use crate::showing::names_in;
 use ls_aim::aim as schedule_of;
 use ls_faults::fault::ToolFault;
 use ls_labels::names::Names;
-use ls_parser::parse::parse_text;
+use ls_parser::parsing::parse_text;
 use ls_schedule::print_schedule;
 use ls_text_laws::schedules_read_back;
-use ls_types::checked::Checked;
-use ls_types_files::check::check;
-use ls_types_reading::program::read_program;
+use ls_types::{check, read_program};
+use ls_types_checked::checked::Checked;
 use std::alloc::Global;
 
 /// The text of the schedule to which the targets lead.
@@ -28,7 +27,7 @@ fn aimed(alloc: Global, names: Names, targets: &str) -> Result<String, ToolFault
 
 /// The same for the program that the text is for the checked file.
 fn run(alloc: Global, checked: &Checked, program: &str, targets: &str) -> Result<String, ToolFault>
-    ensures { GivesText (AimsIn (outcome_of checked.now) program.now targets.now) result }
+    ensures { GivesText (AimsIn (elaborated_file checked.now) program.now targets.now) result }
 {
     let program = read_program(alloc, program, checked)?;
     schedules_read_back();

@@ -5,7 +5,7 @@ ghost use Rattle.ls_faults.specs.Given.{GivesText};
 
 pub use ls_batch::Sampler;
 use ls_batch::print_tally;
-use ls_compiler::compile::compile;
+use ls_compiler::compile;
 use ls_faults::fault::ToolFault;
 use ls_image::image::Image;
 use std::alloc::{AllocError, Global};

@@ -6,7 +6,7 @@ ghost use Rattle.ls_image.specs.Images.{program_of_image};
 ghost use Rattle.ls_commands.specs.Compiled.{counts_text, CountsTo, file_of_image};
 ghost use Rattle.ls_faults.specs.Given.{GivesText};
 
-use ls_compiler::compile::compile;
+use ls_compiler::compile;
 use ls_faults::fault::ToolFault;
 use ls_image::image::Image;
 use std::alloc::{AllocError, Global};

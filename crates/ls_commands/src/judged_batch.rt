@@ -9,13 +9,13 @@ ghost use Rattle.ls_faults.specs.Given.{GivesText};
 
 use crate::batching::Sampling;
 use ls_batch::laws::seeds_replay;
+use ls_batch::print_judged;
 use ls_checked::tree::File;
-use ls_compiler::compile::compile;
+use ls_compiler::compile;
 use ls_faults::fault::ToolFault;
 use ls_image::image::Image;
-use ls_judged_tallies::print_judged;
 use ls_text_laws::compiled_is_readable;
-use std::alloc::{AllocError, Global};
+use std::alloc::Global;
 use std::thread::Threads;
 
 /// The checked file of an image.

@@ -11,11 +11,10 @@ ghost use Rattle.ls_schedule.specs.Reading.{schedule_of, thread_names};
 ghost use Rattle.ls_schedule.specs.Records.{happened, scheduled};
 
 use ls_checked::program::Program;
-use ls_compiler::compile::compile;
+use ls_compiler::compile;
 use ls_faults::fault::ToolFault;
-use ls_following::play_turns;
 use ls_image::image::Image;
-use ls_live::{OpenGate, play_live};
+use ls_live::{OpenGate, play_live, play_turns};
 use ls_report::print_history;
 use ls_schedule::{Record, print_schedule, read_schedule};
 use ls_text_laws::{compiled_is_readable, schedules_read_back};

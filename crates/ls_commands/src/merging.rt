@@ -6,9 +6,8 @@ ghost use Rattle.ls_commands.specs.Merging.{IsOther, MergesTalliesTo, MergesTo};
 ghost use Rattle.ls_commands.specs.MergedRanges.{MergesRangesTo, is_of_ranges, lifted_range};
 
 use ls_faults::fault::ToolFault;
-use ls_find_ranges::{RangeFault, add_up};
-use ls_tallies::{merged, print_rows, total};
-use ls_tallies_reading::{TallyFault, read_rows};
+use ls_find_reports::{RangeFault, add_up};
+use ls_tallies::{TallyFault, merged, print_rows, read_rows, total};
 use std::alloc::Global;
 
 /// Whether another number is wanted than there is.

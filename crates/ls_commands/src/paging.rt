@@ -1,7 +1,7 @@
 // The command `page`.
 
 ghost use Rattle.std.specs.Prelude.{◌≡◌, Some};
-ghost use Rattle.ls_types.specs.CheckedFile.{outcome_of};
+ghost use Rattle.ls_types_checked.specs.CheckedFile.{elaborated_file};
 ghost use Rattle.ls_labels.specs.Names.{names_of};
 ghost use Rattle.ls_faults.specs.Given.{GivesText};
 ghost use Rattle.ls_commands.specs.Paged.{Pages, PagesTo, PagesWithOrderTo, PlaysTo, RunsTo, TellsTo, wanted_of};
@@ -13,12 +13,11 @@ use crate::showing::names_in;
 use ls_faults::fault::ToolFault;
 use ls_labels::names::Names;
 use ls_page::{Judged, Texts, Window, first_steps, history, page_data, page_data_with_order};
-use ls_parser::parse::parse_text;
+use ls_parser::parsing::parse_text;
 use ls_schedule::read_schedule;
 use ls_text_laws::source_is_readable;
-use ls_types::checked::Checked;
-use ls_types_files::check::check;
-use ls_types_reading::program::read_program;
+use ls_types::{check, read_program};
+use ls_types_checked::checked::Checked;
 use std::alloc::Global;
 
 // The page of a run with an order. The verdict is on the history of the steps up to the last that is shown.
@@ -66,8 +65,8 @@ fn played(alloc: Global, wanted: Wanted, names: Names) -> Result<String, ToolFau
 
 // The page of the program that the text is for the checked file.
 fn run(alloc: Global, wanted: Wanted, checked: &Checked) -> Result<String, ToolFault>
-    requires { ProgramsRead (outcome_of checked.now) }
-    ensures { GivesText (RunsTo (wanted_of wanted.entry) (outcome_of checked.now)) result }
+    requires { ProgramsRead (elaborated_file checked.now) }
+    ensures { GivesText (RunsTo (wanted_of wanted.entry) (elaborated_file checked.now)) result }
 {
     let program = read_program(alloc, wanted.texts.program, checked)?;
     played(alloc, wanted, names_in(checked, &program))

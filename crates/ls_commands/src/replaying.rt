@@ -4,7 +4,7 @@ ghost use Rattle.ls_schedule.specs.Reading.{schedule_of};
 ghost use Rattle.ls_commands.specs.Compiled.{names_of_image, Replayed, ReplaysTo};
 ghost use Rattle.ls_faults.specs.Given.{GivesText};
 
-use ls_compiler::compile::compile;
+use ls_compiler::compile;
 use ls_faults::fault::ToolFault;
 use ls_image::image::Image;
 use ls_report::print_history;

@@ -5,7 +5,7 @@ ghost use Rattle.ls_faults.specs.Given.{GivesText};
 
 use crate::batching::Sampler;
 use ls_batch::laws::seeds_replay;
-use ls_compiler::compile::compile;
+use ls_compiler::compile;
 use ls_faults::fault::ToolFault;
 use ls_image::image::Image;
 use ls_schedule::print_schedule;

@@ -2,18 +2,17 @@
 
 ghost use Rattle.ls_checked.specs.PlainProgram.{plain_program};
 ghost use Rattle.ls_faults.specs.Given.{GivesText};
-ghost use Rattle.ls_types.specs.CheckedFile.{outcome_of};
+ghost use Rattle.ls_types_checked.specs.CheckedFile.{elaborated_file};
 ghost use Rattle.ls_commands.specs.SerialOrdered.{OrdersIn, OrdersOf, OrdersSerially};
 
 use crate::checking::with_feed;
 use ls_checked::program::Program;
 use ls_faults::fault::ToolFault;
-use ls_parser::parse::parse_text;
+use ls_parser::parsing::parse_text;
 use ls_report::{HistoryFault, read_history};
 use ls_serial_orders::{Named, run_of, tell};
-use ls_types::checked::Checked;
-use ls_types_files::check::check;
-use ls_types_reading::program::read_program;
+use ls_types::{check, read_program};
+use ls_types_checked::checked::Checked;
 use std::alloc::Global;
 
 /// The order of whole calls that explains a history of a program of the checked file.
@@ -23,7 +22,7 @@ fn ordered(
     program: &Program,
     history: &str,
 ) -> Result<String, ToolFault>
-    ensures { GivesText (OrdersOf (outcome_of checked.now) (plain_program program.now) history.now) result }
+    ensures { GivesText (OrdersOf (elaborated_file checked.now) (plain_program program.now) history.now) result }
 {
     let history = with_feed(alloc, history)?;
     let history = read_history(alloc, history.as_str())?;
@@ -38,7 +37,7 @@ fn ordered(
 
 /// The same for the program that the text is for the checked file.
 fn run(alloc: Global, checked: &Checked, program: &str, history: &str) -> Result<String, ToolFault>
-    ensures { GivesText (OrdersIn (outcome_of checked.now) program.now history.now) result }
+    ensures { GivesText (OrdersIn (elaborated_file checked.now) program.now history.now) result }
 {
     let program = read_program(alloc, program, checked)?;
     ordered(alloc, checked, &program, history)

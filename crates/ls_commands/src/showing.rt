@@ -1,28 +1,25 @@
 // What is shown of a run from the Java text: the commands `source`, `trace` and `state`.
 
-ghost use Rattle.std.specs.Prelude.{◌≡◌, IfOk, string_bytes, take};
+ghost use Rattle.std.specs.Prelude.{◌≡◌, IfOk, string_bytes};
 ghost use Rattle.ls_checked.specs.PlainProgram.{plain_program};
-ghost use Rattle.ls_types.specs.CheckedFile.{outcome_of};
+ghost use Rattle.ls_types_checked.specs.CheckedFile.{elaborated_file};
 ghost use Rattle.ls_labels.specs.Names.{names_of};
 ghost use Rattle.ls_faults.specs.Given.{GivesText};
 ghost use Rattle.ls_commands.specs.Viewed.{names_in, shown, viewed, RunsTo, ViewsTo};
 
 use ls_checked::program::Program;
-use ls_drawing::drawing::drawing;
-use ls_drawing::each::drawings;
 use ls_faults::fault::ToolFault;
 use ls_labels::names::Names;
-use ls_parser::parse::parse_text;
+use ls_page::first_steps;
+use ls_parser::parsing::parse_text;
 use ls_report::print_history;
 use ls_schedule::read_schedule;
 use ls_source::run::play;
-use ls_state::each::states;
-use ls_state::state::state;
+use ls_state::{Form, drawing, each, state};
 use ls_text_laws::source_is_readable;
 use ls_trace::{folded_trace, trace};
-use ls_types::checked::Checked;
-use ls_types_files::check::check;
-use ls_types_reading::program::read_program;
+use ls_types::{check, read_program};
+use ls_types_checked::checked::Checked;
 use std::alloc::{AllocError, Global};
 
 /// What is shown of a run.
@@ -53,7 +50,7 @@ impl Clone for View {
 
 /// The names of a checked file and a program of it.
 pub fn names_in<'n>(checked: &'n Checked, program: &'n Program) -> Names<'n>
-    ensures { names_of result ≡ names_in (outcome_of checked.now) (plain_program program.now) }
+    ensures { names_of result ≡ names_in (elaborated_file checked.now) (plain_program program.now) }
 {
     Names {
         classes: checked.class_names(),
@@ -61,13 +58,6 @@ pub fn names_in<'n>(checked: &'n Checked, program: &'n Program) -> Names<'n>
         file: checked.file(),
         program,
     }
-}
-
-// So many steps, or all if there are fewer.
-fn first_steps(steps: &[u8], count: usize) -> &[u8]
-    ensures { result.now ≡ take count steps.now }
-{
-    &steps[..count.min(steps.len())]
 }
 
 /// What is shown of the run of a schedule.
@@ -83,8 +73,8 @@ fn shown(alloc: Global, view: View, names: Names, steps: &[u8]) -> Result<String
         View::Folded { from, to } => folded_trace(alloc, names, steps, from, to),
         View::State { to } => state(alloc, names, first_steps(steps, to)),
         View::Drawing { to } => drawing(alloc, names, first_steps(steps, to)),
-        View::States { from, to } => states(alloc, names, steps, from, to),
-        View::Drawings { from, to } => drawings(alloc, names, steps, from, to),
+        View::States { from, to } => each(alloc, names, steps, Form::Lines, from, to),
+        View::Drawings { from, to } => each(alloc, names, steps, Form::Graph, from, to),
     }
 }
 
@@ -104,7 +94,7 @@ fn run(
     program: &str,
     schedule: &str,
 ) -> Result<String, ToolFault>
-    ensures { GivesText (RunsTo view (outcome_of checked.now) program.now schedule.now) result }
+    ensures { GivesText (RunsTo view (elaborated_file checked.now) program.now schedule.now) result }
 {
     let program = read_program(alloc, program, checked)?;
     viewed(alloc, view, names_in(checked, &program), schedule)

@@ -6,7 +6,7 @@ ghost use Rattle.ls_faults.specs.Given.{GivesText, GivesOne};
 ghost use Rattle.ls_schedule.specs.Reading.{schedule_of};
 
 use ls_command_line::Side;
-use ls_compiler::compile::compile;
+use ls_compiler::compile;
 use ls_events::schedule::Schedule;
 use ls_faults::fault::ToolFault;
 use ls_image::image::Image;

@@ -5,8 +5,8 @@ ghost use Rattle.ls_compiler.specs.declared.fault.CompileFault.TheVariants.{Text
 
 use ls_lexer::fault::TextFault;
 use ls_linker::fault::BuildFault;
-use ls_types::checked::CheckFault;
-use ls_types::fault::ProgramFault;
+use ls_types_checked::checked::CheckFault;
+use ls_types_checked::fault::ProgramFault;
 use thiserror::Error;
 
 /// Why two texts are not compiled, by the stage that refuses them. At each stage memory may run out.

@@ -27,7 +27,8 @@ use Rattle.ls_emit.proofs.Steps.{Setting, here, Reaches, renamed, later, at_plac
 use Rattle.ls_emit.proofs.Runs.{Catches, Takes, narrow, fewer, push_run, dup_run, load_run, pop_run, store_run}
 use Rattle.ls_emit.proofs.Runs.{jump_run, branch_run, acts_on, unary_run, binary_run}
 use Rattle.ls_emit.proofs.ExpressionCode.{takes_all, one_need, EnterRuns, Runs, AllRun, first_run, two_run, behind}
-use Rattle.ls_emit.proofs.ExpressionCode.{behind_two, object_run, object_performs, lock_run, array_run}
+use Rattle.ls_emit.proofs.ExpressionCode.{behind_two, object_run, object_performs, array_run}
+use Rattle.ls_emit.proofs.LockRuns.{lock_run}
 
 null_then : {A : Type 0} (b : Bool) (ls : List ℕ) (q : Answers) (x : Course (Outcome ℕ))
     (f : ℕ → List ℕ → Answers → Course (Outcome A)) (go : After A) (h : After Kind) →

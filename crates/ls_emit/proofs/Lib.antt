@@ -8,6 +8,7 @@ pub mod Steps
 pub mod Runs
 pub mod Operands
 pub mod ExpressionCode
+pub mod LockRuns
 pub mod ExpressionRuns
 pub mod StatementPlaces
 pub mod Exits

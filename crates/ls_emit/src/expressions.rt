@@ -3,14 +3,16 @@
 ghost use Rattle.ls_code.specs.Limits.{most_instructions};
 ghost use Rattle.std.specs.Prelude.{◌≡◌, ◌+◌, ◌<◌, ◌≤◌, ◌^◌, ◌++◌, [], ◌∷◌, IfOk, OnOk};
 ghost use Rattle.ls_code.specs.declared.instruction.Instruction.TheVariants as op;
+ghost use Rattle.ls_lowered.specs.LoweredTree.{Call};
 ghost use Rattle.ls_lowered.specs.Plain.{plain, all_plain};
 ghost use Rattle.ls_emit.specs.Expressions.{unary_code, binary_code, size, all_size, code, all_code};
+ghost use Rattle.ls_emit.specs.LockCode.{lock_code, lock_size as size_of_lock};
 ghost use Rattle.ls_emit.specs.Small.{IsSmall, AreSmall};
 
 use crate::lengths::size_of;
 use crate::locks::{lock_size, lower_lock};
 use ls_code::instruction::Instruction;
-use ls_lowered::tree::{BinaryOperator, Expression, Expressions, UnaryOperator};
+use ls_lowered::tree::{BinaryOperator, Expression, Expressions, LockOperation, UnaryOperator};
 use std::alloc::AllocError;
 
 fn unary_instruction(op: UnaryOperator) -> Instruction
@@ -41,6 +43,28 @@ fn binary_instruction(op: BinaryOperator) -> Instruction
         BinaryOperator::NotEqual => Instruction::Ne,
         BinaryOperator::Pack => Instruction::Pack,
     }
+}
+
+// The read of a field: an object's monitor stands before its fields.
+fn get_field(field: usize) -> Instruction
+    requires { field + 1 < 2 ^ 32 }
+    ensures { result ≡ op.GetField (field + 1) }
+{
+    Instruction::GetField((field + 1) as u32)
+}
+
+fn store(number: usize) -> Instruction
+    requires { number < 2 ^ 32 }
+    ensures { result ≡ op.Store number }
+{
+    Instruction::Store(number as u32)
+}
+
+fn enter(method: usize) -> Instruction
+    requires { method < 2 ^ 32 }
+    ensures { result ≡ op.Enter method }
+{
+    Instruction::Enter(method as u32)
 }
 
 /// Puts an instruction after those that are there. The only refusal is that memory ran out.
@@ -81,38 +105,26 @@ pub fn emit_expression(
         Expression::Local(number) => emit_one(out, place, Instruction::Load(*number as u32)),
         Expression::MakeLock => emit_one(out, place, Instruction::NewLock),
         Expression::Unary(op, e) => emit_on(out, place, e, unary_instruction(*op)),
-        Expression::Field(e, field) => emit_on(
-            out,
-            place,
-            e,
-            Instruction::GetField((*field + 1) as u32),
-        ),
+        Expression::Field(e, field) => emit_on(out, place, e, get_field(*field)),
         Expression::ReadPair(e) => emit_on(out, place, e, Instruction::ReadPair),
         Expression::MakeMarkable(e) => emit_on(out, place, e, Instruction::NewMarkable),
         Expression::MakeArray(e) => emit_on(out, place, e, Instruction::NewArray),
         Expression::OnLock(op, e) => {
             let next = emit_expression(out, place, e)?;
-            lower_lock(out, next, *op)?;
-            Ok(next + lock_size(*op))
+            emit_lock(out, next, *op)
         }
         Expression::Binary(op, a, b) => emit_on_two(out, place, a, b, binary_instruction(*op)),
-        Expression::Hold(a, number, b) => {
-            emit_on_two(out, place, a, b, Instruction::Store(*number as u32))
-        }
+        Expression::Hold(a, number, b) => emit_on_two(out, place, a, b, store(*number)),
         Expression::Item(a, b) => emit_on_two(out, place, a, b, Instruction::GetItem),
         Expression::SetPair(a, b) => {
             let next = emit_on_two(out, place, a, b, Instruction::SetPair)?;
-            put(out, Instruction::Push(0))?;
-            Ok(next + 1)
+            emit_one(out, next, Instruction::Push(0))
         }
-        Expression::Keep(number, a, b) => {
-            emit_around(out, place, a, Instruction::Store(*number as u32), b)
-        }
+        Expression::Keep(number, a, b) => emit_around(out, place, a, store(*number), b),
         Expression::After(a, b) => emit_around(out, place, a, Instruction::Pop, b),
         Expression::SetFirst(a, b) => {
             let next = emit_around(out, place, a, Instruction::Push(0), b)?;
-            put_two(out, Instruction::PutItem, Instruction::Push(0))?;
-            Ok(next + 2)
+            emit_two(out, next, Instruction::PutItem, Instruction::Push(0))
         }
         Expression::And(a, b) => emit_and(out, place, a, b),
         Expression::Or(a, b) => emit_or(out, place, a, b),
@@ -120,19 +132,34 @@ pub fn emit_expression(
         Expression::AttemptMark(e, a, b) => {
             emit_on_three(out, place, e, a, b, Instruction::AttemptMark)
         }
-        Expression::Call(method, e, es) => {
-            let next = emit_expression(out, place, e)?;
-            let next = emit_all(out, next, es)?;
-            put(out, Instruction::Enter(*method as u32))?;
-            Ok(next + 1)
-        }
+        Expression::Call(method, e, es) => emit_call(out, place, *method, e, es),
         Expression::MakeObject(class, method, es) => {
-            put_two(out, Instruction::NewObject(*class as u32), Instruction::Dup)?;
-            let next = emit_all(out, place + 2, es)?;
-            put_two(out, Instruction::Enter(*method as u32), Instruction::Pop)?;
-            Ok(next + 2)
+            let making = Instruction::NewObject(*class as u32);
+            let next = emit_two(out, place, making, Instruction::Dup)?;
+            let next = emit_all(out, next, es)?;
+            emit_two(out, next, enter(*method), Instruction::Pop)
         }
     }
+}
+
+#[cycle(expressions)]
+fn emit_call(
+    out: &mut Vec<Instruction>,
+    place: usize,
+    method: usize,
+    target: &Expression,
+    arguments: &Expressions,
+) -> Result<usize, AllocError>
+    requires room { place + size (Call method (plain target.now) (all_plain arguments.now)) ≤ most_instructions }
+    requires small { IsSmall (Call method (plain target.now) (all_plain arguments.now)) }
+    ensures code { OnOk result (out.new.items ≡ out.old.items ++
+        code place (Call method (plain target.now) (all_plain arguments.now))) }
+    ensures next { IfOk result (λ next.
+        (next ≡ place + size (Call method (plain target.now) (all_plain arguments.now))) × (place < next)) }
+{
+    let next = emit_expression(out, place, target)?;
+    let next = emit_all(out, next, arguments)?;
+    emit_one(out, next, enter(method))
 }
 
 // Arguments, from the left.
@@ -164,6 +191,35 @@ fn emit_one(
 {
     put(out, instruction)?;
     Ok(place + 1)
+}
+
+// Two instructions. Answers the place after them.
+fn emit_two(
+    out: &mut Vec<Instruction>,
+    place: usize,
+    first: Instruction,
+    second: Instruction,
+) -> Result<usize, AllocError>
+    requires { place + 2 ≤ most_instructions }
+    ensures code { OnOk result (out.new.items ≡ out.old.items ++ first ∷ second ∷ []) }
+    ensures next { IfOk result (λ next. (next ≡ place + 2) × (place < next)) }
+{
+    put_two(out, first, second)?;
+    Ok(place + 2)
+}
+
+// The code of an operation of a lock, whose word is there.
+fn emit_lock(
+    out: &mut Vec<Instruction>,
+    place: usize,
+    operation: LockOperation,
+) -> Result<usize, AllocError>
+    requires { place + size_of_lock operation ≤ most_instructions }
+    ensures code { OnOk result (out.new.items ≡ out.old.items ++ lock_code place operation) }
+    ensures next { IfOk result (λ next. next ≡ place + size_of_lock operation) }
+{
+    lower_lock(out, place, operation)?;
+    Ok(place + lock_size(operation))
 }
 
 /// An instruction on the word of an expression. The only refusal is that memory ran out.

@@ -4,7 +4,7 @@
 pub mod ahead;
 pub mod code_unit;
 pub mod emission;
-pub mod emit;
+pub mod emitting;
 pub mod expressions;
 pub mod fault;
 pub mod laws;
@@ -15,3 +15,5 @@ pub mod needs;
 pub mod sizes;
 pub mod statements;
 pub mod targets;
+
+pub use emitting::emit;

@@ -12,8 +12,8 @@ use Rattle.ls_events.specs.declared.event.Event.{Event}
 use Rattle.ls_search.proofs.Pairs.{pushed_where}
 use Rattle.ls_serial_search.specs.Endless.{TellEndlessRuns}
 use Rattle.ls_serial_search.specs.Histories.{lists_of}
-use Rattle.ls_waiting.specs.Laws.{NeverEndsIsAmong, NeverEndsSo}
-use Rattle.ls_waiting.specs.Waits.{AreExcused, IsPending, IsUnexcused}
+use Rattle.ls_endless_calls.specs.Laws.{NeverEndsIsAmong, NeverEndsSo}
+use Rattle.ls_endless_calls.specs.Waits.{AreExcused, IsPending, IsUnexcused}
 
 some_is : {A : Type 0} {x y : A} → Some x ≡ Some y → x ≡ y
 some_is h = cc

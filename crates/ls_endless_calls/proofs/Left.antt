@@ -39,8 +39,8 @@ use Rattle.ls_serial_search.proofs.NeverEnding.{same_after}
 use Rattle.ls_spinning.specs.Turning.{TurnsForEver}
 use Rattle.ls_spinning.proofs.Hearing.{ahead_run, run_at, turns_later}
 use Rattle.ls_spinning.proofs.Staying.{acts_before}
-use Rattle.ls_waiting.specs.Laws.{AmongNeverEnds, NeverEndsSo}
-use Rattle.ls_waiting.specs.Waits.{AreExcused, IsPending}
+use Rattle.ls_endless_calls.specs.Laws.{AmongNeverEnds, NeverEndsSo}
+use Rattle.ls_endless_calls.specs.Waits.{AreExcused, IsPending}
 use Rattle.ls_endless_calls.specs.Breaking.{AreFine, AreThere, Breaks, IsFine}
 use Rattle.ls_endless_calls.specs.Turning.{NoneTurnsUnexcused}
 use Rattle.ls_endless_calls.proofs.Breaks.{breaks_other, not_endless}

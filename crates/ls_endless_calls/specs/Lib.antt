@@ -1,2 +1,4 @@
 pub mod Turning
 pub mod Breaking
+pub mod Waits
+pub mod Laws

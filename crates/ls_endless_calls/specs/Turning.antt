@@ -5,8 +5,8 @@ use Rattle.ls_checked.specs.CheckedProgram.{Program}
 use Rattle.ls_events.specs.declared.event.Event.{Event}
 use Rattle.ls_meaning.specs.Runs.{source_history}
 use Rattle.ls_spinning.specs.Turning.{TurnsForEver}
-use Rattle.ls_waiting.specs.Laws.{NeverEndsSo}
-use Rattle.ls_waiting.specs.Waits.{IsPending}
+use Rattle.ls_endless_calls.specs.Laws.{NeverEndsSo}
+use Rattle.ls_endless_calls.specs.Waits.{IsPending}
 use Rattle.ls_endless_calls.specs.declared.finding.Endless.{Endless}
 use Rattle.ls_endless_calls.specs.declared.finding.Endless.TheVariants as endless
 

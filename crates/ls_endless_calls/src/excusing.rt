@@ -1,6 +1,6 @@
 // Whether calls that are pending never end either where calls run one at a time.
 
-ghost use Rattle.std.specs.Prelude.{◌≡◌, ℕ, IfOk, IsTrue, List, Some, length, slice_get, true};
+ghost use Rattle.std.specs.Prelude.{◌≡◌, ℕ, IfOk, IsTrue, Some, slice_get, true};
 ghost use Rattle.std.specs.declared.vec.Vec.{Vec as VecValue};
 ghost use Rattle.std.specs.declared.alloc.Global.{Global as GlobalValue};
 ghost use Rattle.ls_checked.specs.Plain.{plain_file};
@@ -9,17 +9,17 @@ ghost use Rattle.ls_events.specs.declared.event.Event.{Event as EventValue};
 ghost use Rattle.ls_meaning.specs.Runs.{source_history};
 ghost use Rattle.ls_serial_search.specs.Endless.{TellEndlessRuns};
 ghost use Rattle.ls_serial_search.specs.Histories.{lists_of};
-ghost use Rattle.ls_waiting.specs.Laws.{NeverEndsSo};
-ghost use Rattle.ls_waiting.specs.Waits.{AreExcused, IsPending, IsUnexcused};
+ghost use Rattle.ls_endless_calls.specs.Laws.{NeverEndsSo};
+ghost use Rattle.ls_endless_calls.specs.Waits.{AreExcused, IsPending, IsUnexcused};
 
+use crate::first_unexcused;
+use crate::laws::runs_decide;
 use ls_checked::program::Program;
 use ls_checked::tree::File;
 use ls_events::event::Event;
 use ls_events::schedule::Schedule;
 use ls_serial_search::endless::EndlessRuns;
 use ls_source::run::play;
-use ls_waiting::first_unexcused;
-use ls_waiting::laws::runs_decide;
 use std::alloc::{AllocError, Global};
 
 /// Whether each call that is pending in a history is the last of one of the runs. True only where it is so.

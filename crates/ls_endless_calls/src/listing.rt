@@ -16,19 +16,19 @@ ghost use Rattle.ls_endless_calls.specs.declared.listing.Left.TheVariants.{Nothi
 
 use crate::breaking::comes_to_break;
 use crate::excusing::excused_of;
+use crate::laws::runs_decide;
 use ls_checked::program::Program;
 use ls_checked::tree::File;
 use ls_events::event::Event;
-use ls_run_search::listing::{Reach, RunListing, list_run};
 use ls_search::listing::Listing;
+use ls_search::nameless::Nameless;
 use ls_search::places::{Node, Seen};
+use ls_search::run_listing::{Reach, RunListing, list_run};
 use ls_search::searching::Search;
 use ls_search::steps::steps_to;
 use ls_search::watching::Nobody;
 use ls_source_rows::observing::Histories;
-use ls_state_space::nameless::Nameless;
 use ls_transitions::transitions::Transitions;
-use ls_waiting::laws::runs_decide;
 use std::alloc::{AllocError, Global};
 
 /// The most steps of the setup before the search begins.

@@ -1,10 +1,32 @@
 // Whether events are the same.
 
-ghost use Rattle.std.specs.Prelude.{◌≡◌, Decides};
+ghost use Rattle.std.specs.Prelude.{◌≡◌, Decides, IsTrue};
 
 use crate::event::{Event, Happening};
 use crate::kind::Kind;
 use crate::value::Value;
+
+/// Whether a value is the other. True only where it is.
+pub fn is_same_value(value: Value, other: Value) -> bool
+    ensures { IsTrue result → value ≡ other }
+{
+    match (value, other) {
+        (Value::Int(a), Value::Int(b)) => a == b,
+        (Value::Boolean(a), Value::Boolean(b)) => a == b,
+        (Value::Reference(a), Value::Reference(b)) => a == b,
+        (
+            Value::Pair {
+                reference: a,
+                mark: m,
+            },
+            Value::Pair {
+                reference: b,
+                mark: n,
+            },
+        ) => a == b && m == n,
+        _ => false,
+    }
+}
 
 /// Whether a number is that of a value.
 fn is_int(value: Value, number: i32) -> bool

@@ -7,8 +7,8 @@ use Rattle.ls_checked.specs.CheckedProgram.{Program}
 use Rattle.ls_meaning.specs.Runs.{source_history, source_run, step}
 use Rattle.ls_meaning.specs.Still.{IsOver, IsStill}
 use Rattle.ls_serial_search.specs.Endless.{IsEndlessRun}
-use Rattle.ls_waiting.specs.Laws.{NeverEndsSo}
-use Rattle.ls_waiting.specs.Waits.{ExplainsAlone, IsPending}
+use Rattle.ls_endless_calls.specs.Laws.{NeverEndsSo}
+use Rattle.ls_endless_calls.specs.Waits.{ExplainsAlone, IsPending}
 use Rattle.ls_exchanged.specs.Exchanged.{exchanged}
 use Rattle.ls_exchanged.specs.Laws.{ExchangedNeverWaits}
 use Rattle.ls_exchanged.proofs.Alike.{AreAlike, alike, back}

@@ -4,7 +4,7 @@ use Rattle.ls_checked.specs.CheckedTree.{File}
 use Rattle.ls_checked.specs.CheckedProgram.{Program}
 use Rattle.ls_meaning.specs.Runs.{source_history, source_run, step}
 use Rattle.ls_source_judge.specs.Judged.{AllLinearizable}
-use Rattle.ls_waiting.specs.Laws.{NoneWaitsForEver}
+use Rattle.ls_endless_calls.specs.Laws.{NoneWaitsForEver}
 use Rattle.ls_endless_calls.specs.Turning.{NoneTurnsUnexcused}
 use Rattle.ls_explore_reports.specs.Verdicts.{HasLegalOrder}
 use Rattle.ls_exchanged.specs.Exchanged.{AreExchanged, HaveNamesByPlace, exchanged, exchanged_event}

@@ -12,16 +12,16 @@ use Rattle.ls_translation.specs.declared.fault.TranslationFault.TheVariants as t
 use Rattle.ls_live.specs.declared.fault.LiveFault.TheVariants as opening
 use Rattle.ls_live.specs.declared.fault.PlayFault.{PlayFault as LiveFault}
 use Rattle.ls_live.specs.declared.fault.PlayFault.TheVariants as live
-use Rattle.ls_following.specs.declared.fault.FollowFault.TheVariants as follow
-use Rattle.ls_following.specs.declared.fault.TapeFault.{TapeFault as TurnsFault}
-use Rattle.ls_following.specs.declared.fault.TapeFault.TheVariants as turns
+use Rattle.ls_live.specs.declared.follow_fault.FollowFault.TheVariants as follow
+use Rattle.ls_live.specs.declared.follow_fault.TapeFault.{TapeFault as TurnsFault}
+use Rattle.ls_live.specs.declared.follow_fault.TapeFault.TheVariants as turns
 use Rattle.ls_class_programs.specs.declared.fault.ClassFault.{ClassFault}
 use Rattle.ls_class_programs.specs.declared.fault.ClassFault.TheVariants as class
 use Rattle.ls_batch.specs.declared.fault.BatchFault.{BatchFault}
 use Rattle.ls_batch.specs.declared.fault.BatchFault.TheVariants as batch
-use Rattle.ls_explore_images.specs.declared.fault.ExploreFault.{ExploreFault}
-use Rattle.ls_explore_images.specs.declared.fault.ExploreFault.TheVariants as explore
-use Rattle.ls_tallies_reading.specs.declared.fault.TallyFault.TheVariants as tally
+use Rattle.ls_explore.specs.declared.fault.ExploreFault.{ExploreFault}
+use Rattle.ls_explore.specs.declared.fault.ExploreFault.TheVariants as explore
+use Rattle.ls_tallies.specs.declared.fault.TallyFault.TheVariants as tally
 use Rattle.ls_faults.specs.declared.fault.ToolFault.{ToolFault}
 use Rattle.ls_faults.specs.declared.fault.ToolFault.TheVariants as faults
 

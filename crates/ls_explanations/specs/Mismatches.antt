@@ -10,7 +10,7 @@ use Rattle.ls_lexer.specs.declared.word.Word.TheVariants as words
 use Rattle.ls_lexer.specs.Lexemes.{Lexeme, Named, Numeral, Reserved, Marked}
 use Rattle.ls_lexer.specs.Places.{text_limit}
 use Rattle.ls_lexer.specs.Tokens.{tokens_of}
-use Rattle.ls_types.specs.declared.fault.ProgramFault.TheVariants as program_faults
+use Rattle.ls_types_checked.specs.declared.fault.ProgramFault.TheVariants as program_faults
 use Rattle.ls_types_elaboration.specs.declared.mismatch.Counts.{Counts}
 use Rattle.ls_types_elaboration.specs.declared.mismatch.Mismatch.{Mismatch}
 use Rattle.ls_types_elaboration.specs.declared.mismatch.Mismatch.TheVariants as mismatches

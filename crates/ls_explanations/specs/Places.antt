@@ -5,8 +5,8 @@ use Rattle.ls_lexer.specs.declared.fault.TextFault.{TextFault}
 use Rattle.ls_lexer.specs.declared.fault.TextFault.TheVariants as text
 use Rattle.ls_types_elaboration.specs.declared.rule.CheckFault.{CheckFault}
 use Rattle.ls_types_elaboration.specs.declared.rule.CheckFault.TheVariants as rule
-use Rattle.ls_types.specs.declared.fault.ProgramFault.{ProgramFault}
-use Rattle.ls_types.specs.declared.fault.ProgramFault.TheVariants as program
+use Rattle.ls_types_checked.specs.declared.fault.ProgramFault.{ProgramFault}
+use Rattle.ls_types_checked.specs.declared.fault.ProgramFault.TheVariants as program
 use Rattle.ls_schedule.specs.declared.fault.ScheduleFault.{ScheduleFault}
 use Rattle.ls_schedule.specs.declared.fault.ScheduleFault.TheVariants as schedule
 use Rattle.ls_aim.specs.declared.fault.AimFault.{AimFault}
@@ -15,8 +15,8 @@ use Rattle.ls_report.specs.declared.fault.HistoryFault.{HistoryFault}
 use Rattle.ls_report.specs.declared.fault.HistoryFault.TheVariants as history
 use Rattle.ls_orders.specs.declared.fault.OrderFault.{OrderFault}
 use Rattle.ls_orders.specs.declared.fault.OrderFault.TheVariants as order
-use Rattle.ls_tallies_reading.specs.declared.fault.TallyFault.{TallyFault}
-use Rattle.ls_tallies_reading.specs.declared.fault.TallyFault.TheVariants as tally
+use Rattle.ls_tallies.specs.declared.fault.TallyFault.{TallyFault}
+use Rattle.ls_tallies.specs.declared.fault.TallyFault.TheVariants as tally
 use Rattle.ls_faults.specs.declared.fault.ToolFault.{ToolFault}
 use Rattle.ls_faults.specs.declared.fault.ToolFault.TheVariants as faults
 use Rattle.ls_explanations.specs.declared.place.Part.{Part}

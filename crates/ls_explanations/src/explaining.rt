@@ -8,7 +8,7 @@ ghost use Rattle.ls_explanations.specs.Explanations.{whole_sentence};
 
 use crate::mismatch::push_details;
 use crate::place::{Part, PartSpan, place_of};
-use crate::sentence::sentence;
+use crate::sentences::sentence;
 use crate::spot::{Spot, begins_character, characters, spot_of};
 use ls_faults::fault::ToolFault;
 use ls_lexer::token::Span;

@@ -13,7 +13,7 @@ mod names;
 mod noting;
 mod place;
 mod programs;
-mod sentence;
+mod sentences;
 mod signs;
 mod spot;
 mod tokens;

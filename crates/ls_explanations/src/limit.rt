@@ -7,14 +7,13 @@ ghost use Rattle.ls_explanations.specs.Limits.{limit_sentence, live_limit, trans
 use ls_batch::BatchFault;
 use ls_class_programs::ClassFault;
 use ls_emit::fault::EmitFault;
-use ls_explore_images::ExploreFault;
+use ls_explore::ExploreFault;
 use ls_faults::fault::ToolFault;
-use ls_following::{FollowFault, TapeFault as TurnsPlayFault};
 use ls_linker::fault::{BuildFault, LinkFault};
-use ls_live::{LiveFault, PlayFault as LivePlayFault};
+use ls_live::{FollowFault, LiveFault, PlayFault as LivePlayFault, TapeFault as TurnsPlayFault};
 use ls_lowered::fault::LowerFault;
 use ls_machine::LoadFault;
-use ls_tallies_reading::TallyFault;
+use ls_tallies::TallyFault;
 use ls_translation::fault::TranslationFault;
 
 /// How many cells are taken.

@@ -14,9 +14,9 @@ use ls_lexer::token::Span;
 use ls_orders::OrderFault;
 use ls_report::HistoryFault;
 use ls_schedule::fault::ScheduleFault;
-use ls_tallies_reading::TallyFault;
-use ls_types::checked::CheckFault;
-use ls_types::fault::ProgramFault;
+use ls_tallies::TallyFault;
+use ls_types_checked::checked::CheckFault;
+use ls_types_checked::fault::ProgramFault;
 use std::alloc::AllocError;
 
 /// A part of an input, by what it holds.

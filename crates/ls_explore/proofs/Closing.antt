@@ -6,12 +6,12 @@ use Rattle.std.proofs.lemmas.Bool.{cases_lt}
 use Rattle.std.proofs.lemmas.List.{map-append, length-map}
 use Rattle.ls_code.specs.Machine.{Machine}
 use Rattle.ls_preservation.proofs.Lists.{get_left, get_right, get_within, get_there, get_map, index_there}
-use Rattle.ls_explore_laws.specs.Bursts.{burst, IsClosed}
+use Rattle.ls_explore.specs.Bursts.{burst, IsClosed}
 use Rattle.ls_explore.specs.Walks.{led_to, walked}
 use Rattle.ls_explore.specs.Searches.{AllAct, Grows, IsClosedTo, IsSeen, IsSound, Leads}
 use Rattle.ls_explore.specs.declared.searching.Seen.{Seen}
-use Rattle.ls_explore_laws.proofs.Along.{along_more}
-use Rattle.ls_explore_laws.specs.Bursts.{ActsAlong}
+use Rattle.ls_explore.proofs.Along.{along_more}
+use Rattle.ls_explore.specs.Bursts.{ActsAlong}
 
 -- what stands at a place is there
 pub there_at : {A : Type 0} (xs : List A) (k : ℕ) (x : A) → slice_get xs k ≡ Some x → Contains xs x

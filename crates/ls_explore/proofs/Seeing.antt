@@ -6,7 +6,7 @@ use Rattle.ls_code.specs.Machine.{Machine, stops}
 use Rattle.ls_code.specs.declared.step.Did.{Did}
 use Rattle.ls_code.specs.declared.step.Did.TheVariants as did
 use Rattle.ls_preservation.specs.Acting.{first_did}
-use Rattle.ls_explore_laws.specs.Bursts.{burst}
+use Rattle.ls_explore.specs.Bursts.{burst}
 use Rattle.ls_explore.specs.declared.searching.Seen.{Seen}
 use Rattle.ls_explore.specs.Walks.{has_acted}
 use Rattle.ls_explore.specs.Searches.{IsSeen, seen_with}

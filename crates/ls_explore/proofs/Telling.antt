@@ -21,15 +21,15 @@ use Rattle.ls_preservation.specs.Same.{Fits, IsCells}
 use Rattle.ls_preservation.specs.Translations.{most_silent, to_source}
 use Rattle.ls_preservation.proofs.Lists.{get_within, get_there, get_map, index_there}
 use Rattle.ls_preservation.specs.Acting.{first_did}
-use Rattle.ls_explore_laws.specs.Bursts.{ActsAlong, IsClosed, burst}
-use Rattle.ls_explore_laws.specs.Ends.{AreQuiet, HasSteps, IsEnd as IsEndOf, IsQuiet}
-use Rattle.ls_explore_laws.specs.Explored.{IsRoomy, IsSetUp, IsShown}
-use Rattle.ls_explore_laws.specs.Room.{LacksRoom, StopsForRoom}
-use Rattle.ls_explore_laws.proofs.Along.{along_is, along_more, leads_as_source, ready_along, whole_run, whole_source}
-use Rattle.ls_explore_laws.proofs.Covering.{covers_all, covers_whole}
-use Rattle.ls_explore_laws.proofs.Ending.{ends_all, ends_whole, stands_still_along}
-use Rattle.ls_explore_laws.proofs.Lacking.{is_there, lacks, unfit}
-use Rattle.ls_explore_laws.proofs.Open.{IsReady}
+use Rattle.ls_explore.specs.Bursts.{ActsAlong, IsClosed, burst}
+use Rattle.ls_explore.specs.Ends.{AreQuiet, HasSteps, IsEnd as IsEndOf, IsQuiet}
+use Rattle.ls_explore.specs.Explored.{IsRoomy, IsSetUp, IsShown}
+use Rattle.ls_explore.specs.Room.{LacksRoom, StopsForRoom}
+use Rattle.ls_explore.proofs.Along.{along_is, along_more, leads_as_source, ready_along, whole_run, whole_source}
+use Rattle.ls_explore.proofs.Covering.{covers_all, covers_whole}
+use Rattle.ls_explore.proofs.Endings.{ends_all, ends_whole, stands_still_along}
+use Rattle.ls_explore.proofs.Lacking.{is_there, lacks, unfit}
+use Rattle.ls_explore.proofs.Open.{IsReady}
 use Rattle.ls_explore.specs.declared.rows.Ending.TheVariants as ending
 use Rattle.ls_explore.specs.declared.searching.Seen.{Seen}
 use Rattle.ls_explore.specs.Listed.{TellListed}

@@ -7,8 +7,8 @@ use Rattle.ls_code.specs.declared.step.Did.{Did}
 use Rattle.ls_code.specs.declared.step.Did.TheVariants as did
 use Rattle.ls_preservation.specs.Acting.{first_did, or_later}
 use Rattle.ls_machine.specs.Back.{RunsKeep}
-use Rattle.ls_explore_laws.specs.Bursts.{IsSilentTo, acted_or, burst}
-use Rattle.ls_explore_laws.proofs.Rounds.{never_acts}
+use Rattle.ls_explore.specs.Bursts.{IsSilentTo, acted_or, burst}
+use Rattle.ls_explore.proofs.Rounds.{never_acts}
 use Rattle.ls_explore.specs.Walks.{Tried, has_acted, is_silent, tried, tried_or, walked}
 
 pub silent_is : (d : Did) → is_silent d ≡ true → did.Silent ≡ d

@@ -13,11 +13,11 @@ use Rattle.ls_code.specs.Machine.{Machine, loaded, machine_run}
 use Rattle.ls_code.specs.declared.step.Did.TheVariants as did
 use Rattle.ls_preservation.specs.Same.{Fits, IsCells}
 use Rattle.ls_preservation.specs.Acting.{ActsInTime, first_did}
-use Rattle.ls_explore_laws.specs.Bursts.{ActsAlong, burst}
-use Rattle.ls_explore_laws.specs.Ends.{AreQuiet, HasSteps}
-use Rattle.ls_explore_laws.specs.Room.{IsFull, StaysWithin, StopsForRoom}
+use Rattle.ls_explore.specs.Bursts.{ActsAlong, burst}
+use Rattle.ls_explore.specs.Ends.{AreQuiet, HasSteps}
+use Rattle.ls_explore.specs.Room.{IsFull, StaysWithin, StopsForRoom}
 use Rattle.ls_meaning.specs.Still.{IsOver}
-use Rattle.ls_explore_laws.specs.Explored.{HasHistories, IsSetUp}
+use Rattle.ls_explore.specs.Explored.{HasHistories, IsSetUp}
 use Rattle.ls_events.specs.Beginnings.{IsBeginning}
 use Rattle.ls_explore.specs.declared.rows.Ending.{Ending}
 use Rattle.ls_explore.specs.declared.rows.Ending.TheVariants as ending

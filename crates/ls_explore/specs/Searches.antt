@@ -7,7 +7,7 @@ use Rattle.ls_code.specs.declared.step.Did.{Did}
 use Rattle.ls_machine.specs.Saved.{Standing, standing}
 use Rattle.ls_code.specs.declared.step.Did.TheVariants as did
 use Rattle.ls_preservation.specs.Acting.{first_did}
-use Rattle.ls_explore_laws.specs.Bursts.{ActsAlong, burst}
+use Rattle.ls_explore.specs.Bursts.{ActsAlong, burst}
 use Rattle.ls_explore.specs.declared.searching.Seen.{Seen}
 use Rattle.ls_explore.specs.Walks.{has_acted, led_to, walked}
 

@@ -5,7 +5,7 @@ ghost use Rattle.std.specs.Prelude.{OnOk, IsTrue, Contains, slice_index_or};
 ghost use Rattle.ls_code.specs.Machine.{Machine as MachineValue};
 ghost use Rattle.ls_machine.specs.Saved.{standing};
 ghost use Rattle.ls_preservation.specs.Acting.{first_did};
-ghost use Rattle.ls_explore_laws.specs.Bursts.{IsClosed};
+ghost use Rattle.ls_explore.specs.Bursts.{IsClosed};
 ghost use Rattle.ls_explore.specs.Walks.{led_to, root_of, walked};
 ghost use Rattle.ls_explore.specs.Watching.{GoesOn};
 ghost use Rattle.ls_explore.specs.Searches.{AllAct, AreDistinct, AreSaved, Grows, IsClosedTo, IsSound, Leads};

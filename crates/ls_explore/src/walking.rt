@@ -4,7 +4,7 @@ ghost use Rattle.std.specs.Prelude.{◌≡◌, ℕ, suc, ◌++◌, ◌∷◌, []
 ghost use Rattle.ls_code.specs.declared.step.Did.TheVariants.{Silent};
 ghost use Rattle.ls_machine.specs.Saved.{standing};
 ghost use Rattle.ls_preservation.specs.Acting.{first_did};
-ghost use Rattle.ls_explore_laws.specs.Bursts.{IsSilentTo, burst};
+ghost use Rattle.ls_explore.specs.Bursts.{IsSilentTo, burst};
 ghost use Rattle.ls_explore.specs.Walks.{has_acted, is_silent, root_of, tried, walked};
 
 use crate::links::Path;

@@ -4,7 +4,7 @@ use Rattle.ls_checked.specs.CheckedTree.{File}
 use Rattle.ls_checked.specs.CheckedProgram.{Program}
 use Rattle.ls_checked.specs.declared.program.Program.{Program as CodeProgram}
 use Rattle.ls_image.specs.declared.image.Image.{Image}
-use Rattle.ls_explore_images.specs.Faults.{AreBadStates}
+use Rattle.ls_explore.specs.Faults.{AreBadStates}
 use Rattle.ls_report.specs.Events.{Text}
 use Rattle.ls_labels.specs.Names.{Names}
 use Rattle.ls_schedule.specs.Reading.{thread_names}

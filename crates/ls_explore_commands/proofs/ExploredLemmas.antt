@@ -1,20 +1,22 @@
 -- What `explore` may answer.
 use Rattle.std.proofs.Common.{◌≡◌, ◌&&◌, ◌<◌, ◌≤◌, ◌⊎◌, inl, inr, ℕ, zero, suc, Bool, true, false}
-use Rattle.std.proofs.Common.{List, [], ◌∷◌, Option}
+use Rattle.std.proofs.Common.{List, [], ◌∷◌, Option, Some}
 use Rattle.std.proofs.Common.{Ok, Err, refl, sym, subst, arith}
 use Rattle.std.proofs.lemmas.List.{get_or-map, length-map}
 use Rattle.std.specs.Prelude.{All, Contains, IsErrOf, IsSorted, slice_index_or, length}
 use Rattle.ls_meaning.specs.Runs.{source_history}
 use Rattle.ls_checked.specs.CheckedTree.{File}
+use Rattle.ls_checked.specs.CheckedProgram.{Program}
 use Rattle.ls_checked.specs.PlainProgram.{plain_program}
 use Rattle.ls_checked.specs.declared.program.Program.{Program as CodeProgram}
 use Rattle.ls_image.specs.Images.{code_of_image, program_of_image}
 use Rattle.ls_image.specs.declared.image.Image.{Image}
 use Rattle.ls_translation.specs.Texts.{file_of, program_of}
 use Rattle.ls_explore.specs.Rows.{AreApart, TellStates, Told, row_order}
-use Rattle.ls_explore_images.specs.Tellings.{TellTruth, TellWhole, schedule_of}
-use Rattle.ls_explore_images.specs.declared.fault.ExploreFault.{ExploreFault}
-use Rattle.ls_explore_images.specs.declared.fault.ExploreFault.TheVariants as explore
+use Rattle.ls_explore.specs.Machines.{TellMachine}
+use Rattle.ls_explore.specs.Tellings.{TellAll, TellTruth, TellWhole, schedule_of}
+use Rattle.ls_explore.specs.declared.fault.ExploreFault.{ExploreFault}
+use Rattle.ls_explore.specs.declared.fault.ExploreFault.TheVariants as explore
 use Rattle.ls_report.specs.Events.{Text}
 use Rattle.ls_text_laws.specs.Histories.{IsReadable}
 use Rattle.ls_translation.specs.declared.fault.TranslationFault.{TranslationFault}
@@ -27,15 +29,31 @@ use Rattle.ls_commands.specs.Compiled.{names_of_image}
 use Rattle.ls_explore_reports.specs.declared.printing.Exploring.{Exploring}
 use Rattle.ls_explore_commands.specs.Finding.{AreGoodFor, IsRefused, TellBy}
 use Rattle.ls_explore_commands.specs.Explored.{Explored, Endless, IsExploration, NoCells, NoStates, NotTranslated}
-use Rattle.ls_explore_commands.specs.Explored.{RowTooLong, Tells, names_in}
+use Rattle.ls_explore_commands.specs.Explored.{RowTooLong, Tells}
+use Rattle.ls_explore_reports.specs.ImageNames.{names_in}
 use Rattle.ls_explore_reports.specs.Judged.{AreHistories, IsJudged, IsToldBelow, IsToldLinear, Judged, rows_of}
-use Rattle.ls_explore_reports.specs.Laws.{LinearityIsMeant, NoneIllegal, NoneIsNotLinearizable}
+use Rattle.ls_explore_reports.specs.Laws.{LinearityIsMeant, NoneIllegal, NoneIllegalThatFits, NoneIsNotLinearizable}
+use Rattle.ls_explore_reports.specs.Laws.{NoneIsNotLinearizableThatFits}
 use Rattle.ls_explore_reports.specs.Long.{HasLong}
 use Rattle.ls_explore_reports.specs.Cuts.{IsExploredText, IsSo}
 use Rattle.ls_explore_commands.specs.Readable.{SourceRunsAreReadable}
 
+-- if a number of cells was asked for, complete rows tell of all schedules that fit
+all_that_fit : (file : File) (program : Program) (count : Option ℕ) (limit k : ℕ) (rows : List Told) (kept : ℕ)
+    (complete roomy : Bool) →
+    TellBy count file program limit k rows kept complete roomy →
+    (cells : ℕ) →
+    count ≡ Some cells →
+    complete ≡ true →
+    TellAll file program cells rows
+all_that_fit file program count limit k rows kept complete roomy by cells asked done =
+    let machine : TellMachine file program cells limit k rows kept complete roomy =
+    subst (λ o. TellBy o file program limit k rows kept complete roomy) asked by in
+    machine.all done
+
 -- what the rows tell, with the verdicts on them
-pub judged_so : LinearityIsMeant → NoneIllegal → NoneIsNotLinearizable →
+pub judged_so : LinearityIsMeant → NoneIllegal → NoneIllegalThatFits → NoneIsNotLinearizable →
+    NoneIsNotLinearizableThatFits →
     (i : Image) (count : Option ℕ) (limit : ℕ) (orders : Bool) (k : ℕ) (rows : List Told) (judged : List Judged)
     (kept : ℕ) (complete roomy : Bool) →
     rows_of judged ≡ rows →
@@ -49,20 +67,23 @@ pub judged_so : LinearityIsMeant → NoneIllegal → NoneIsNotLinearizable →
     All (IsToldLinear (file_of i) (program_of i) (complete && roomy) rows) judged →
     All (IsToldBelow orders (file_of i) (program_of i)) judged →
     IsExploration i count limit orders k judged kept complete roomy
-judged_so meant legal linearizable i count limit orders k rows judged kept complete roomy e truth states few cut by
-    whole apart order verdicts linear below =
+judged_so meant legal legal_fits linearizable linearizable_fits i count limit orders k rows judged kept complete roomy e
+    truth states few cut by whole apart order verdicts linear below =
     let so : TellTruth (file_of i) (program_of i) k (rows_of judged) =
     subst (TellTruth (file_of i) (program_of i) k) (sym e) truth in
     let each : complete ≡ true → roomy ≡ true → TellWhole (file_of i) (program_of i) (rows_of judged) =
     λ yes room. subst (TellWhole (file_of i) (program_of i)) (sym e) (whole yes room) in
     let told : All (IsToldLinear (file_of i) (program_of i) (complete && roomy) (rows_of judged)) judged =
     subst (λ rs. All (IsToldLinear (file_of i) (program_of i) (complete && roomy) rs) judged) (sym e) linear in
+    let found : TellBy count (file_of i) (program_of i) limit k (rows_of judged) kept complete roomy =
+    subst (λ rs. TellBy count (file_of i) (program_of i) limit k rs kept complete roomy) (sym e) by in
+    let fit = all_that_fit (file_of i) (program_of i) count limit k (rows_of judged) kept complete roomy found in
     record {
       truth = so;
       states = subst (λ rs. TellStates (file_of i) (program_of i) k rs kept) (sym e) states;
       few = few;
       cut = cut;
-      by = subst (λ rs. TellBy count (file_of i) (program_of i) limit k rs kept complete roomy) (sym e) by;
+      by = found;
       whole = each;
       apart = subst AreApart (sym e) apart;
       order = subst (IsSorted row_order) (sym e) order;
@@ -74,6 +95,11 @@ judged_so meant legal linearizable i count limit orders k rows judged kept compl
           legal (file_of i) (program_of i) judged verdicts decided none (each yes room);
       all_linearizable = λ yes room known none.
           linearizable (file_of i) (program_of i) k (complete && roomy) judged told known none so (each yes room);
+      none_illegal_fits = λ cells asked yes decided none.
+          legal_fits (file_of i) (program_of i) cells judged verdicts decided none (fit cells asked yes);
+      all_linearizable_fits = λ cells asked yes known none.
+          linearizable_fits (file_of i) (program_of i) k cells (complete && roomy) judged told known none so
+          (fit cells asked yes);
     }
 
 -- what is said of linearizability, of the file and the program of an image

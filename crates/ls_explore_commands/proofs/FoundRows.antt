@@ -7,12 +7,12 @@ use Rattle.ls_image.specs.declared.image.Image.{Image}
 use Rattle.ls_translation.specs.Texts.{file_of, program_of}
 use Rattle.ls_explore.specs.declared.rows.Ending.TheVariants.{NotSeen}
 use Rattle.ls_explore.specs.Rows.{AreApart, NoneEnds, StandAlone, TellStates, row_order}
-use Rattle.ls_explore_images.specs.Faults.{AreBadStates, AreGood, IsEndless, IsOfSetup}
-use Rattle.ls_explore_images.specs.Sources.{IsOfSource, IsSourceEndless, TellSource}
-use Rattle.ls_explore_images.specs.Tellings.{AllFit, AreFull, IsNarrow, TellAll, TellTruth, TellWhole}
-use Rattle.ls_explore_images.specs.declared.exploring.ImageExploration.{ImageExploration}
-use Rattle.ls_explore_images.specs.declared.fault.ExploreFault.{ExploreFault}
-use Rattle.ls_explore_images.specs.declared.fault.ExploreFault.TheVariants as explore
+use Rattle.ls_explore.specs.Faults.{AreBadStates, AreGood, IsEndless, IsOfSetup}
+use Rattle.ls_explore.specs.Sources.{IsOfSource, IsSourceEndless, TellSource}
+use Rattle.ls_explore.specs.Tellings.{AllFit, AreFull, IsNarrow, TellAll, TellTruth, TellWhole}
+use Rattle.ls_explore.specs.declared.images.ImageExploration.{ImageExploration}
+use Rattle.ls_explore.specs.declared.fault.ExploreFault.{ExploreFault}
+use Rattle.ls_explore.specs.declared.fault.ExploreFault.TheVariants as explore
 use Rattle.ls_explore_commands.specs.Finding.{AreGoodFor, IsFound, IsRefused}
 
 module _ (i : Image) (limit : ℕ) where

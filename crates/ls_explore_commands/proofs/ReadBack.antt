@@ -15,12 +15,12 @@ use Rattle.ls_meaning.specs.Runs.{State, answers_of, has_started, idle, source_s
 use Rattle.ls_explore.specs.Rows.{Told}
 use Rattle.ls_image.specs.Images.{checked_of, program_of_image}
 use Rattle.ls_image.specs.declared.image.Image.{Image}
-use Rattle.ls_types.specs.CheckedFile.{outcome_of}
+use Rattle.ls_types_checked.specs.CheckedFile.{elaborated_file}
 use Rattle.ls_translation.specs.Texts.{file_of, program_of}
 use Rattle.ls_schedule.specs.Reading.{thread_name, thread_names}
 use Rattle.ls_text_laws.specs.Schedules.{SchedulesReadBack}
 use Rattle.ls_explore.specs.Rows.{ActAll}
-use Rattle.ls_explore_images.specs.Tellings.{TellTruth, schedule_of}
+use Rattle.ls_explore.specs.Tellings.{TellTruth, schedule_of}
 use Rattle.ls_explore_commands.specs.Laws.{BeginningsReadBack, RowsReadBack}
 
 none_there : {A : Type 0} (xs : List A) (n : ℕ) → length xs ≤ n → slice_get xs n ≡ None
@@ -96,12 +96,12 @@ steps_there i k rows r truth within =
 
 pub rows_read_back : SchedulesReadBack → RowsReadBack
 rows_read_back reads classes program i k rows r compiles truth within few =
-    reads (outcome_of (checked_of i)) program (program_of_image i) (schedule_of k r) compiles.reads
+    reads (elaborated_file (checked_of i)) program (program_of_image i) (schedule_of k r) compiles.reads
     (record { there = steps_there i k rows r truth within; short = few })
 
 pub beginnings_read_back : SchedulesReadBack → BeginningsReadBack
 beginnings_read_back reads classes program i k rows r n compiles truth within few =
-    reads (outcome_of (checked_of i)) program (program_of_image i) (take n (schedule_of k r)) compiles.reads
+    reads (elaborated_file (checked_of i)) program (program_of_image i) (take n (schedule_of k r)) compiles.reads
     (record {
       there = All-take (λ t. t < length (thread_names (program_of_image i))) n (schedule_of k r)
           (steps_there i k rows r truth within);

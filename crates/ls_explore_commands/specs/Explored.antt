@@ -3,21 +3,20 @@ use Rattle.std.specs.Prelude.{◌≡◌, ◌&&◌, ◌≤◌, ℕ, Bool, true, f
 use Rattle.std.specs.Prelude.{Result, Ok, Err}
 use Rattle.ls_machine.specs.Room.{AreBadCells}
 use Rattle.ls_meaning.specs.Runs.{source_history}
-use Rattle.ls_types.specs.CheckedFile.{outcome_of}
-use Rattle.ls_image.specs.Images.{checked_of, code_of_image}
+use Rattle.ls_image.specs.Images.{code_of_image}
 use Rattle.ls_image.specs.declared.image.Image.{Image}
 use Rattle.ls_translation.specs.Texts.{file_of, program_of}
 use Rattle.ls_translation.specs.declared.fault.TranslationFault.{TranslationFault}
 use Rattle.ls_translation.specs.declared.fault.TranslationFault.TheVariants as translation
 use Rattle.ls_explore.specs.Rows.{AreApart, TellStates, row_order}
 use Rattle.ls_linearizable.specs.Linearizable.{IsLinearizable}
+use Rattle.ls_preservation.specs.Same.{Fits}
 use Rattle.ls_explore_reports.specs.Verdicts.{HasLegalOrder}
-use Rattle.ls_explore_images.specs.Faults.{AreBadStates, AreGood, StaysSource}
-use Rattle.ls_explore_images.specs.Settings.{GoesOnFor, StopsAt}
-use Rattle.ls_explore_images.specs.Tellings.{TellTruth, TellWhole}
-use Rattle.ls_explore_images.specs.declared.fault.ExploreFault.TheVariants as explore
+use Rattle.ls_explore.specs.Faults.{AreBadStates, AreGood, StaysSource}
+use Rattle.ls_explore.specs.Settings.{GoesOnFor, StopsAt}
+use Rattle.ls_explore.specs.Tellings.{TellTruth, TellWhole}
+use Rattle.ls_explore.specs.declared.fault.ExploreFault.TheVariants as explore
 use Rattle.ls_report.specs.Events.{Text}
-use Rattle.ls_labels.specs.Names.{Names}
 use Rattle.ls_faults.specs.declared.fault.ToolFault.{ToolFault}
 use Rattle.ls_faults.specs.declared.fault.ToolFault.TheVariants as faults
 use Rattle.ls_commands.specs.Compiled.{AnswersOn, names_of_image}
@@ -25,17 +24,9 @@ use Rattle.ls_explore_reports.specs.Cuts.{IsExploredText}
 use Rattle.ls_explore_reports.specs.declared.printing.Exploring.{Exploring}
 use Rattle.ls_explore_reports.specs.Judged.{AreMeant, IsJudged, IsToldBelow, IsToldLinear, Judged, are_decided}
 use Rattle.ls_explore_reports.specs.Judged.{are_known, count_illegal, count_not_linearizable, rows_of}
+use Rattle.ls_explore_reports.specs.ImageNames.{names_in}
 use Rattle.ls_explore_reports.specs.Long.{HasLong}
 use Rattle.ls_explore_commands.specs.Finding.{AreGoodFor, HasGoodCells, TellBy}
-
--- the names of an image's classes and of what they declare, its file and its program
-abbrev pub names_in : Image → Names
-names_in i = record {
-  classes = (outcome_of (checked_of i)).names;
-  signs = (outcome_of (checked_of i)).signs;
-  file = file_of i;
-  program = program_of i;
-}
 
 -- Rows that tell the truth, the shortest schedule first, no two with one history, each with its verdict, and with what
 -- the rows and the serial runs say of its linearizability. Below each is what the command `order` tells of its history,
@@ -61,6 +52,17 @@ pub record IsExploration (i : Image) (count : Option ℕ) (limit : ℕ) (orders 
       (schedule : List ℕ) → HasLegalOrder (program_of i) (source_history (file_of i) (program_of i) schedule)
   pub all_linearizable : complete ≡ true → roomy ≡ true → are_known judged ≡ true → count_not_linearizable judged ≡ 0 →
       (schedule : List ℕ) →
+      IsLinearizable (file_of i) (program_of i) (source_history (file_of i) (program_of i) schedule)
+  -- and beside `complete in these cells`
+  pub none_illegal_fits : (cells : ℕ) → count ≡ Some cells → complete ≡ true → are_decided judged ≡ true →
+      count_illegal judged ≡ 0 →
+      (schedule : List ℕ) →
+      Fits (file_of i) (program_of i) cells schedule →
+      HasLegalOrder (program_of i) (source_history (file_of i) (program_of i) schedule)
+  pub all_linearizable_fits : (cells : ℕ) → count ≡ Some cells → complete ≡ true → are_known judged ≡ true →
+      count_not_linearizable judged ≡ 0 →
+      (schedule : List ℕ) →
+      Fits (file_of i) (program_of i) cells schedule →
       IsLinearizable (file_of i) (program_of i) (source_history (file_of i) (program_of i) schedule)
 
 -- the text of an exploration; or why there is none

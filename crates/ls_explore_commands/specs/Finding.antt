@@ -8,15 +8,15 @@ use Rattle.ls_image.specs.Images.{code_of_image}
 use Rattle.ls_image.specs.declared.image.Image.{Image}
 use Rattle.ls_translation.specs.Texts.{file_of, program_of}
 use Rattle.ls_explore.specs.Rows.{AreApart, TellStates, Told, row_order}
-use Rattle.ls_explore_images.specs.Faults.{AreBadStates, AreGood, StaysSource}
-use Rattle.ls_explore_images.specs.Settings.{GoesOnFor, StopsAt}
-use Rattle.ls_explore_images.specs.Machines.{TellMachine}
-use Rattle.ls_explore_images.specs.Sources.{TellSource}
-use Rattle.ls_explore_images.specs.Tellings.{TellTruth, TellWhole}
-use Rattle.ls_explore_images.specs.declared.exploring.ImageExploration.{ImageExploration}
-use Rattle.ls_explore_images.specs.declared.fault.ExploreFault.{ExploreFault}
-use Rattle.ls_explore_images.specs.declared.fault.ExploreFault.TheVariants.{Memory, BadCells, BadStates, SetupEndless}
-use Rattle.ls_explore_images.specs.declared.fault.ExploreFault.TheVariants.{Setup}
+use Rattle.ls_explore.specs.Faults.{AreBadStates, AreGood, StaysSource}
+use Rattle.ls_explore.specs.Settings.{GoesOnFor, StopsAt}
+use Rattle.ls_explore.specs.Machines.{TellMachine}
+use Rattle.ls_explore.specs.Sources.{TellSource}
+use Rattle.ls_explore.specs.Tellings.{TellTruth, TellWhole}
+use Rattle.ls_explore.specs.declared.images.ImageExploration.{ImageExploration}
+use Rattle.ls_explore.specs.declared.fault.ExploreFault.{ExploreFault}
+use Rattle.ls_explore.specs.declared.fault.ExploreFault.TheVariants.{Memory, BadCells, BadStates, SetupEndless}
+use Rattle.ls_explore.specs.declared.fault.ExploreFault.TheVariants.{Setup}
 
 -- where a number of cells is asked for, the machine can have so many
 abbrev pub HasGoodCells : Code → Option ℕ → Type 0

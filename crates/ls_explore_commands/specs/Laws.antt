@@ -7,7 +7,7 @@ use Rattle.ls_translation.specs.Texts.{file_of, program_of}
 use Rattle.ls_schedule.specs.Printing.{schedule_text}
 use Rattle.ls_schedule.specs.Reading.{schedule_of as steps_of}
 use Rattle.ls_explore.specs.Rows.{Told}
-use Rattle.ls_explore_images.specs.Tellings.{TellTruth, schedule_of}
+use Rattle.ls_explore.specs.Tellings.{TellTruth, schedule_of}
 use Rattle.ls_commands.specs.Compiled.{names_of_image}
 use Rattle.ls_report.specs.Events.{Text}
 

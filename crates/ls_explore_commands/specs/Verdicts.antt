@@ -5,8 +5,8 @@ use Rattle.ls_checked.specs.CheckedProgram.{Program}
 use Rattle.ls_image.specs.declared.image.Image.{Image}
 use Rattle.ls_translation.specs.Texts.{file_of, program_of}
 use Rattle.ls_translation.specs.declared.fault.TranslationFault.TheVariants as translation
-use Rattle.ls_explore_images.specs.Faults.{AreBadStates}
-use Rattle.ls_explore_images.specs.declared.fault.ExploreFault.TheVariants as explore
+use Rattle.ls_explore.specs.Faults.{AreBadStates}
+use Rattle.ls_explore.specs.declared.fault.ExploreFault.TheVariants as explore
 use Rattle.ls_report.specs.Events.{Text}
 use Rattle.ls_faults.specs.declared.fault.ToolFault.{ToolFault}
 use Rattle.ls_faults.specs.declared.fault.ToolFault.TheVariants as faults
@@ -17,8 +17,8 @@ use Rattle.ls_serial_search.specs.Told.{IsDoubt, usual}
 use Rattle.ls_serial_search.specs.declared.telling.Doubt.{Doubt}
 use Rattle.ls_source_judge.specs.Judged.{AllLinearizable, IsNotLinearizable, IsSimplestBad}
 use Rattle.ls_spinning.specs.Turning.{NeverTurns, TurnsForEver}
-use Rattle.ls_state_space.specs.Verdicts.{AreReached, LeavesStuck, NeverStuck}
-use Rattle.ls_explore_commands.specs.Explored.{names_in}
+use Rattle.ls_search.specs.Verdicts.{AreReached, LeavesStuck, NeverStuck}
+use Rattle.ls_explore_reports.specs.ImageNames.{names_in}
 use Rattle.ls_explore_commands.specs.Reports.{bad_text, doubtful_text, free_text, stuck_and_doubtful_text, stuck_text}
 use Rattle.ls_explore_commands.specs.Reports.{turning_text, unsure_text}
 

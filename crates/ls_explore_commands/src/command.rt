@@ -1,37 +1,21 @@
 // The command `explore`.
 
 ghost use Rattle.std.specs.Prelude.{◌≡◌, ◌&&◌};
-ghost use Rattle.ls_explore_commands.specs.Explored.{Explored, ExploresTo, names_in};
+ghost use Rattle.ls_explore_commands.specs.Explored.{Explored, ExploresTo};
+ghost use Rattle.ls_explore_reports.specs.ImageNames.{names_in};
 ghost use Rattle.ls_explore_commands.specs.Readable.{SourceRunsAreReadable};
 ghost use Rattle.ls_explore.specs.Watching.{GoesOn};
 ghost use Rattle.ls_faults.specs.Given.{GivesText};
-ghost use Rattle.ls_image.specs.Images.{program_of_image};
-ghost use Rattle.ls_labels.specs.Names.{names_of};
 
 use crate::finding::find_rows;
-use ls_compiler::compile::compile;
+use ls_compiler::compile;
 use ls_explore::Watch;
 use ls_explore_reports::laws::{linearity_is_meant, none_is_illegal, none_is_not_linearizable};
-use ls_explore_reports::{Exploring, judge_rows, print_exploration};
+use ls_explore_reports::{Exploring, judge_rows, names_in, print_exploration};
 use ls_faults::fault::ToolFault;
 use ls_image::image::Image;
-use ls_labels::names::Names;
 use ls_text_laws::source_is_readable;
 use std::alloc::Global;
-
-/// The names of an image's classes and program.
-pub(crate) fn names_in(image: &Image) -> Names<'_>
-    ensures names { names_of result ≡ names_in image.now }
-    ensures program { result.program.now ≡ program_of_image image.now }
-{
-    let checked = image.checked();
-    Names {
-        classes: checked.class_names(),
-        signs: checked.class_signs(),
-        file: checked.file(),
-        program: image.program(),
-    }
-}
 
 /// Whether the rows tell of every schedule.
 fn is_whole(complete: bool, roomy: bool) -> bool

@@ -2,7 +2,7 @@
 
 ghost use Rattle.std.specs.Prelude.{◌≡◌, ◌++◌, ◌∷◌, [], ◌↔◌, ◌⊎◌, ℕ, IfErr, IfNone, IfOk, IfSome, IsTrue, OnOk, replicate};
 ghost use Rattle.std.specs.Prelude.{false, true};
-ghost use Rattle.ls_explore_images.specs.Faults.{AreBadStates};
+ghost use Rattle.ls_explore.specs.Faults.{AreBadStates};
 ghost use Rattle.ls_faults.specs.Given.{GivesText};
 ghost use Rattle.ls_explore_commands.specs.Verdicts.{Decided, IsExtent, VerdictsTo};
 ghost use Rattle.ls_fewest_switches.specs.Switches.{HasFewest, HasFewestStuck};
@@ -11,18 +11,18 @@ ghost use Rattle.ls_serial_search.specs.Told.{IsDoubt, usual};
 ghost use Rattle.ls_source_judge.specs.Judged.{AllLinearizable, IsNotLinearizable, IsSimplestBad};
 ghost use Rattle.ls_spinning.specs.Told.{IsTurning};
 ghost use Rattle.ls_spinning.specs.Turning.{NeverTurns, TurnsForEver};
-ghost use Rattle.ls_state_space.specs.Verdicts.{LeavesStuck, NeverStuck};
+ghost use Rattle.ls_search.specs.Verdicts.{LeavesStuck, NeverStuck};
 ghost use Rattle.ls_translation.specs.Texts.{file_of, program_of};
 ghost use Rattle.ls_translation.specs.declared.fault.TranslationFault.TheVariants.{Memory, ResultTooLong};
 
-use crate::command::names_in;
 use crate::reporting::{
     Extent, print_bad, print_doubtful, print_free, print_stuck, print_stuck_and_doubtful,
     print_turning, print_unsure,
 };
-use ls_compiler::compile::compile;
+use ls_compiler::compile;
 use ls_events::schedule::{MOST_STEPS, Schedule};
-use ls_explore_images::{ExploreFault, MOST_STATES};
+use ls_explore::{ExploreFault, MOST_STATES};
+use ls_explore_reports::names_in;
 use ls_faults::fault::ToolFault;
 use ls_fewest_switches::{SimpleRun, Target, simplest, simplest_stuck};
 use ls_image::image::Image;

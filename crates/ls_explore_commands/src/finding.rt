@@ -4,8 +4,7 @@ ghost use Rattle.std.specs.Prelude.{IfErr, IfOk};
 ghost use Rattle.ls_explore.specs.Watching.{GoesOn};
 ghost use Rattle.ls_explore_commands.specs.Finding.{IsFound, IsRefused};
 
-use ls_explore::Watch;
-use ls_explore_images::{ExploreFault, ImageExploration, explore_image, explore_source};
+use ls_explore::{ExploreFault, ImageExploration, Watch, explore_image, explore_source};
 use ls_explore_reports::Exploring;
 use ls_image::image::Image;
 use std::alloc::Global;

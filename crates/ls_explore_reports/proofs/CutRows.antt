@@ -8,15 +8,15 @@ use Rattle.ls_events.specs.declared.event.Event.{Event as RunEvent}
 use Rattle.ls_checked.specs.CheckedTree.{File}
 use Rattle.ls_checked.specs.CheckedProgram.{Program}
 use Rattle.ls_meaning.specs.Runs.{source_history}
-use Rattle.ls_cuts.specs.Cuts.{IsCut, IsLeast, IsLeastOf}
-use Rattle.ls_cuts.specs.declared.least.Cut.{Cut}
+use Rattle.ls_verdicts.specs.Cuts.{IsCut, IsLeast, IsLeastOf}
+use Rattle.ls_verdicts.specs.declared.least.Cut.{Cut}
 use Rattle.ls_verdicts.specs.Hopeless.{IsIllegal}
 use Rattle.ls_verdicts.specs.Verdicts.{IsVerdict}
 use Rattle.ls_verdicts.specs.declared.verdicts.Verdict.{Verdict}
 use Rattle.ls_verdicts.specs.declared.verdicts.Verdict.TheVariants as verdicts
 use Rattle.ls_verdicts.proofs.Illegal.{only_verdict}
 use Rattle.ls_events.specs.Limits.{most_steps}
-use Rattle.ls_explore_images.specs.Tellings.{schedule_of}
+use Rattle.ls_explore.specs.Tellings.{schedule_of}
 use Rattle.ls_explore_reports.specs.Cuts.{IsLeastCut, IsSo, schedules_of}
 use Rattle.ls_explore_reports.specs.Shortest.{IsCutOf}
 use Rattle.ls_explore_reports.specs.Judged.{Judged, count_illegal, is_illegal, rows_of}

@@ -3,11 +3,11 @@ use Rattle.std.proofs.Common.{◌≡◌, ◌∙◌, inl, inr, ◌<◌, ◌≤◌
 use Rattle.std.proofs.Common.{sym, ap, subst, arith, take_all}
 use Rattle.std.proofs.lemmas.List.{length-take-le}
 use Rattle.std.specs.Prelude.{codes}
-use Rattle.ls_cuts.specs.Cuts.{IsCut}
-use Rattle.ls_cuts.proofs.Acting.{goes_on}
+use Rattle.ls_verdicts.specs.Cuts.{IsCut}
+use Rattle.ls_verdicts.proofs.Acting.{goes_on}
 use Rattle.ls_meaning.specs.Runs.{source_history}
 use Rattle.ls_explore.specs.Rows.{ActAll}
-use Rattle.ls_explore_images.specs.Tellings.{schedule_of}
+use Rattle.ls_explore.specs.Tellings.{schedule_of}
 use Rattle.ls_labels.specs.Names.{Names}
 use Rattle.ls_report.specs.Events.{Text}
 use Rattle.ls_report.specs.Printing.{run_text}
@@ -43,7 +43,7 @@ module _ (names : Names) (threads : List Text) (k : ℕ) (e : Exploring) (row : 
       HasNames names.program (source_history names.file names.program s)
   cut_named s (inl same) = subst (λ (ts : List ℕ). HasNames names.program (source_history names.file names.program ts))
       (sym same) (cut.illegal.0, cut.illegal.1)
-  cut_named s (inr fewer) = let i = fewer.1.illegal in (i.0, i.1)
+  cut_named s (inr fewer) = let i = fewer.1.illegal.illegal in (i.0, i.1)
 
   -- the text of a beginning, or of a shorter schedule
   pub begun_text : (s : List ℕ) (text : Text) → IsCutOrShorter names e first s → IsKnown known names e s →

@@ -12,8 +12,8 @@ use Rattle.ls_meaning.specs.declared.step.Did.TheVariants as did
 use Rattle.ls_meaning.specs.Runs.{event_of, source_history, source_run, step}
 use Rattle.ls_search_laws.specs.Stepping.{events_in, events_of}
 use Rattle.ls_search_laws.proofs.Stepping.{one_more}
-use Rattle.ls_cuts.specs.Cuts.{history_to}
-use Rattle.ls_cuts.proofs.Begins.{begins_whole}
+use Rattle.ls_verdicts.specs.Cuts.{history_to}
+use Rattle.ls_verdicts.proofs.Begins.{begins_whole}
 
 -- ---- a step adds one event at the most
 

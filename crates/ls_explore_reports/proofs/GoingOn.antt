@@ -9,7 +9,7 @@ use Rattle.ls_checked.specs.CheckedProgram.{Program}
 use Rattle.ls_labels.specs.Names.{Names}
 use Rattle.ls_meaning.specs.declared.step.Did.{Did}
 use Rattle.ls_meaning.specs.Still.{IsActing}
-use Rattle.ls_run_search.specs.Runs.{progress_at}
+use Rattle.ls_search.specs.Runs.{progress_at}
 use Rattle.ls_source.specs.Progress.{Progress}
 use Rattle.ls_source_rows.proofs.Reached.{acts_more}
 use Rattle.ls_fewest_switches.proofs.Ending.{did_at}

@@ -21,13 +21,13 @@ use Rattle.ls_verdicts.specs.Verdicts.{IsVerdictOn}
 use Rattle.ls_verdicts.specs.declared.verdicts.Verdict.{Verdict}
 use Rattle.ls_verdicts.specs.declared.verdicts.Verdict.TheVariants as verdicts
 use Rattle.ls_verdicts.proofs.Named.{all_there}
-use Rattle.ls_cuts.specs.Cuts.{IsCut, IsIllegalRun, IsLegalRun, history_to}
-use Rattle.ls_cuts.proofs.Begins.{begins_whole}
+use Rattle.ls_verdicts.specs.Cuts.{IsCut, IsIllegalRun, IsLegalRun, history_to}
+use Rattle.ls_verdicts.proofs.Begins.{begins_whole}
 use Rattle.ls_fewest_switches.specs.Shortest.{IsShortestOf}
 use Rattle.ls_explore.specs.Rows.{IsToldBy, Told}
-use Rattle.ls_explore_images.specs.Tellings.{TellWhole}
+use Rattle.ls_explore.specs.Tellings.{TellWhole}
 use Rattle.ls_explore_reports.specs.Judged.{IsJudged, Judged, are_decided, is_decided, rows_of}
-use Rattle.ls_explore_reports.specs.Shortest.{AreBeginnings, HasBeginning, IsCutOf, IsShortestIllegal}
+use Rattle.ls_explore_reports.specs.Shortest.{AreBeginnings, HasBeginning, IsCutOf, IsJustIllegal, IsShortestIllegal}
 use Rattle.ls_explore_reports.proofs.FirstSteps.{begun_by, is_begun, none_yet, one_step}
 
 -- ---- beginnings of a history that becomes hopeless
@@ -89,9 +89,9 @@ module _ (program : Program) where
   -- ---- rows
 
   module _ (judged : List Judged) (beginnings : List (List RunEvent)) (are : AreBeginnings program judged beginnings) where
-    -- what is one of the beginnings has no legal order
-    pub one_is_illegal : (h : List RunEvent) → Contains beginnings h → IsIllegalRun program h
-    one_is_illegal h there = All-contains (IsIllegalRun program) beginnings h are.only there
+    -- what is one of the beginnings has no legal order, and its beginnings have one
+    pub one_is_illegal : (h : List RunEvent) → Contains beginnings h → IsJustIllegal program h
+    one_is_illegal h there = All-contains (IsJustIllegal program) beginnings h are.only there
 
     module _ (file : File) where
       cut_there : (whole : List ℕ) (n at : ℕ) → IsCut file program whole n →

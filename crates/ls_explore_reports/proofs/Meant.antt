@@ -4,7 +4,7 @@ use Rattle.ls_events.specs.declared.event.Event.{Event}
 use Rattle.ls_checked.specs.CheckedTree.{File}
 use Rattle.ls_checked.specs.CheckedProgram.{Program}
 use Rattle.ls_explore.specs.Rows.{Told}
-use Rattle.ls_explore_images.specs.Tellings.{TellTruth, TellWhole}
+use Rattle.ls_explore.specs.Tellings.{TellTruth, TellWhole}
 use Rattle.ls_explore_reports.specs.Linearizable.{ExplainedIsLinearizable, LinearizableIsExplained}
 use Rattle.ls_serial_search.specs.declared.judging.Linearity.{Linearity}
 use Rattle.ls_serial_search.specs.declared.judging.Linearity.TheVariants as linearities

@@ -6,7 +6,7 @@ use Rattle.ls_checked.specs.CheckedProgram.{Program}
 use Rattle.ls_serial.specs.Serial.{HaveBeginning}
 use Rattle.ls_linearizable.specs.Linearizable.{AreTrue, IsLinearizable}
 use Rattle.ls_explore.specs.Rows.{IsToldBy, Told}
-use Rattle.ls_explore_images.specs.Tellings.{TellTruth, schedule_of}
+use Rattle.ls_explore.specs.Tellings.{TellTruth, schedule_of}
 use Rattle.ls_explore_reports.specs.Rows.{histories}
 use Rattle.ls_explore_reports.proofs.Collecting.{history_there, row_of_history}
 

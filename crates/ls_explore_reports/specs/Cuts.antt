@@ -8,10 +8,10 @@ use Rattle.ls_report.specs.Events.{Text}
 use Rattle.ls_report.specs.Printing.{run_text}
 use Rattle.ls_labels.specs.Names.{Names}
 use Rattle.ls_schedule.specs.Printing.{schedule_text}
-use Rattle.ls_cuts.specs.Cuts.{IsCut, IsLegalRun, history_to}
+use Rattle.ls_verdicts.specs.Cuts.{IsCut, IsLegalRun, history_to}
 use Rattle.ls_verdicts.specs.declared.verdicts.Verdict.TheVariants as verdicts
 use Rattle.ls_explore.specs.Rows.{ActAll}
-use Rattle.ls_explore_images.specs.Tellings.{schedule_of}
+use Rattle.ls_explore.specs.Tellings.{schedule_of}
 use Rattle.ls_explore_reports.specs.Below.{IsBelow}
 use Rattle.ls_explore_reports.specs.Judged.{IsJudged, Judged, count_illegal}
 use Rattle.ls_explore_reports.specs.Printing.{last_text, row_text, rows_text, shown}
@@ -61,7 +61,8 @@ abbrev pub with_known : Bool → Judged → Judged
 with_known known row = record row { below = row.below ++ known_text known }
 
 -- So many steps of a row's schedule, after which a thread acts; or the row, if these are all. Or a schedule of fewer
--- steps, if no cells are asked for, whose history has no legal order and after which a thread acts. With orders, what
+-- steps, if no cells are asked for, with whose last event the history ceases to have a legal order, and after which a
+-- thread acts. With orders, what
 -- the command `order` tells of the history of these steps stands below it. Where it is said that no shorter schedule is
 -- illegal, none is.
 pub data IsCutText (names : Names) (threads : List Text) (k : ℕ) (e : Exploring) (row : Judged) (steps : ℕ)

@@ -8,7 +8,7 @@ use Rattle.ls_meaning.specs.Runs.{State, asked, source_history}
 use Rattle.ls_meaning.specs.declared.step.Asked.TheVariants.{Asks}
 use Rattle.ls_meaning.specs.Still.{IsOver}
 use Rattle.ls_preservation.specs.Same.{Fits}
-use Rattle.ls_explore_images.specs.Tellings.{TellAll, TellTruth, TellWhole}
+use Rattle.ls_explore.specs.Tellings.{TellAll, TellTruth, TellWhole}
 use Rattle.ls_explore_reports.specs.Verdicts.{HasLegalOrder}
 use Rattle.ls_explore_reports.specs.Waiting.{WaitsFor}
 use Rattle.ls_linearizable.specs.Linearizable.{IsLinearizable}

@@ -8,7 +8,7 @@ use Rattle.ls_preservation.specs.Same.{Fits}
 use Rattle.ls_serial.specs.Serial.{Explains, IsSerial}
 use Rattle.ls_linearizable.specs.Linearizable.{IsLinearizable}
 use Rattle.ls_explore.specs.Rows.{Told}
-use Rattle.ls_explore_images.specs.Tellings.{TellAll, TellTruth, TellWhole}
+use Rattle.ls_explore.specs.Tellings.{TellAll, TellTruth, TellWhole}
 use Rattle.ls_explore_reports.specs.Rows.{RowsExplain, TellExplained}
 
 -- ---- one history

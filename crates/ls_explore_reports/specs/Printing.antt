@@ -17,7 +17,7 @@ use Rattle.ls_serial_search.specs.declared.judging.Linearity.TheVariants as line
 use Rattle.ls_explore_reports.specs.Judged.{Judged, are_decided, are_known, count_illegal, count_not_linearizable}
 use Rattle.ls_explore_reports.specs.Judged.{is_not_linearizable}
 use Rattle.ls_explore_reports.specs.Waiting.{waiting}
-use Rattle.ls_explore_images.specs.Tellings.{schedule_of}
+use Rattle.ls_explore.specs.Tellings.{schedule_of}
 
 -- that all threads have ended or are trapped, or what those wait for that haven't
 abbrev pub over_text : Text → Text

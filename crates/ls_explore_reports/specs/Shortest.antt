@@ -7,7 +7,7 @@ use Rattle.ls_meaning.specs.Runs.{source_history, step}
 use Rattle.ls_meaning.specs.Still.{IsActing}
 use Rattle.ls_source.specs.Progress.{Progress}
 use Rattle.ls_labels.specs.Names.{Names}
-use Rattle.ls_cuts.specs.Cuts.{IsCut, IsIllegalRun}
+use Rattle.ls_verdicts.specs.Cuts.{IsCut, IsIllegalRun, IsLegalRun}
 use Rattle.ls_fewest_switches.specs.Shortest.{IsShortestOf}
 use Rattle.ls_verdicts.specs.Hopeless.{IsHopelessRun}
 use Rattle.ls_verdicts.specs.declared.verdicts.Verdict.TheVariants as verdicts
@@ -24,10 +24,16 @@ abbrev pub IsKnown : Bool → Names → Exploring → List ℕ → Type 0
 IsKnown false names e schedule = Unit {0}
 IsKnown true names e schedule = (e.cells ≡ None) × IsShortestIllegal names.file names.program schedule
 
--- A schedule with fewer than so many steps whose history has no legal order. After it a thread acts.
+-- The history has no legal order. Each shorter beginning of it has one.
+pub record IsJustIllegal (program : Program) (history : List Event) : Type 0 where
+  pub illegal : IsIllegalRun program history
+  pub legal : (m : ℕ) → m < length history → IsLegalRun program (take m history)
+
+-- A schedule with fewer than so many steps, with whose last event the history ceases to have a legal order. After it a
+-- thread acts.
 pub record IsShorter (names : Names) (steps : ℕ) (schedule : List ℕ) : Type 0 where
   pub fewer : length schedule < steps
-  pub illegal : IsIllegalRun names.program (source_history names.file names.program schedule)
+  pub illegal : IsJustIllegal names.program (source_history names.file names.program schedule)
   pub goes : (t : ℕ) × ActAll names.file names.program (schedule ++ t ∷ [])
 
 -- the schedule itself, or one of fewer steps, if no cells are asked for
@@ -47,10 +53,10 @@ HasBeginning program beginnings j =
     j.verdict ≡ verdicts.Illegal →
     (at : ℕ) × IsHopelessRun program j.row.history at × Contains beginnings (take (at + 1) j.row.history)
 
--- each illegal row has its beginning among these, none of which has a legal order
+-- each illegal row has its beginning among these, each of which is such a beginning
 pub record AreBeginnings (program : Program) (judged : List Judged) (beginnings : List (List Event)) : Type 0 where
   pub each : All (HasBeginning program beginnings) judged
-  pub only : All (IsIllegalRun program) beginnings
+  pub only : All (IsJustIllegal program) beginnings
 
 -- the first steps of the schedule of an illegal row, with the last of which its history ceases to have a legal order
 pub record IsCutOf (file : File) (program : Program) (judged : List Judged) (schedule : List ℕ) : Type 0 where

@@ -9,7 +9,7 @@ use Rattle.ls_report.specs.Events.{Event}
 use Rattle.ls_report.specs.Printing.{named}
 use Rattle.ls_order_search.specs.Answers.{HasOrder}
 use Rattle.ls_explore.specs.Rows.{Told}
-use Rattle.ls_explore_images.specs.Tellings.{TellAll, TellWhole}
+use Rattle.ls_explore.specs.Tellings.{TellAll, TellWhole}
 
 -- each event has its call's names, and the events so named have a legal order
 abbrev pub HasLegalOrder : Program → List RunEvent → Type 0

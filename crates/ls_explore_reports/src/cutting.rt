@@ -5,11 +5,11 @@ ghost use Rattle.std.specs.Prelude.{◌≡◌, ◌≤◌, ◌<◌, ◌⊎◌, �
 ghost use Rattle.std.specs.Prelude.{false, length, string_bytes, take, true};
 ghost use Rattle.ls_checked.specs.Plain.{plain_file};
 ghost use Rattle.ls_checked.specs.PlainProgram.{plain_program};
-ghost use Rattle.ls_cuts.specs.Cuts.{IsLeastOf};
+ghost use Rattle.ls_verdicts.specs.Cuts.{IsLeastOf};
 ghost use Rattle.ls_labels.specs.Names.{names_of};
 ghost use Rattle.ls_meaning.specs.Runs.{source_history};
 ghost use Rattle.ls_schedule.specs.Reading.{thread_names};
-ghost use Rattle.ls_explore_images.specs.Tellings.{schedule_of};
+ghost use Rattle.ls_explore.specs.Tellings.{schedule_of};
 ghost use Rattle.ls_explore_reports.specs.Below.{HasNames, IsBelow};
 ghost use Rattle.ls_explore_reports.specs.Cuts.{IsSo, beginning_text, known_text, parts_text, schedules_of};
 ghost use Rattle.ls_explore_reports.specs.Cuts.{with_known};
@@ -21,13 +21,13 @@ ghost use Rattle.ls_translation.specs.declared.fault.TranslationFault.TheVariant
 use crate::below::{below, known_if};
 use crate::judging::{JudgedRow, is_illegal};
 use crate::printing::{push_row_with, schedule_of};
-use ls_cuts::{Cut, least_with};
 use ls_events::schedule::Schedule;
 use ls_labels::names::Names;
 use ls_report::print_history;
 use ls_schedule::print_schedule;
 use ls_source::run::play;
 use ls_translation::fault::TranslationFault;
+use ls_verdicts::{Cut, least_with};
 use std::alloc::{AllocError, Global};
 
 /// The cut with the fewest steps, of those of some rows and of one more, whose place is their number.

@@ -12,7 +12,7 @@ ghost use Rattle.ls_explore_reports.specs.Printing.{is_shown, is_wrong, last_tex
 ghost use Rattle.ls_explore_reports.specs.Printing.{beside_part, linearity_part, over_text, row_text, rows_text, set_part};
 ghost use Rattle.ls_explore_reports.specs.Printing.{shown, verdict_part};
 ghost use Rattle.ls_explore_reports.specs.Waiting.{asked_text, listed, waiting, waits_text};
-ghost use Rattle.ls_explore_images.specs.Tellings.{schedule_of};
+ghost use Rattle.ls_explore.specs.Tellings.{schedule_of};
 ghost use Rattle.ls_explore_reports.specs.Judged.{rows_of};
 ghost use Rattle.ls_explore_reports.specs.Long.{HasLong};
 ghost use Rattle.ls_translation.specs.declared.fault.TranslationFault.TheVariants.{Memory, ResultTooLong};

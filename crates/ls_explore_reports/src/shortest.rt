@@ -4,11 +4,10 @@ ghost use Rattle.std.specs.Prelude.{◌≡◌, ◌&&◌, ◌++◌, ◌∷◌, �
 ghost use Rattle.ls_checked.specs.Plain.{plain_file};
 ghost use Rattle.ls_checked.specs.PlainProgram.{plain_program};
 ghost use Rattle.ls_labels.specs.Names.{names_of};
-ghost use Rattle.ls_meaning.specs.Still.{IsActing, IsStill};
-ghost use Rattle.ls_run_search.specs.Runs.{progress_at};
+ghost use Rattle.ls_search.specs.Runs.{progress_at};
 ghost use Rattle.ls_source.specs.Shown.{progress_of};
 ghost use Rattle.ls_explore.specs.Rows.{ActAll};
-ghost use Rattle.ls_explore_images.specs.Tellings.{TellWhole};
+ghost use Rattle.ls_explore.specs.Tellings.{TellWhole};
 ghost use Rattle.ls_explore_reports.specs.Judged.{IsJudged, are_decided, rows_of};
 ghost use Rattle.ls_explore_reports.specs.Shortest.{ActsNext, IsCutOf, IsCutOrShorter, IsKnown};
 
@@ -20,20 +19,9 @@ use ls_checked::tree::File;
 use ls_events::schedule::Schedule;
 use ls_fewest_switches::{ShortRun, shortest_among};
 use ls_labels::names::Names;
-use ls_meaning::step::Did;
+use ls_meaning::step::has_acted;
 use ls_source::run::SourceRun;
 use std::alloc::{AllocError, Global};
-
-/// Whether a step acted.
-fn acted(did: Did) -> bool
-    ensures acts { result ≡ true → IsActing did }
-    ensures still { result ≡ false → IsStill did }
-{
-    match did {
-        Did::Acted(_, _) => true,
-        Did::Waits | Did::Idle => false,
-    }
-}
 
 /// The run after some steps, if each of them acts.
 fn run_along<'a>(
@@ -50,7 +38,7 @@ fn run_along<'a>(
     let mut run = SourceRun::new(alloc, file, program)?;
     for thread in steps {
         let did = run.step(alloc, *thread as usize)?;
-        if !acted(did) {
+        if !has_acted(did) {
             return Ok(None);
         }
     }
@@ -63,7 +51,7 @@ fn some_acts(alloc: Global, run: &mut SourceRun<'_>, threads: usize) -> Result<b
 {
     for thread in 0..threads {
         let did = run.step(alloc, thread)?;
-        if acted(did) {
+        if has_acted(did) {
             return Ok(true);
         }
     }

@@ -5,8 +5,8 @@ ghost use Rattle.ls_checked.specs.Plain.{plain_file};
 ghost use Rattle.ls_checked.specs.PlainProgram.{plain_program};
 ghost use Rattle.ls_labels.specs.Names.{names_of};
 ghost use Rattle.ls_schedule.specs.Reading.{thread_names};
-ghost use Rattle.ls_cuts.specs.Cuts.{IsLeast};
-ghost use Rattle.ls_explore_images.specs.Tellings.{TellWhole};
+ghost use Rattle.ls_verdicts.specs.Cuts.{IsLeast};
+ghost use Rattle.ls_explore.specs.Tellings.{TellWhole};
 ghost use Rattle.ls_explore_reports.specs.Cuts.{IsExploredText, IsOfLeast, IsPrinted, IsSo, schedules_of};
 ghost use Rattle.ls_explore_reports.specs.Judged.{rows_of};
 ghost use Rattle.ls_explore_reports.specs.Long.{HasLong};
@@ -17,10 +17,10 @@ use crate::cutting::{beginning, first_steps, least_if, whole_row};
 use crate::judging::JudgedRow;
 use crate::printing::{Exploring, push_last, push_rows, schedule_of};
 use crate::shortest::shortest_illegal;
-use ls_cuts::Cut;
-use ls_explore_images::ImageExploration;
+use ls_explore::ImageExploration;
 use ls_labels::names::Names;
 use ls_translation::fault::TranslationFault;
+use ls_verdicts::Cut;
 use std::alloc::Global;
 
 /// Whether the row is printed that is cut first.

@@ -5,7 +5,7 @@ ghost use Rattle.std.specs.Prelude.{slice_get};
 ghost use Rattle.ls_families.specs.Families.{count_of, family_of, plan_of, plans};
 ghost use Rattle.ls_families.specs.Shapes.{AreBad};
 
-use crate::choices::choices;
+use crate::choosing::choices;
 use crate::fault::FamilyFault;
 use crate::shapes::{Bounds, Shape, are_bad, shapes};
 use std::alloc::{AllocError, Global};

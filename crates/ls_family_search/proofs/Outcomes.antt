@@ -9,8 +9,8 @@ use Rattle.ls_family_search.specs.Judged.{IsPassed, Programs, Text}
 use Rattle.ls_family_search.specs.Searched.{HaltsAt, PassesAt}
 use Rattle.ls_family_search.specs.Windows.{IsOutcomeAt, all_pass}
 use Rattle.ls_family_search.specs.declared.judging.Halted.{Halted}
-use Rattle.ls_family_search.specs.declared.judging.Outcome.{Outcome}
-use Rattle.ls_family_search.specs.declared.judging.Outcome.TheVariants.{Ends}
+use Rattle.ls_family_search.specs.declared.judging.ProgramOutcome.{ProgramOutcome}
+use Rattle.ls_family_search.specs.declared.judging.ProgramOutcome.TheVariants.{Ends}
 use Rattle.ls_family_search.specs.declared.judging.Passed.{Passed}
 
 some_is : {X : Type 0} {x y : X} → Some x ≡ Some y → x ≡ y
@@ -37,13 +37,13 @@ each_of_both Q (x ∷ xs) ys all more (suc k) y is =
     k y is
 
 module _ {H : Type 0} (p : Programs) (IsGood IsCut : Text → Type 0) (Halts : Text → H → Type 0) where
-  abbrev pub AreOutcomes : ℕ → ℕ → List (Result (Outcome H) AllocError) → Type 0
+  abbrev pub AreOutcomes : ℕ → ℕ → List (Result (ProgramOutcome H) AllocError) → Type 0
   AreOutcomes n count outcomes =
-      AllZip (λ m (o : Result (Outcome H) AllocError). IfOk o (IsOutcomeAt p IsGood IsCut Halts m)) (range_with_len n count)
+      AllZip (λ m (o : Result (ProgramOutcome H) AllocError). IfOk o (IsOutcomeAt p IsGood IsCut Halts m)) (range_with_len n count)
       outcomes
 
   -- those that pass
-  pub passed_in : (n count : ℕ) (ps : List Passed) (rest : List (Result (Outcome H) AllocError)) →
+  pub passed_in : (n count : ℕ) (ps : List Passed) (rest : List (Result (ProgramOutcome H) AllocError)) →
       AreOutcomes n count (all_pass ps ++ rest) → n + count ≤ length (plans p.family) → (k : ℕ) (said : Passed) →
       slice_get ps k ≡ Some said → PassesAt p IsGood IsCut (n + k) said
   passed_in n count [] rest zip there k said is = absurd (none_is is)
@@ -59,7 +59,7 @@ module _ {H : Type 0} (p : Programs) (IsGood IsCut : Text → Type 0) (Halts : T
       (passed_in (n + 1) count ps rest zip.1 (omega (arith, there)) k said is)
 
   -- the one with which the search ends
-  pub halts_in : (n count : ℕ) (ps : List Passed) (h : Halted H) (rest : List (Result (Outcome H) AllocError)) →
+  pub halts_in : (n count : ℕ) (ps : List Passed) (h : Halted H) (rest : List (Result (ProgramOutcome H) AllocError)) →
       AreOutcomes n count (all_pass ps ++ Ok (Ends h) ∷ rest) → n + count ≤ length (plans p.family) →
       HaltsAt p Halts (n + length ps) h
   halts_in n zero [] h rest zip there = absurd zip

@@ -6,8 +6,8 @@ use Rattle.ls_families.specs.Texts.{plan_text}
 use Rattle.ls_family_search.specs.declared.judging.Halted.{Halted}
 use Rattle.ls_family_search.specs.declared.judging.Judgement.{Judgement}
 use Rattle.ls_family_search.specs.declared.judging.Judgement.TheVariants as judgements
-use Rattle.ls_family_search.specs.declared.judging.Outcome.{Outcome}
-use Rattle.ls_family_search.specs.declared.judging.Outcome.TheVariants as outcomes
+use Rattle.ls_family_search.specs.declared.judging.ProgramOutcome.{ProgramOutcome}
+use Rattle.ls_family_search.specs.declared.judging.ProgramOutcome.TheVariants as outcomes
 use Rattle.ls_family_search.specs.declared.judging.Passed.{Passed}
 use Rattle.ls_family_search.specs.declared.judging.Passed.TheVariants as passed
 
@@ -46,6 +46,6 @@ pub record IsHalted {H : Type 0} (p : Programs) (Halts : Text → H → Type 0) 
   pub halts : Halts (text_of p plan) h.halt
 
 abbrev pub IsOutcome : {H : Type 0} → Programs → (Text → Type 0) → (Text → Type 0) → (Text → H → Type 0) → Plan →
-    Outcome H → Type 0
+    ProgramOutcome H → Type 0
 IsOutcome p IsGood IsCut Halts plan (outcomes.Passes said) = IsPassed p IsGood IsCut plan said
 IsOutcome p IsGood IsCut Halts plan (outcomes.Ends h) = IsHalted p Halts plan h

@@ -62,7 +62,7 @@ pub struct Halted<H> {
 
 /// Whether the search goes on after a program.
 #[derive(Drop)]
-pub(crate) enum Outcome<H> {
+pub(crate) enum ProgramOutcome<H> {
     Passes(Passed),
     Ends(Halted<H>),
 }

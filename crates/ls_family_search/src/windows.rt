@@ -5,7 +5,7 @@ ghost use Rattle.std.specs.List.{AllZip, range_with_len};
 ghost use Rattle.ls_family_search.specs.Judged.{Follows, IsOutcome, text_of};
 ghost use Rattle.ls_family_search.specs.Windows.{IsJoined, IsOutcomeAt};
 
-use crate::judging::{Halted, Judge, Judgement, Outcome, Passed};
+use crate::judging::{Halted, Judge, Judgement, Passed, ProgramOutcome};
 use crate::programs::Programs;
 use ls_families::{Plan, is_double, other_of, print_plan};
 use rayon::prelude::*;
@@ -38,18 +38,18 @@ fn outcome_of<J: Judge>(
     alloc: Global,
     programs: &Programs<'_>,
     plan: &Plan<'_>,
-) -> Result<Outcome<J::Why>, AllocError>
+) -> Result<ProgramOutcome<J::Why>, AllocError>
     ensures { IfOk result (IsOutcome programs.now (J.IsGood judge.now) (J.IsCut judge.now) (J.Halts judge.now)
         plan.now) }
 {
     let program = print_plan(alloc, programs.making(), programs.calls(), plan)?;
     if follows(judge, alloc, programs, plan, program.as_str())? {
-        return Ok(Outcome::Passes(Passed::Double));
+        return Ok(ProgramOutcome::Passes(Passed::Double));
     }
     match judge.judge(alloc, program.as_str())? {
-        Judgement::Good => Ok(Outcome::Passes(Passed::Good)),
-        Judgement::Cut => Ok(Outcome::Passes(Passed::Cut)),
-        Judgement::Halt(halt) => Ok(Outcome::Ends(Halted { program, halt })),
+        Judgement::Good => Ok(ProgramOutcome::Passes(Passed::Good)),
+        Judgement::Cut => Ok(ProgramOutcome::Passes(Passed::Cut)),
+        Judgement::Halt(halt) => Ok(ProgramOutcome::Ends(Halted { program, halt })),
     }
 }
 
@@ -59,13 +59,13 @@ fn outcome_at<J: Judge>(
     alloc: Global,
     programs: &Programs<'_>,
     number: u64,
-) -> Result<Outcome<J::Why>, AllocError>
+) -> Result<ProgramOutcome<J::Why>, AllocError>
     ensures { IfOk result (IsOutcomeAt programs.now (J.IsGood judge.now) (J.IsCut judge.now) (J.Halts judge.now)
         number) }
 {
     match programs.family().plan(alloc, number)? {
         Some(plan) => outcome_of(judge, alloc, programs, &plan),
-        None => Ok(Outcome::Passes(Passed::Double)),
+        None => Ok(ProgramOutcome::Passes(Passed::Double)),
     }
 }
 
@@ -78,7 +78,7 @@ pub(crate) fn outcomes_of<J: Judge + Sync>(
     programs: &Programs<'_>,
     from: u64,
     to: u64,
-) -> Result<Vec<Result<Outcome<J::Why>, AllocError>>, AllocError>
+) -> Result<Vec<Result<ProgramOutcome<J::Why>, AllocError>>, AllocError>
     requires { from ≤ to }
     ensures { IfOk result (λ outcomes. AllZip
         (λ n o. IfOk o (IsOutcomeAt programs.now (J.IsGood judge.now) (J.IsCut judge.now) (J.Halts judge.now) n))
@@ -88,7 +88,7 @@ pub(crate) fn outcomes_of<J: Judge + Sync>(
         .into_par_iter()
         .with_min_len(1)
         .map(
-            |number: usize| -> Result<Outcome<J::Why>, AllocError>
+            |number: usize| -> Result<ProgramOutcome<J::Why>, AllocError>
                 ensures { IfOk result (IsOutcomeAt programs.entry.now (J.IsGood judge.entry.now)
                     (J.IsCut judge.entry.now) (J.Halts judge.entry.now) number) }
             { outcome_at(judge, alloc, programs, number as u64) },
@@ -99,14 +99,14 @@ pub(crate) fn outcomes_of<J: Judge + Sync>(
 /// Adds how programs are passed, up to the first with which the search ends. That one is the answer.
 pub(crate) fn join<H: Drop>(
     passed: &mut Vec<Passed>,
-    outcomes: Vec<Result<Outcome<H>, AllocError>>,
+    outcomes: Vec<Result<ProgramOutcome<H>, AllocError>>,
 ) -> Result<Option<Halted<H>>, AllocError>
     ensures { IfOk result (IsJoined outcomes.items passed.old.items passed.new.items) }
 {
     for outcome in outcomes {
         match outcome? {
-            Outcome::Passes(said) => passed.push(said)?,
-            Outcome::Ends(halted) => return Ok(Some(halted)),
+            ProgramOutcome::Passes(said) => passed.push(said)?,
+            ProgramOutcome::Ends(halted) => return Ok(Some(halted)),
         }
     }
     Ok(None)

@@ -5,8 +5,8 @@ use Rattle.ls_report.specs.declared.fault.HistoryFault.{HistoryFault}
 use Rattle.ls_report.specs.declared.fault.HistoryFault.TheVariants as history
 use Rattle.ls_orders.specs.declared.fault.OrderFault.{OrderFault}
 use Rattle.ls_orders.specs.declared.fault.OrderFault.TheVariants as order
-use Rattle.ls_tallies_reading.specs.declared.fault.TallyFault.{TallyFault}
-use Rattle.ls_tallies_reading.specs.declared.fault.TallyFault.TheVariants as tally
+use Rattle.ls_tallies.specs.declared.fault.TallyFault.{TallyFault}
+use Rattle.ls_tallies.specs.declared.fault.TallyFault.TheVariants as tally
 use Rattle.ls_order_search.specs.declared.fault.SearchFault.{SearchFault}
 use Rattle.ls_order_search.specs.declared.fault.SearchFault.TheVariants as search
 use Rattle.ls_lexer.specs.declared.token.Span.{Span}
@@ -16,15 +16,15 @@ use Rattle.ls_types_elaboration.specs.declared.rule.CheckFault.{CheckFault}
 use Rattle.ls_types_elaboration.specs.declared.rule.CheckFault.TheVariants as rule
 use Rattle.ls_types_elaboration.specs.declared.rule.Rule.{Rule}
 use Rattle.ls_types_elaboration.specs.declared.rule.Rule.TheVariants as rules
-use Rattle.ls_types.specs.declared.fault.ProgramFault.{ProgramFault}
-use Rattle.ls_types.specs.declared.fault.ProgramFault.TheVariants as program
+use Rattle.ls_types_checked.specs.declared.fault.ProgramFault.{ProgramFault}
+use Rattle.ls_types_checked.specs.declared.fault.ProgramFault.TheVariants as program
 use Rattle.ls_lowered.specs.declared.fault.LowerFault.TheVariants as lower
 use Rattle.ls_emit.specs.declared.fault.EmitFault.TheVariants as emit
 use Rattle.ls_linker.specs.declared.fault.LinkFault.TheVariants as link
 use Rattle.ls_linker.specs.declared.fault.BuildFault.{BuildFault}
 use Rattle.ls_linker.specs.declared.fault.BuildFault.TheVariants as build
 use Rattle.ls_compiler.specs.declared.fault.CompileFault.{CompileFault}
-use Rattle.ls_compiler.specs.declared.fault.CompileFault.TheVariants as stage
+use Rattle.ls_compiler.specs.declared.fault.CompileFault.TheVariants as stopped
 use Rattle.ls_machine.specs.declared.fault.LoadFault.{LoadFault}
 use Rattle.ls_machine.specs.declared.fault.LoadFault.TheVariants as load
 use Rattle.ls_schedule.specs.declared.fault.ScheduleFault.{ScheduleFault}
@@ -36,17 +36,17 @@ use Rattle.ls_translation.specs.declared.fault.TranslationFault.TheVariants as t
 use Rattle.ls_live.specs.declared.fault.LiveFault.TheVariants as opening
 use Rattle.ls_live.specs.declared.fault.PlayFault.{PlayFault as LiveFault}
 use Rattle.ls_live.specs.declared.fault.PlayFault.TheVariants as live
-use Rattle.ls_entries.specs.declared.fault.EntryFault.{EntryFault}
-use Rattle.ls_entries.specs.declared.fault.EntryFault.TheVariants as entry
-use Rattle.ls_following.specs.declared.fault.FollowFault.TheVariants as follow
-use Rattle.ls_following.specs.declared.fault.TapeFault.{TapeFault as TurnsFault}
-use Rattle.ls_following.specs.declared.fault.TapeFault.TheVariants as turns
+use Rattle.ls_class_programs.specs.declared.entry_fault.EntryFault.{EntryFault}
+use Rattle.ls_class_programs.specs.declared.entry_fault.EntryFault.TheVariants as entry
+use Rattle.ls_live.specs.declared.follow_fault.FollowFault.TheVariants as follow
+use Rattle.ls_live.specs.declared.follow_fault.TapeFault.{TapeFault as TurnsFault}
+use Rattle.ls_live.specs.declared.follow_fault.TapeFault.TheVariants as turns
 use Rattle.ls_class_programs.specs.declared.fault.ClassFault.{ClassFault}
 use Rattle.ls_class_programs.specs.declared.fault.ClassFault.TheVariants as class
 use Rattle.ls_batch.specs.declared.fault.BatchFault.{BatchFault}
 use Rattle.ls_batch.specs.declared.fault.BatchFault.TheVariants as batch
-use Rattle.ls_explore_images.specs.declared.fault.ExploreFault.{ExploreFault}
-use Rattle.ls_explore_images.specs.declared.fault.ExploreFault.TheVariants as explore
+use Rattle.ls_explore.specs.declared.fault.ExploreFault.{ExploreFault}
+use Rattle.ls_explore.specs.declared.fault.ExploreFault.TheVariants as explore
 use Rattle.ls_faults.specs.declared.fault.ToolFault.{ToolFault}
 use Rattle.ls_faults.specs.declared.fault.ToolFault.TheVariants as faults
 
@@ -96,10 +96,10 @@ lifted_build (build.Link link.Memory) = faults.Memory
 lifted_build f = faults.Build f
 
 abbrev pub lifted_compile : CompileFault → ToolFault
-lifted_compile (stage.Text f) = lifted_text f
-lifted_compile (stage.Check f) = lifted_check f
-lifted_compile (stage.Program f) = lifted_program f
-lifted_compile (stage.Build f) = lifted_build f
+lifted_compile (stopped.Text f) = lifted_text f
+lifted_compile (stopped.Check f) = lifted_check f
+lifted_compile (stopped.Program f) = lifted_program f
+lifted_compile (stopped.Build f) = lifted_build f
 
 abbrev pub lifted_cells : LoadFault → ToolFault
 lifted_cells load.Memory = faults.Memory

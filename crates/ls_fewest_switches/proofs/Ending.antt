@@ -13,8 +13,8 @@ use Rattle.ls_events.specs.declared.event.Event.{Event}
 use Rattle.ls_search_laws.specs.Stepping.{events_of}
 use Rattle.ls_search_laws.proofs.Stepping.{acts_within, still_stays, traced_events}
 use Rattle.ls_source.specs.Progress.{Progress, gone_on}
-use Rattle.ls_run_search.specs.Runs.{progress_at}
-use Rattle.ls_state_space.specs.Verdicts.{LeavesStuck}
+use Rattle.ls_search.specs.Runs.{progress_at}
+use Rattle.ls_search.specs.Verdicts.{LeavesStuck}
 use Rattle.ls_fewest_switches.proofs.Paths.{no_events}
 use Rattle.ls_fewest_switches.specs.Levels.{IsWaiting}
 

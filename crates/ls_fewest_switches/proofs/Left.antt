@@ -4,8 +4,8 @@ use Rattle.std.proofs.Common.{refl, sym, ap, ◌∙◌, arith}
 use Rattle.std.specs.List.{fold}
 use Rattle.std.specs.Prelude.{if◌then◌else◌}
 use Rattle.ls_events.specs.declared.event.Event.{Event}
-use Rattle.ls_serial_observer.proofs.Same.{event_test}
-use Rattle.ls_serial_observer.specs.Same.{same_event}
+use Rattle.ls_linearizable.proofs.Same.{event_test}
+use Rattle.ls_linearizable.specs.Same.{same_event}
 use Rattle.ls_fewest_switches.specs.Along.{is_whole, left_after, left_of}
 
 -- nothing is left of a history of which all events have come

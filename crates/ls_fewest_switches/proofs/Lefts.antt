@@ -102,13 +102,6 @@ module _ (histories : List (List Event)) (done : ℕ) where
           ∙ ap (λ o. lefts_after (lefts_at histories done (take i which)) e ++ cons_option o []) left
           ∙ sym after_more
 
--- what is noted of the count doesn't matter where no place is
-pub lefts_counted : (histories : List (List Event)) (which : List ℕ) (done count : ℕ) →
-    (which ≡ []) ⊎ (done ≡ count) → lefts_at histories done which ≡ lefts_at histories count which
-lefts_counted histories which done count (inl none) =
-    ap (lefts_at histories done) none ∙ ap (lefts_at histories count) (sym none)
-lefts_counted histories which done count (inr same) = ap (λ n. lefts_at histories n which) same
-
 -- one of them is over if the one at a place is
 pub one_whole : (histories : List (List Event)) (done : ℕ) (which : List ℕ) (i : ℕ) → i < length which →
     is_whole (Some (drop done (history_at histories (get_or which i 0)))) ≡ true →

@@ -4,8 +4,8 @@ use Rattle.std.proofs.lemmas.Option.{slice_get-get_or}
 use Rattle.ls_checked.specs.CheckedTree.{File}
 use Rattle.ls_checked.specs.CheckedProgram.{Program}
 use Rattle.ls_source.specs.Progress.{Progress, gone_on}
-use Rattle.ls_run_search.specs.Runs.{progress_at}
-use Rattle.ls_run_search.proofs.Progressing.{gone}
+use Rattle.ls_search.specs.Runs.{progress_at}
+use Rattle.ls_search.proofs.Progressing.{gone}
 use Rattle.ls_fewest_switches.proofs.Changes.{one_more, take_next}
 
 -- after one step more

@@ -1,7 +1,7 @@
 -- The observer of one history: what of it is still to come.
 use Rattle.std.specs.Prelude.{ℕ, Bool, true, false, List, [], ◌∷◌, Option, None, Some, drop, if◌then◌else◌}
 use Rattle.ls_events.specs.declared.event.Event.{Event}
-use Rattle.ls_serial_observer.specs.Same.{same_event}
+use Rattle.ls_linearizable.specs.Same.{same_event}
 
 -- what is left of a history after one event more; nothing if the history goes on otherwise
 abbrev pub left_of : List Event → Event → Option (List Event)

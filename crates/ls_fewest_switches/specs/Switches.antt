@@ -5,7 +5,7 @@ use Rattle.ls_events.specs.declared.event.Event.{Event}
 use Rattle.ls_checked.specs.CheckedTree.{File}
 use Rattle.ls_checked.specs.CheckedProgram.{Program}
 use Rattle.ls_meaning.specs.Runs.{source_history}
-use Rattle.ls_state_space.specs.Verdicts.{LeavesStuck}
+use Rattle.ls_search.specs.Verdicts.{LeavesStuck}
 
 -- whether a step is of another thread than the step before
 abbrev pub change : ℕ → ℕ → ℕ

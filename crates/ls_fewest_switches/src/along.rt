@@ -6,9 +6,9 @@ ghost use Rattle.ls_fewest_switches.specs.Along.{is_whole, left_after, left_from
 
 use ls_events::event::Event;
 use ls_events::same::is_event;
+use ls_linearizable::observer_laws::events_are_tested;
 use ls_observers::hashing::hashed;
 use ls_observers::observer::Observer;
-use ls_serial_observer::laws::events_are_tested;
 use std::alloc::{AllocError, Global};
 
 /// An observer of one history, which calls that one bad. It notes how many of its events have come, or nothing where

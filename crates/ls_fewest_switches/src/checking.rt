@@ -6,7 +6,7 @@ ghost use Rattle.ls_checked.specs.PlainProgram.{plain_program};
 ghost use Rattle.ls_meaning.specs.Runs.{source_history};
 ghost use Rattle.ls_meaning.specs.Still.{IsStill};
 ghost use Rattle.ls_meaning.specs.declared.step.Did.TheVariants.{Waits};
-ghost use Rattle.ls_run_search.specs.Runs.{progress_at};
+ghost use Rattle.ls_search.specs.Runs.{progress_at};
 ghost use Rattle.ls_source.specs.Shown.{progress_of};
 ghost use Rattle.ls_fewest_switches.specs.Switches.{EndsSo, IsSought};
 ghost use Rattle.ls_fewest_switches.specs.Levels.{IsWaiting};
@@ -15,7 +15,7 @@ use ls_checked::program::Program;
 use ls_checked::tree::File;
 use ls_meaning::step::Did;
 use ls_observers::observer::Observer;
-use ls_run_search::observing::noted_of;
+use ls_search::observing::noted_of;
 use ls_source::run::SourceRun;
 use std::alloc::{AllocError, Global};
 

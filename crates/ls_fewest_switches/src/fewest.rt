@@ -16,7 +16,7 @@ use ls_checked::program::Program;
 use ls_checked::tree::File;
 use ls_events::schedule::Schedule;
 use ls_observers::observer::Observer;
-use ls_run_search::numbering::number;
+use ls_search::numbering::number;
 use ls_source::playing::Playing;
 use ls_source::run::play;
 use std::alloc::{AllocError, Global};

@@ -22,8 +22,8 @@ use ls_checked::program::Program;
 use ls_checked::tree::File;
 use ls_events::schedule::MOST_STEPS;
 use ls_observers::observer::Observer;
-use ls_run_search::numbering::Numbered;
 use ls_search::noting::{Pool, keep_noted};
+use ls_search::numbering::Numbered;
 use ls_search::places::NumberedState;
 use std::alloc::{AllocError, Global};
 

@@ -3,7 +3,7 @@
 ghost use Rattle.std.specs.Prelude.{◌≡◌, ◌≤◌, IfOk, IsTrue};
 ghost use Rattle.ls_checked.specs.Plain.{plain_file};
 ghost use Rattle.ls_checked.specs.PlainProgram.{plain_program};
-ghost use Rattle.ls_state_space.specs.Verdicts.{LeavesStuck};
+ghost use Rattle.ls_search.specs.Verdicts.{LeavesStuck};
 ghost use Rattle.ls_fewest_switches.specs.Switches.{HasFewestStuck, switches};
 
 use crate::anything::Anything;

@@ -1,7 +1,7 @@
 -- Where a byte of an input stands in the files that the input holds.
 use Rattle.std.specs.Prelude.{◌+◌, ◌==◌, ◌||◌, ℕ, zero, suc, Bool, List, [], ◌∷◌, length, map, take, if◌then◌else◌}
 use Rattle.std.specs.Str.{bytes_eq}
-use Rattle.ls_parts.specs.Parts.{is_mark, lines_of, part_of}
+use Rattle.ls_items.specs.Parts.{is_mark, lines_of, part_of}
 use Rattle.ls_files.specs.declared.lines.FileLine.{FileLine}
 
 abbrev pub Bytes : Type 0

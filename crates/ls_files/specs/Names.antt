@@ -21,6 +21,6 @@ abbrev pub asking : List Word → List Word
 asking words = before_first begins_names words
 
 -- the names of the files that an input holds: the words after it, if it is there
-abbrev pub names_in : List Word → Option (List Word)
-names_in [] = None
-names_in (word ∷ words) = if begins_names word then Some words else names_in words
+abbrev pub file_names_in : List Word → Option (List Word)
+file_names_in [] = None
+file_names_in (word ∷ words) = if begins_names word then Some words else file_names_in words

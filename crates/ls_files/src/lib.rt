@@ -7,4 +7,4 @@ mod names;
 
 pub use lines::{FileLine, file_line, part_start};
 pub use marks::unmarked;
-pub use names::{asking, names_in};
+pub use names::{asking, file_names_in};

@@ -2,7 +2,7 @@
 
 ghost use Rattle.std.specs.Prelude.{◌≡◌, ◌+◌, ◌-◌, ◌^◌, ◌<◌, ◌≤◌, ◌∷◌, [], IfNone, IfSome, length};
 ghost use Rattle.std.specs.List.{position_or_len};
-ghost use Rattle.ls_parts.specs.Parts.{lines_of};
+ghost use Rattle.ls_items.specs.Parts.{lines_of};
 ghost use Rattle.ls_files.specs.Files.{ends_file, ends_part, file_line, is_feed, next_line, part_start};
 
 use std::alloc::AllocError;

@@ -2,7 +2,7 @@
 
 ghost use Rattle.std.specs.Prelude.{◌≡◌, ◌≤◌, length, map, option_map, string_bytes};
 ghost use Rattle.std.specs.List.{position_or_len};
-ghost use Rattle.ls_files.specs.Names.{asking, is_names_word, names_in};
+ghost use Rattle.ls_files.specs.Names.{asking, is_names_word, file_names_in};
 
 /// The word after which the names of files come.
 const NAMES: &str = "--names";
@@ -28,8 +28,8 @@ pub fn asking<'a>(words: &'a [String]) -> &'a [String]
 }
 
 /// The names of the files that an input holds: the words after the word `--names`, if that is there.
-pub fn names_in<'a>(words: &'a [String]) -> Option<&'a [String]>
-    ensures { option_map (λ names. map string_bytes names.now) result ≡ names_in (map string_bytes words.entry.now) }
+pub fn file_names_in<'a>(words: &'a [String]) -> Option<&'a [String]>
+    ensures { option_map (λ names. map string_bytes names.now) result ≡ file_names_in (map string_bytes words.entry.now) }
 {
     let count = count_before(words);
     if count < words.len() {

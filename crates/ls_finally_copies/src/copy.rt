@@ -8,6 +8,14 @@ use ls_lowered::tree::{Expression, Expressions, Statement};
 use ls_together::{also, in_box, put};
 use std::alloc::{AllocError, Global};
 
+// A tree of two parts, which are copied first.
+macro_rules! of_two {
+    ($copied:ident($alloc:ident, $a:ident, $b:ident) => $tree:expr) => {{
+        let ($a, $b) = $copied($alloc, $a, $b)?;
+        Ok($tree)
+    }};
+}
+
 /// The same expression once more. The only refusal is that memory ran out.
 #[cycle(expressions)]
 pub fn copy_expression(alloc: Global, e: &Expression) -> Result<Expression, AllocError>
@@ -17,44 +25,20 @@ pub fn copy_expression(alloc: Global, e: &Expression) -> Result<Expression, Allo
         Expression::Word(word) => Ok(Expression::Word(*word)),
         Expression::Local(number) => Ok(Expression::Local(*number)),
         Expression::Unary(op, e) => Ok(Expression::Unary(*op, boxed(alloc, e)?)),
-        Expression::Binary(op, a, b) => {
-            let (a, b) = boxed_two(alloc, a, b)?;
-            Ok(Expression::Binary(*op, a, b))
-        }
-        Expression::And(a, b) => {
-            let (a, b) = boxed_two(alloc, a, b)?;
-            Ok(Expression::And(a, b))
-        }
-        Expression::Or(a, b) => {
-            let (a, b) = boxed_two(alloc, a, b)?;
-            Ok(Expression::Or(a, b))
-        }
-        Expression::Hold(a, number, b) => {
-            let (a, b) = boxed_two(alloc, a, b)?;
-            Ok(Expression::Hold(a, *number, b))
-        }
-        Expression::Keep(number, a, b) => {
-            let (a, b) = boxed_two(alloc, a, b)?;
-            Ok(Expression::Keep(*number, a, b))
-        }
-        Expression::After(a, b) => {
-            let (a, b) = boxed_two(alloc, a, b)?;
-            Ok(Expression::After(a, b))
-        }
+        Expression::Binary(op, a, b) =>
+            of_two!(boxed_two(alloc, a, b) => Expression::Binary(*op, a, b)),
+        Expression::And(a, b) => of_two!(boxed_two(alloc, a, b) => Expression::And(a, b)),
+        Expression::Or(a, b) => of_two!(boxed_two(alloc, a, b) => Expression::Or(a, b)),
+        Expression::Hold(a, number, b) =>
+            of_two!(boxed_two(alloc, a, b) => Expression::Hold(a, *number, b)),
+        Expression::Keep(number, a, b) =>
+            of_two!(boxed_two(alloc, a, b) => Expression::Keep(*number, a, b)),
+        Expression::After(a, b) => of_two!(boxed_two(alloc, a, b) => Expression::After(a, b)),
         Expression::Field(e, number) => Ok(Expression::Field(boxed(alloc, e)?, *number)),
-        Expression::Item(a, b) => {
-            let (a, b) = boxed_two(alloc, a, b)?;
-            Ok(Expression::Item(a, b))
-        }
-        Expression::SetFirst(a, b) => {
-            let (a, b) = boxed_two(alloc, a, b)?;
-            Ok(Expression::SetFirst(a, b))
-        }
+        Expression::Item(a, b) => of_two!(boxed_two(alloc, a, b) => Expression::Item(a, b)),
+        Expression::SetFirst(a, b) => of_two!(boxed_two(alloc, a, b) => Expression::SetFirst(a, b)),
         Expression::ReadPair(e) => Ok(Expression::ReadPair(boxed(alloc, e)?)),
-        Expression::SetPair(a, b) => {
-            let (a, b) = boxed_two(alloc, a, b)?;
-            Ok(Expression::SetPair(a, b))
-        }
+        Expression::SetPair(a, b) => of_two!(boxed_two(alloc, a, b) => Expression::SetPair(a, b)),
         Expression::SwapPair(e, a, b) => {
             let (e, (a, b)) = boxed_three(alloc, e, a, b)?;
             Ok(Expression::SwapPair(e, a, b))
@@ -196,14 +180,10 @@ pub fn copy_statement(alloc: Global, s: &Statement) -> Result<Statement, AllocEr
             *number,
             copy_expression(alloc, e)?,
         )),
-        Statement::SetField(object, field, value) => {
-            let (object, value) = copy_two(alloc, object, value)?;
-            Ok(Statement::SetField(object, *field, value))
-        }
-        Statement::AddField(object, field, value) => {
-            let (object, value) = copy_two(alloc, object, value)?;
-            Ok(Statement::AddField(object, *field, value))
-        }
+        Statement::SetField(a, field, b) =>
+            of_two!(copy_two(alloc, a, b) => Statement::SetField(a, *field, b)),
+        Statement::AddField(a, field, b) =>
+            of_two!(copy_two(alloc, a, b) => Statement::AddField(a, *field, b)),
         Statement::SetItem(array, index, value) => {
             let (array, (index, value)) = copy_three(alloc, array, index, value)?;
             Ok(Statement::SetItem(array, index, value))
@@ -220,14 +200,9 @@ pub fn copy_statement(alloc: Global, s: &Statement) -> Result<Statement, AllocEr
             Ok(Statement::While(e, body))
         }
         Statement::Return(e) => Ok(Statement::Return(copy_expression(alloc, e)?)),
-        Statement::Try(body, last) => {
-            let (body, last) = two_parts(alloc, body, last)?;
-            Ok(Statement::Try(body, last))
-        }
-        Statement::Guarded(body, number, handler) => {
-            let (body, handler) = two_parts(alloc, body, handler)?;
-            Ok(Statement::Guarded(body, *number, handler))
-        }
+        Statement::Try(a, b) => of_two!(two_parts(alloc, a, b) => Statement::Try(a, b)),
+        Statement::Guarded(a, number, b) =>
+            of_two!(two_parts(alloc, a, b) => Statement::Guarded(a, *number, b)),
         Statement::Throw(number) => Ok(Statement::Throw(*number)),
         Statement::Leavable(body, own) => {
             let (body, own) = part_and_exits(alloc, body, own)?;

@@ -11,10 +11,10 @@ use Rattle.ls_exchanged.specs.Doubles.{AreDoubles}
 use Rattle.ls_exchanged.specs.DoubleLaws.{DoublesAreExchanged, DoublesHaveNames}
 use Rattle.ls_text_laws.proofs.Names.{program_names}
 use Rattle.ls_translation.specs.Texts.{file_of, program_of}
-use Rattle.ls_types.specs.CheckedFile.{outcome_of}
+use Rattle.ls_types_checked.specs.CheckedFile.{elaborated_file}
 use Rattle.ls_types_elaboration.specs.Elaborated.{Elaborated}
-use Rattle.ls_types_elaboration.specs.Elaboration.{Outcome, elaborated}
-use Rattle.ls_types_places.specs.Laws.{OneAnswer, SameAnswer}
+use Rattle.ls_types_elaboration.specs.Elaboration.{ElaboratedFile, elaborated}
+use Rattle.ls_find.specs.Laws.{OneAnswer, SameAnswer}
 use Rattle.ls_types_programs.specs.Laws.{OneProgram}
 use Rattle.ls_types_programs.specs.Programs.{IsTextOf}
 use Rattle.ls_find.specs.Doubles.{SoundFollows}
@@ -24,17 +24,17 @@ use Rattle.ls_find.specs.Sought.{IsGoodFor}
 -- ---- two texts have one file and one program
 
 same_outcome : OneAnswer → (classes first second : Text) (i j : Image) → Compiles classes first i →
-    Compiles classes second j → outcome_of (checked_of i) ≡ outcome_of (checked_of j)
+    Compiles classes second j → elaborated_file (checked_of i) ≡ elaborated_file (checked_of j)
 same_outcome one classes first second i j is js =
-    subst (λ (e : Elaborated Outcome). SameAnswer (Ok (outcome_of (checked_of i))) e) js.elaborates
-    (subst (λ (e : Elaborated Outcome). SameAnswer e (elaborated js.file)) is.elaborates
+    subst (λ (e : Elaborated ElaboratedFile). SameAnswer (Ok (elaborated_file (checked_of i))) e) js.elaborates
+    (subst (λ (e : Elaborated ElaboratedFile). SameAnswer e (elaborated js.file)) is.elaborates
     (one classes is.file js.file is.spelled js.spelled))
 
 same_program : OneAnswer → OneProgram → (classes text : Text) (i j : Image) → Compiles classes text i →
     Compiles classes text j → program_of i ≡ program_of j
 same_program one alone classes text i j is js =
-    alone (outcome_of (checked_of j)) text (program_of i) (program_of j)
-    (subst (λ (o : Outcome). IsTextOf o (program_of i) text) (same_outcome one classes text text i j is js) is.reads)
+    alone (elaborated_file (checked_of j)) text (program_of i) (program_of j)
+    (subst (λ (o : ElaboratedFile). IsTextOf o (program_of i) text) (same_outcome one classes text text i j is js) is.reads)
     js.reads
 
 -- ---- no two threads have one name
@@ -44,7 +44,7 @@ thread_at [] n within = absurd (omega (arith, within))
 thread_at (t ∷ ts) zero within = (t, refl)
 thread_at (t ∷ ts) (suc n) within = thread_at ts n (omega (arith, within))
 
-are_named : DoublesHaveNames → (o : Outcome) (text : Text) (p q : Program) → IsTextOf o p text → AreDoubles p q →
+are_named : DoublesHaveNames → (o : ElaboratedFile) (text : Text) (p q : Program) → IsTextOf o p text → AreDoubles p q →
     HaveNamesByPlace p q
 are_named named o text p q is doubles = record {
   same = named p q doubles;
@@ -66,11 +66,11 @@ sound_follows one alone exchanged named linear legal waits turns sought classes 
     let two : AreDoubles (program_of k) (program_of i) =
     subst (λ (p : Program). AreDoubles p (program_of i)) (same_program one alone classes other j k js ks) doubles in
     let at = exchanged (program_of k) (program_of i) two in
-    let names = are_named named (outcome_of (checked_of k)) other (program_of k) (program_of i) ks.reads two in
+    let names = are_named named (elaborated_file (checked_of k)) other (program_of k) (program_of i) ks.reads two in
     let u = at.0 in
     let file = file_of k in
     let same : file_of k ≡ file_of i =
-    ap (λ (o : Outcome). o.file) (same_outcome one classes other program k i ks is) in (
+    ap (λ (o : ElaboratedFile). o.file) (same_outcome one classes other program k i ks is) in (
       i,
       is,
       subst (λ (g : File). IsGoodFor sought g (program_of i)) same (record {

@@ -3,7 +3,7 @@ use Rattle.std.proofs.Common.{◌≡◌, Bool, true}
 use Rattle.ls_checked.specs.CheckedTree.{File}
 use Rattle.ls_checked.specs.CheckedProgram.{Program}
 use Rattle.ls_find.specs.Verdicts.{AllLinearizable, IsGood}
-use Rattle.ls_waiting.specs.Laws.{NoneWaitsForEver}
+use Rattle.ls_endless_calls.specs.Laws.{NoneWaitsForEver}
 
 pub all_good : (waiting : Bool) (file : File) (program : Program) → AllLinearizable file program →
     (waiting ≡ true → NoneWaitsForEver file program) → IsGood waiting file program

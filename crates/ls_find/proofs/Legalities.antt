@@ -5,7 +5,7 @@ use Rattle.ls_checked.specs.CheckedTree.{File}
 use Rattle.ls_checked.specs.CheckedProgram.{Program}
 use Rattle.ls_events.specs.declared.event.Event.{Event}
 use Rattle.ls_explore.specs.Rows.{Told}
-use Rattle.ls_explore_images.specs.Tellings.{TellTruth, TellWhole, schedule_of}
+use Rattle.ls_explore.specs.Tellings.{TellTruth, TellWhole, schedule_of}
 use Rattle.ls_explore_reports.specs.Verdicts.{EachIsLegal, HasLegalOrder}
 use Rattle.ls_find.specs.Sought.{AllLegal, AllNamed, AreNamed, EndsWell, IsEndVerdict, IsSetVerdict}
 use Rattle.ls_find.specs.Sought.{IsTurningVerdict, IsVerdictFor}

@@ -6,3 +6,9 @@ pub mod Goodness
 pub mod Legalities
 pub mod Simpler
 pub mod Followed
+pub mod Anywhere
+pub mod Steps
+pub mod Expressions
+pub mod Statements
+pub mod Files
+pub mod Texts

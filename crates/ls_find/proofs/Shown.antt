@@ -6,7 +6,7 @@ use Rattle.ls_checked.specs.CheckedProgram.{Program}
 use Rattle.ls_meaning.specs.Runs.{source_history}
 use Rattle.ls_events.specs.declared.event.Event.{Event}
 use Rattle.ls_explore.specs.Rows.{Told}
-use Rattle.ls_explore_images.specs.Tellings.{TellTruth, TellWhole}
+use Rattle.ls_explore.specs.Tellings.{TellTruth, TellWhole}
 use Rattle.ls_explore_reports.specs.Linearizable.{UnexplainedIsNot}
 use Rattle.ls_explore_reports.specs.Rows.{TellExplained}
 use Rattle.ls_linearizable.specs.Linearizable.{IsLinearizable}

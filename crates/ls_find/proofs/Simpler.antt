@@ -5,11 +5,11 @@ use Rattle.ls_events.specs.declared.event.Event.{Event}
 use Rattle.ls_checked.specs.CheckedTree.{File}
 use Rattle.ls_checked.specs.CheckedProgram.{Program}
 use Rattle.ls_meaning.specs.Runs.{source_history}
-use Rattle.ls_state_space.specs.Verdicts.{LeavesStuck}
+use Rattle.ls_search.specs.Verdicts.{LeavesStuck}
 use Rattle.ls_verdicts.specs.Verdicts.{IsVerdict}
 use Rattle.ls_verdicts.specs.declared.verdicts.Verdict.TheVariants.{Illegal}
-use Rattle.ls_waiting.specs.Laws.{PendingWaits, NeverEndsSo}
-use Rattle.ls_waiting.specs.Waits.{IsPending}
+use Rattle.ls_endless_calls.specs.Laws.{PendingWaits, NeverEndsSo}
+use Rattle.ls_endless_calls.specs.Waits.{IsPending}
 use Rattle.ls_find.specs.Verdicts.{HasWaiting, IsIllegal}
 
 -- what holds of a file and a program holds of equal ones

@@ -7,10 +7,10 @@ use Rattle.ls_events.specs.declared.event.Event.{Event}
 use Rattle.ls_meaning.specs.Runs.{source_history}
 use Rattle.ls_explore.specs.Rows.{Told}
 use Rattle.ls_explore.specs.declared.rows.Ending.TheVariants.{Over}
-use Rattle.ls_explore_images.specs.Tellings.{TellTruth, TellWhole, schedule_of}
+use Rattle.ls_explore.specs.Tellings.{TellTruth, TellWhole, schedule_of}
 use Rattle.ls_serial_search.specs.Endless.{AreEndlessRuns, TellEndlessRuns}
-use Rattle.ls_waiting.specs.Laws.{AmongNeverEnds, NoneWaitsForEver, NeverEndsSo, NeverEndsIsAmong}
-use Rattle.ls_waiting.specs.Waits.{IsPending}
+use Rattle.ls_endless_calls.specs.Laws.{AmongNeverEnds, NoneWaitsForEver, NeverEndsSo, NeverEndsIsAmong}
+use Rattle.ls_endless_calls.specs.Waits.{IsPending}
 use Rattle.ls_find.specs.Verdicts.{AllExcused, AllLinearizable, HasWaiting, IsBad, IsVerdict, IsWaitingVerdict}
 use Rattle.ls_find.specs.Verdicts.{ShowsRow, WaitsAt}
 use Rattle.ls_find.specs.declared.verdict.Reason.{Reason}

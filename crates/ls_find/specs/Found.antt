@@ -1,13 +1,13 @@
 -- What is found of the programs of a class.
 use Rattle.std.specs.Prelude.{◌≡◌, ◌++◌, ℕ, Bool, true, List, Err, codes, string_bytes}
 use Rattle.ls_compiler.specs.Answers.{CompilesTo}
+use Rattle.ls_explore_reports.specs.ImageNames.{names_in}
 use Rattle.ls_explore_reports.specs.Waiting.{waiting}
-use Rattle.ls_image.specs.Images.{checked_of, Compiles, program_of_image}
+use Rattle.ls_image.specs.Images.{Compiles, program_of_image}
 use Rattle.ls_image.specs.declared.image.Image.{Image}
 use Rattle.ls_labels.specs.Names.{Names}
 use Rattle.ls_state.specs.Scene.{scene_of}
 use Rattle.ls_translation.specs.Texts.{file_of, program_of}
-use Rattle.ls_types.specs.CheckedFile.{outcome_of}
 use Rattle.ls_fewest_switches.specs.Wording.{switches_text}
 use Rattle.ls_find.specs.Fewest.{IsFewest}
 use Rattle.ls_find.specs.Sought.{IsGoodFor}
@@ -31,15 +31,6 @@ IsSound sought classes program =
 -- with this program it compiles, and no more is said
 abbrev pub IsCut : Text → Text → Type 0
 IsCut classes program = (i : Image) × Compiles classes program i
-
--- the names of an image's classes and of what they declare, its file and its program
-abbrev pub names_in : Image → Names
-names_in i = record {
-  classes = (outcome_of (checked_of i)).names;
-  signs = (outcome_of (checked_of i)).signs;
-  file = file_of i;
-  program = program_of i;
-}
 
 -- why a schedule is shown; of threads that wait it is said for what they do
 abbrev pub reason_text : Reason → Names → List Text → List ℕ → Text

@@ -4,3 +4,4 @@ pub mod Family
 pub mod Sought
 pub mod Fewest
 pub mod Doubles
+pub mod Laws

@@ -6,14 +6,14 @@ use Rattle.ls_events.specs.declared.event.Event.{Event}
 use Rattle.ls_meaning.specs.Runs.{source_history}
 use Rattle.ls_endless_calls.specs.Turning.{HasTurning}
 use Rattle.ls_explore.specs.Rows.{IsEnd, Told}
-use Rattle.ls_explore_images.specs.Tellings.{schedule_of}
+use Rattle.ls_explore.specs.Tellings.{schedule_of}
 use Rattle.ls_find.specs.declared.verdict.Reason.{Reason}
 use Rattle.ls_find.specs.declared.verdict.Reason.TheVariants as reasons
 use Rattle.ls_find.specs.declared.verdict.ProgramVerdict.{ProgramVerdict}
 use Rattle.ls_find.specs.declared.verdict.ProgramVerdict.TheVariants as verdicts
 pub use Rattle.ls_source_judge.specs.Judged.{AllLinearizable, IsNotLinearizable}
-use Rattle.ls_waiting.specs.Laws.{NoneWaitsForEver, WaitsForEver}
-use Rattle.ls_waiting.specs.Waits.{AreExcused, IsUnexcused}
+use Rattle.ls_endless_calls.specs.Laws.{NoneWaitsForEver, WaitsForEver}
+use Rattle.ls_endless_calls.specs.Waits.{AreExcused, IsUnexcused}
 use Rattle.ls_verdicts.specs.Verdicts as sets
 use Rattle.ls_verdicts.specs.declared.verdicts.Verdict.TheVariants as legality
 

@@ -8,13 +8,14 @@ ghost use Rattle.ls_image.specs.Images.{Compiles};
 ghost use Rattle.ls_translation.specs.Texts.{file_of, program_of};
 
 use crate::laws::sound_follows;
-use crate::reasons::{names_in, why_text};
+use crate::reasons::why_text;
 use crate::simplifying::simplified;
 use crate::sought::{Sought, sought_verdict};
 use crate::verdict::ProgramVerdict;
-use ls_compiler::compile::compile;
+use ls_compiler::compile;
 use ls_compiler::fault::CompileFault;
 use ls_exchanged::are_doubles;
+use ls_explore_reports::names_in;
 use ls_family_search::{Judge, Judgement};
 use ls_image::image::Image;
 use ls_schedule::print_schedule;

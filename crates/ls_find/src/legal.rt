@@ -2,14 +2,13 @@
 
 ghost use Rattle.std.specs.Prelude.{IfOk};
 ghost use Rattle.ls_checked.specs.PlainProgram.{plain_program};
-ghost use Rattle.ls_explore_images.specs.Tellings.{TellTruth, TellWhole};
+ghost use Rattle.ls_explore.specs.Tellings.{TellTruth, TellWhole};
 ghost use Rattle.ls_find.specs.Sought.{AllNamed, AreNamed, IsLegality, IsSetVerdict};
 ghost use Rattle.ls_translation.specs.Texts.{file_of, program_of};
 
 use crate::verdict::{ProgramVerdict, Reason, bad_row};
 use ls_checked::program::Program;
-use ls_explore::{Nobody, Row};
-use ls_explore_images::{ExploreFault, explore_source};
+use ls_explore::{ExploreFault, Nobody, Row, explore_source};
 use ls_explore_reports::legal::every_schedule_is_legal;
 use ls_image::image::Image;
 use ls_verdicts::{Verdict as SetVerdict, verdict_on};

@@ -1,8 +1,7 @@
 // Why a schedule is shown.
 
 ghost use Rattle.std.specs.Prelude.{◌≡◌, IfOk, string_bytes};
-ghost use Rattle.ls_find.specs.Found.{names_in, reason_text, why_text};
-ghost use Rattle.ls_image.specs.Images.{program_of_image};
+ghost use Rattle.ls_find.specs.Found.{reason_text, why_text};
 ghost use Rattle.ls_labels.specs.Names.{names_of};
 ghost use Rattle.ls_schedule.specs.Reading.{thread_names};
 
@@ -10,23 +9,8 @@ use crate::verdict::Reason;
 use ls_events::schedule::Schedule;
 use ls_explore_reports::waiting_after;
 use ls_fewest_switches::{SimpleRun, push_switches};
-use ls_image::image::Image;
 use ls_labels::names::Names;
 use std::alloc::{AllocError, Global};
-
-/// The names of an image's classes and program.
-pub(crate) fn names_in(image: &Image) -> Names<'_>
-    ensures names { names_of result ≡ names_in image.now }
-    ensures program { result.program.now ≡ program_of_image image.now }
-{
-    let checked = image.checked();
-    Names {
-        classes: checked.class_names(),
-        signs: checked.class_signs(),
-        file: checked.file(),
-        program: image.program(),
-    }
-}
 
 /// Why a schedule is shown. Of threads that wait it is said for what they do.
 fn reason_text(

@@ -9,11 +9,11 @@ ghost use Rattle.ls_source_judge.specs.Judged.{IsSimplestBad};
 ghost use Rattle.ls_translation.specs.Texts.{file_of, program_of};
 
 use crate::verdict::Reason;
+use ls_endless_calls::laws::pending_calls_wait;
 use ls_events::schedule::Schedule;
 use ls_fewest_switches::{SimpleRun, Target, simplest};
 use ls_image::image::Image;
 use ls_source_judge::simplest_unexplained;
-use ls_waiting::laws::pending_calls_wait;
 use std::alloc::{AllocError, Global};
 
 /// The most states of a search for a run with the fewest context switches, for each number of changes of thread.

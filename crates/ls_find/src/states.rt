@@ -6,10 +6,10 @@ ghost use Rattle.ls_source_judge.specs.Judged.{IsNotLinearizable};
 ghost use Rattle.ls_translation.specs.Texts.{file_of, program_of};
 
 use crate::verdict::{ProgramVerdict, Reason};
+use ls_endless_calls::laws::pending_calls_wait;
 use ls_events::schedule::{MOST_STEPS, Schedule};
 use ls_image::image::Image;
 use ls_source_judge::{Judged, judge_schedules};
-use ls_waiting::laws::pending_calls_wait;
 use std::alloc::{AllocError, Global};
 
 /// Whether all states were kept, no history is bad, and no thread waits if that is looked for.

@@ -1,15 +1,14 @@
 // What an exploration says of a program.
 
 ghost use Rattle.std.specs.Prelude.{◌≡◌, IfOk, IfSome, not, position};
-ghost use Rattle.ls_explore_images.specs.Tellings.{TellTruth, TellWhole, schedule_of};
+ghost use Rattle.ls_explore.specs.Tellings.{TellTruth, TellWhole, schedule_of};
 ghost use Rattle.ls_find.specs.Verdicts.{IsVerdict, ShowsRow};
 ghost use Rattle.ls_translation.specs.Texts.{file_of, program_of};
 
 use crate::states::verdict_by_states;
 use crate::waiting::waiting_verdict;
 use ls_events::schedule::{MOST_STEPS, Schedule};
-use ls_explore::{Nobody, Row};
-use ls_explore_images::{ExploreFault, explore_source};
+use ls_explore::{ExploreFault, Nobody, Row, explore_source};
 use ls_explore_reports::decided::none_is_unexplained;
 use ls_explore_reports::explained_rows;
 use ls_image::image::Image;

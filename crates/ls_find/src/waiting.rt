@@ -3,20 +3,20 @@
 ghost use Rattle.std.specs.Prelude.{◌≡◌, [], Decides, IfNone, IfOk, IfSome, MatchBool, Some, slice_get, true};
 ghost use Rattle.ls_explore.specs.Rows.{IsEnd, Told};
 ghost use Rattle.ls_explore.specs.declared.rows.Ending.TheVariants.{Over};
-ghost use Rattle.ls_explore_images.specs.Tellings.{TellTruth, TellWhole};
+ghost use Rattle.ls_explore.specs.Tellings.{TellTruth, TellWhole};
 ghost use Rattle.ls_find.specs.Verdicts.{AllExcused, HasUnexcused, IsWaitingVerdict, WaitsAt};
 ghost use Rattle.ls_serial_search.specs.Histories.{lists_of};
 ghost use Rattle.ls_translation.specs.Texts.{file_of, program_of};
-ghost use Rattle.ls_waiting.specs.Waits.{AreExcused};
+ghost use Rattle.ls_endless_calls.specs.Waits.{AreExcused};
 
 use crate::verdict::{ProgramVerdict, Reason, bad_row};
+use ls_endless_calls::first_unexcused;
+use ls_endless_calls::laws::runs_decide;
 use ls_events::event::Event;
 use ls_explore::{Ending, Row};
 use ls_image::image::Image;
 use ls_serial_search::endless::endless_runs;
 use ls_serial_search::telling::Bounds;
-use ls_waiting::first_unexcused;
-use ls_waiting::laws::runs_decide;
 use std::alloc::{AllocError, Global};
 
 /// The most steps in which a call is followed that runs alone.

@@ -2,8 +2,8 @@
 use Rattle.std.proofs.Common.{◌≡◌, ◌⊎◌, Result, Err, Option, inl, inr, ap, subst, sym}
 use Rattle.ls_class_programs.specs.ClassPrograms.{AreProgramsOf}
 use Rattle.ls_class_programs.specs.declared.choosing.Choosing.{Choosing}
-use Rattle.ls_entries.specs.declared.fault.EntryFault.{EntryFault}
-use Rattle.ls_entries.specs.declared.fault.EntryFault.TheVariants as entry
+use Rattle.ls_class_programs.specs.declared.entry_fault.EntryFault.{EntryFault}
+use Rattle.ls_class_programs.specs.declared.entry_fault.EntryFault.TheVariants as entry
 use Rattle.ls_family_search.specs.Judged.{Programs}
 use Rattle.ls_faults.proofs.Answering.{Failed, fails}
 use Rattle.ls_faults.specs.Faults.{lifted_entry}

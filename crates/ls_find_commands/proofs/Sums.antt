@@ -18,8 +18,8 @@ use Rattle.ls_find.specs.Found.{IsCut, IsSound, IsWhy}
 use Rattle.ls_find.specs.declared.explorer.Why.{Why}
 use Rattle.ls_find.specs.declared.explorer.Why.TheVariants as whys
 use Rattle.ls_find.specs.declared.sought.Sought.{Sought}
-use Rattle.ls_find_ranges.specs.Reports.{Report, report_text}
-use Rattle.ls_find_ranges.specs.Sums.{both, first_of, joined}
+use Rattle.ls_find_reports.specs.Reports.{Report, report_text}
+use Rattle.ls_find_reports.specs.Sums.{both, first_of, joined}
 use Rattle.ls_find_reports.specs.Printing.{figures_of, is_cut, is_double, number_after}
 use Rattle.ls_report.specs.Events.{Text}
 use Rattle.ls_find_commands.specs.Found.{halted_answer, why_answer}

@@ -5,10 +5,10 @@ use Rattle.std.specs.Prelude.{string_bytes}
 use Rattle.ls_class_programs.specs.ClassPrograms.{AreProgramsOf, IsClassFault}
 use Rattle.ls_class_programs.specs.declared.choosing.Choosing.{Choosing}
 use Rattle.ls_class_programs.specs.declared.fault.ClassFault.{ClassFault}
-use Rattle.ls_entries.specs.Entries.{AllAreCalls, HasNoCall}
-use Rattle.ls_entries.specs.declared.fault.EntryFault.{EntryFault}
-use Rattle.ls_explore_images.specs.Faults.{AreBadStates}
-use Rattle.ls_explore_images.specs.declared.fault.ExploreFault.TheVariants as explore
+use Rattle.ls_class_programs.specs.Entries.{AllAreCalls, HasNoCall}
+use Rattle.ls_class_programs.specs.declared.entry_fault.EntryFault.{EntryFault}
+use Rattle.ls_explore.specs.Faults.{AreBadStates}
+use Rattle.ls_explore.specs.declared.fault.ExploreFault.TheVariants as explore
 use Rattle.ls_families.specs.Families.{Plan, plans}
 use Rattle.ls_family_search.specs.Judged.{Programs, text_of}
 use Rattle.ls_family_search.specs.declared.judging.Halted.{Halted}

@@ -8,8 +8,8 @@ use Rattle.ls_find.specs.Family.{IsFound}
 use Rattle.ls_find.specs.declared.explorer.Why.{Why}
 use Rattle.ls_find.specs.declared.explorer.Why.TheVariants as whys
 use Rattle.ls_find.specs.declared.sought.Sought.{Sought}
-use Rattle.ls_find_ranges.specs.Reports.{Found, Report, report_text}
-use Rattle.ls_find_ranges.specs.Sums.{joined}
+use Rattle.ls_find_reports.specs.Reports.{Found, Report, report_text}
+use Rattle.ls_find_reports.specs.Sums.{joined}
 use Rattle.ls_find_reports.specs.Printing.{figures_of}
 use Rattle.ls_report.specs.Events.{Text}
 use Rattle.ls_find_commands.specs.Found.{halted_answer}

@@ -3,17 +3,16 @@
 ghost use Rattle.std.specs.Prelude.{◌≡◌, ◌+◌, ◌<◌, ◌≤◌, ◌^◌, ◌↔◌, IfSome, IsTrue, false, length};
 ghost use Rattle.std.specs.Prelude.{option_map};
 ghost use Rattle.ls_explore.specs.Watching.{GoesOn};
-ghost use Rattle.ls_explore_images.specs.Faults.{AreBadStates};
+ghost use Rattle.ls_explore.specs.Faults.{AreBadStates};
 ghost use Rattle.ls_faults.specs.Given.{GivesText};
-ghost use Rattle.ls_parts.specs.Cutting.{plain_text};
+ghost use Rattle.ls_items.specs.Cutting.{plain_text};
 ghost use Rattle.ls_find_commands.specs.Found.{FindsIn, FindsTo, IsBadRange, PrintsTo};
 ghost use Rattle.ls_find_commands.specs.Found.{halted_answer, why_answer};
 
 use crate::menus::{Texts, programs_for};
 use crate::noting::searched;
 use ls_class_programs::Choosing;
-use ls_explore::Watch;
-use ls_explore_images::{ExploreFault, MOST_STATES};
+use ls_explore::{ExploreFault, MOST_STATES, Watch};
 use ls_families::print_plan;
 use ls_family_search::{Finding, Halted, Numbers, Programs};
 use ls_faults::fault::ToolFault;

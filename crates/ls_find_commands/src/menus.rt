@@ -1,11 +1,10 @@
 // The programs of a class text, over a menu that is written by hand if one is given.
 
 ghost use Rattle.std.specs.Prelude.{◌≡◌, ◌⊎◌, IfErr, IfOk, OnOk, option_map};
-ghost use Rattle.ls_parts.specs.Cutting.{plain_text};
+ghost use Rattle.ls_items.specs.Cutting.{plain_text};
 ghost use Rattle.ls_find_commands.specs.Found.{AreProgramsFor, EntriesFit, HasNoPrograms, IsUnfit};
 
-use ls_class_programs::{Choosing, ClassPrograms, programs_of};
-use ls_entries::{EntryFault, check_entries};
+use ls_class_programs::{Choosing, ClassPrograms, EntryFault, check_entries, programs_of};
 use ls_faults::fault::ToolFault;
 use std::alloc::{AllocError, Global};
 

@@ -2,12 +2,12 @@
 
 ghost use Rattle.std.specs.Prelude.{◌≡◌, ◌<◌, length};
 ghost use Rattle.ls_linker.specs.Runs.{Runs};
-ghost use Rattle.ls_types.specs.Sources.{source_file, source_program};
+ghost use Rattle.ls_types_checked.specs.Sources.{source_file, source_program};
 
 use ls_checked::program::Program;
 use ls_code::code::Code;
-use ls_types::checked::Checked;
-use ls_types::source::Source;
+use ls_types_checked::checked::Checked;
+use ls_types_checked::source::Source;
 
 /// The code of a class text and a program text, with the checked file and the program of these texts. The code runs as
 /// the file and the program do. What that means is in `laws`.

@@ -5,7 +5,7 @@ ghost use Rattle.ls_checked.specs.PlainProgram.{plain_program};
 ghost use Rattle.ls_image.specs.Images.{RunsAsItsTexts, checked_of, code_of_image, program_of_image};
 ghost use Rattle.ls_preservation.specs.Acting.{ActsInTime};
 ghost use Rattle.ls_preservation.specs.InTime.{EndsInTime};
-ghost use Rattle.ls_types.specs.CheckedFile.{outcome_of};
+ghost use Rattle.ls_types_checked.specs.CheckedFile.{elaborated_file};
 
 use crate::image::Image;
 
@@ -22,13 +22,13 @@ pub fn has_setup(image: &Image)
 /// If the source of a thread of an image acts next, the thread makes at most `most_silent` silent steps, and then
 /// acts. It stops the machine only if there is no room for what the source's step makes.
 pub fn acts_in_time(image: &Image)
-    ensures { ActsInTime (outcome_of (checked_of image.now)).file (plain_program (program_of_image image.now))
+    ensures { ActsInTime (elaborated_file (checked_of image.now)).file (plain_program (program_of_image image.now))
         (code_of_image image.now) }
 {}
 
 /// If the source of a thread of an image has ended or has been trapped, the thread does the same in time. It takes at
 /// most `most_silent` steps of its own.
 pub fn ends_in_time(image: &Image)
-    ensures { EndsInTime (outcome_of (checked_of image.now)).file (plain_program (program_of_image image.now))
+    ensures { EndsInTime (elaborated_file (checked_of image.now)).file (plain_program (program_of_image image.now))
         (code_of_image image.now) }
 {}

@@ -1,2 +1,4 @@
 pub mod Division
 pub mod Items
+pub mod LineLemmas
+pub mod PartLemmas

@@ -1,6 +1,8 @@
-//! The items of a text: what is between gaps. Gaps are spaces, tabs, carriage returns and line feeds. Schedules and
-//! orders are read by items.
+//! The items of a text, between gaps: spaces, tabs, carriage returns and line feeds. Schedules and orders are read by
+//! items. And the parts of an input, cut at the lines that are exactly `%%`.
 #![tactic(auto)]
+
+mod parts;
 
 ghost use Rattle.std.specs.List.{position};
 ghost use Rattle.std.specs.Prelude.{◌≡◌, length, unwrap_or};
@@ -34,3 +36,5 @@ pub fn item_len(text: &[u8]) -> usize
 pub fn items_are_divided()
     ensures { ItemsAreDivided }
 {}
+
+pub use parts::{parts_of, text_of};

@@ -1,7 +1,7 @@
 // Images that tests borrow. Each crate that owns an image has to prove how it is dropped, with all trees in it. Here
 // that is proved once, for all crates of tests.
 
-use ls_compiler::compile::compile;
+use ls_compiler::compile;
 use ls_image::image::Image;
 use std::alloc::Global;
 use std::test::Fail;

@@ -8,7 +8,7 @@ ghost use Rattle.ls_lexer.specs.declared.fault.TextFault.TheVariants.{TooLong};
 ghost use Rattle.std.specs.Prelude.{◌≡◌, ◌<◌, ◌++◌, [], IfErr, IfOk, IsErrOf, OnErr, OnOk, Some, length};
 
 use crate::fault::TextFault;
-use crate::scan::scan;
+use crate::scanning::scan;
 use crate::token::{Span, Token, TokenKind};
 use std::alloc::{AllocError, Global};
 

@@ -10,7 +10,7 @@ pub mod names;
 mod numbers;
 mod reserved;
 mod runs;
-mod scan;
+mod scanning;
 pub mod sign;
 pub mod token;
 pub mod word;

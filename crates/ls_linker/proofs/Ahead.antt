@@ -1,7 +1,7 @@
 -- Statements before others; a block is replaced by its statements.
 use Rattle.std.proofs.Common.{◌≡◌, ℕ, ◌+◌, arith}
 use Rattle.ls_lowered.specs.LoweredTree.{Statement, Statements, Done, Then, File}
-use Rattle.ls_refs_expressions.specs.Lowered.{joined, ahead}
+use Rattle.ls_refs.specs.Lowered.{joined, ahead}
 use Rattle.ls_refs.proofs.Ahead.{by_inner}
 use Rattle.ls_finally.specs.Flat.{tries, all_tries}
 use Rattle.ls_finally.specs.Placed.{IsPlacedStatement, ArePlaced}

@@ -9,9 +9,9 @@ use Rattle.ls_checked.specs.CheckedTree.{File, Expression, Literal, Slot, Field,
 use Rattle.ls_checked.specs.CheckedTree.{Call, MakeObject, MakeLock, MakeMarkable, MakeArray, Expressions, End, More}
 use Rattle.ls_meaning.specs.declared.sort.Sort.{Sort}
 use Rattle.ls_types_judgement.specs.Typing.{IsTyped, AreTyped}
-use Rattle.ls_refs_expressions.specs.Temporaries.{temporaries, all_temporaries}
-use Rattle.ls_refs_expressions.specs.Calls.{first_of, second_of}
-use Rattle.ls_refs_expressions.specs.Lowered.{lowered, all_lowered}
+use Rattle.ls_refs.specs.Temporaries.{temporaries, all_temporaries}
+use Rattle.ls_refs.specs.Calls.{first_of, second_of}
+use Rattle.ls_refs.specs.Lowered.{lowered, all_lowered}
 use Rattle.ls_finally.specs.Agreement.{IsBelow, AreBelow}
 use Rattle.ls_linker.proofs.Segments.{in_range}
 

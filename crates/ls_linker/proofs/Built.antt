@@ -4,7 +4,7 @@ use Rattle.ls_checked.specs.CheckedTree.{File}
 use Rattle.ls_checked.specs.CheckedProgram.{Program}
 use Rattle.ls_code.specs.Code.{Code}
 use Rattle.ls_lowered.specs.LoweredTree as low
-use Rattle.ls_refs_expressions.specs.Lowered.{lowered_file}
+use Rattle.ls_refs.specs.Lowered.{lowered_file}
 use Rattle.ls_finally.specs.Flat.{flat_file}
 use Rattle.ls_finally.specs.Placed.{AllPlaced}
 use Rattle.ls_emit.specs.Units.{CodeUnit, units_of}

@@ -23,7 +23,7 @@ use Rattle.ls_code.specs.Fed as fed
 use Rattle.ls_code.specs.declared.instruction.Resume.TheVariants as then
 use Rattle.ls_code.specs.declared.instruction.Instruction.TheVariants as op
 use Rattle.ls_code.specs.declared.code.CallResult.TheVariants as result
-use Rattle.ls_refs_expressions.specs.ValueWords.{value_word, IsSmall}
+use Rattle.ls_refs.specs.ValueWords.{value_word, IsSmall}
 use Rattle.ls_refs.specs.Laws.{answer_words}
 use Rattle.ls_preservation.specs.InWords.{word_of, map_option}
 use Rattle.ls_preservation.specs.Sorts.{Suited}

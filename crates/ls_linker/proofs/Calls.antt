@@ -14,9 +14,9 @@ use Rattle.ls_meaning.specs.declared.sort.Sort.{Sort}
 use Rattle.ls_meaning.specs.Expressions.{constructor_of}
 use Rattle.ls_lowered.specs.LoweredTree as low
 use Rattle.ls_types_judgement.specs.Typing.{IsTyped, AreTyped, IsTypedFile, parameters_of}
-use Rattle.ls_refs_expressions.specs.Temporaries.{temporaries}
-use Rattle.ls_refs_expressions.specs.Calls.{first_of, second_of}
-use Rattle.ls_refs_expressions.specs.Lowered.{lowered, all_lowered, lowered_method, lowered_file}
+use Rattle.ls_refs.specs.Temporaries.{temporaries}
+use Rattle.ls_refs.specs.Calls.{first_of, second_of}
+use Rattle.ls_refs.specs.Lowered.{lowered, all_lowered, lowered_method, lowered_file}
 use Rattle.ls_finally.specs.Placed.{count, TakesIn, Takes, CallsWell, AllCallWell}
 use Rattle.ls_linker.proofs.Segments.{at_mapped, length_taken}
 

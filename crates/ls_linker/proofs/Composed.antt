@@ -5,10 +5,10 @@ use Rattle.std.specs.Prelude.{slice_get}
 use Rattle.ls_events.specs.declared.value.Value.{Value}
 use Rattle.ls_events.specs.declared.value.ValueType.{ValueType}
 use Rattle.ls_checked.specs.CheckedTree.{File, Method}
-use Rattle.ls_refs_expressions.specs.ValueWords.{value_word, IsSmall}
+use Rattle.ls_refs.specs.ValueWords.{value_word, IsSmall}
 use Rattle.ls_types_judgement.specs.Sorts.{HaveTypes}
 use Rattle.ls_types_judgement.specs.Typing.{IsTypedFile, parameters_of}
-use Rattle.ls_refs_expressions.specs.Lowered.{lowered_method, lowered_file}
+use Rattle.ls_refs.specs.Lowered.{lowered_method, lowered_file}
 use Rattle.ls_refs.specs.Laws.{answer_words}
 use Rattle.ls_finally.specs.Flat.{flat_method}
 use Rattle.ls_finally.specs.Placed.{AllPlaced, Takes, TakesIn}

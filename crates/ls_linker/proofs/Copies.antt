@@ -9,7 +9,7 @@ use Rattle.ls_finally_exits.specs.Exits.{Exit, LeaveOut, ReturnOut, outward, cou
 use Rattle.ls_finally_exits.specs.Exits.{replaced, all_replaced, exit_of, ways, finally_of}
 use Rattle.ls_finally.specs.Flat.{tries, flat, all_flat}
 use Rattle.ls_finally.specs.Counts.{copies, all_copies}
-use Rattle.ls_refs_expressions.specs.Lowered.{lowered_method}
+use Rattle.ls_refs.specs.Lowered.{lowered_method}
 use Rattle.ls_linker.specs.Counts.{statement_nodes, statements_nodes, written_nodes}
 use Rattle.std.specs.Prelude.{map, All}
 use Rattle.ls_finally.specs.Flat.{flat_method}

@@ -15,7 +15,7 @@ use Rattle.ls_meaning.specs.declared.sort.Sort.TheVariants.{NoValue, ValueOf}
 use Rattle.ls_meaning.specs.Expressions.{value_in, field_in, constructor_of}
 use Rattle.ls_lowered.specs.LoweredTree as low
 use Rattle.ls_types_judgement.specs.Typing.{IsTyped, AreTyped, IsTypedFile}
-use Rattle.ls_refs_expressions.specs.Lowered.{lowered, all_lowered, lowered_file}
+use Rattle.ls_refs.specs.Lowered.{lowered, all_lowered, lowered_file}
 use Rattle.ls_finally.specs.Agreement.{IsBelow, AreBelow}
 use Rattle.ls_finally.specs.Flat.{flat_method, flat_file}
 use Rattle.ls_finally.specs.Placed as placed

@@ -24,7 +24,7 @@ use Rattle.ls_code.specs.declared.instruction.Instruction.TheVariants as op
 use Rattle.ls_code.specs.declared.code.Method.{Method as MethodRow}
 use Rattle.ls_emit.specs.Units.{CodeUnit, LieIn}
 use Rattle.ls_emit.specs.Entering.{told_by, given_back, IsEntering, TakesAll, EntersAs}
-use Rattle.ls_refs_expressions.specs.ValueWords.{value_word, IsSmall}
+use Rattle.ls_refs.specs.ValueWords.{value_word, IsSmall}
 use Rattle.ls_types_judgement.specs.Typing.{parameters_of}
 use Rattle.ls_refs.specs.Laws.{answer_words, in_words}
 use Rattle.ls_preservation.specs.InWords.{word_of}

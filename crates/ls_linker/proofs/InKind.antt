@@ -8,7 +8,7 @@ use Rattle.ls_meaning.specs.Course.{Answers}
 use Rattle.ls_meaning.specs.Threads.{Next}
 use Rattle.ls_preservation.specs.Sorts.{Suits, Suited}
 use Rattle.ls_types_judgement.specs.Sorts.{HasType, HaveTypes}
-use Rattle.ls_refs_expressions.specs.ValueWords.{IsSmall}
+use Rattle.ls_refs.specs.ValueWords.{IsSmall}
 use Rattle.ls_types_judgement.specs.Programs.{IsArgument, AreArguments}
 
 -- the same if the same comes next

@@ -19,7 +19,7 @@ use Rattle.ls_code.specs.declared.code.CallResult.{CallResult}
 use Rattle.ls_code.specs.declared.code.CallResult.TheVariants as result
 use Rattle.ls_emit.specs.Units.{CodeUnit, LieIn}
 use Rattle.ls_emit.specs.Entering.{UnitsAsk}
-use Rattle.ls_refs_expressions.specs.ValueWords.{IsSmall}
+use Rattle.ls_refs.specs.ValueWords.{IsSmall}
 use Rattle.ls_refs.specs.Laws.{answer_words}
 use Rattle.ls_preservation.specs.InWords.{word_of, map_answer}
 use Rattle.ls_preservation.specs.Sorts.{Suited, InKind}

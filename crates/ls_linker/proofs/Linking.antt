@@ -11,7 +11,7 @@ use Rattle.ls_checked.specs.CheckedTree.{File}
 use Rattle.ls_checked.specs.CheckedProgram.{ProgramCall, Making, Calling, ThreadProgram, Program}
 use Rattle.ls_meaning.specs.Expressions.{constructor_of}
 use Rattle.ls_types_judgement.specs.Typing.{IsTypedFile, parameters_of}
-use Rattle.ls_refs_expressions.specs.Lowered.{lowered_method, lowered_file}
+use Rattle.ls_refs.specs.Lowered.{lowered_method, lowered_file}
 use Rattle.ls_refs.specs.Refused.{AllFit}
 use Rattle.ls_finally.specs.Flat.{flat_method, flat_file}
 use Rattle.ls_emit.specs.Units.{unit_of, units_of}

@@ -6,8 +6,8 @@ use Rattle.std.proofs.lemmas.List.Elements.{All-map}
 use Rattle.ls_checked.specs.CheckedTree.{Class, Method, File, Statement, Block, SetSlot, SetField, AddField, SetItem}
 use Rattle.ls_checked.specs.CheckedTree.{Evaluate, If, While, Break, Continue, ReturnNothing, ReturnValue, Try}
 use Rattle.ls_checked.specs.CheckedTree.{Statements, Done, Then}
-use Rattle.ls_refs_expressions.specs.Lowered.{lowered_statement, lowered_block, lowered_method, lowered_file}
-use Rattle.ls_refs_expressions.specs.Temporaries as refs
+use Rattle.ls_refs.specs.Lowered.{lowered_statement, lowered_block, lowered_method, lowered_file}
+use Rattle.ls_refs.specs.Temporaries as refs
 use Rattle.ls_refs.specs.Refused.{AllFit, AllSlotted}
 use Rattle.ls_finally.specs.Flat.{tries, all_tries}
 use Rattle.ls_finally.specs.Counts.{FewLocals, locals_of}

@@ -6,9 +6,9 @@ use Rattle.ls_checked.specs.declared.tree.Called.TheVariants.{HoldMonitor, FreeM
 use Rattle.ls_checked.specs.declared.tree.Called.TheVariants.{SetBoth, CompareAndSet, Attempt}
 use Rattle.ls_checked.specs.CheckedTree as checked
 use Rattle.ls_lowered.specs.LoweredTree.{Expression, Expressions, End, More, Statement, Statements, Done, Then}
-use Rattle.ls_refs_expressions.specs.Calls.{own_temporaries, first_of, rest_of, lowered_call}
-use Rattle.ls_refs_expressions.specs.Temporaries.{temporaries, statement_temporaries}
-use Rattle.ls_refs_expressions.specs.Lowered.{lowered, all_lowered, lowered_statement, lowered_block, joined, ahead}
+use Rattle.ls_refs.specs.Calls.{own_temporaries, first_of, rest_of, lowered_call}
+use Rattle.ls_refs.specs.Temporaries.{temporaries, statement_temporaries}
+use Rattle.ls_refs.specs.Lowered.{lowered, all_lowered, lowered_statement, lowered_block, joined, ahead}
 use Rattle.ls_refs.proofs.Ahead.{by_inner}
 use Rattle.ls_linker.specs.Counts.{nodes, all_nodes, statement_nodes, statements_nodes, checked_nodes}
 use Rattle.ls_linker.specs.Counts.{all_checked_nodes, written_nodes, block_nodes}

@@ -8,8 +8,8 @@ use Rattle.ls_checked.specs.CheckedTree.{SetItem, Evaluate, If, While, Break, Co
 use Rattle.ls_checked.specs.CheckedTree.{Statements, Done, Then}
 use Rattle.ls_meaning.specs.declared.sort.Sort.{Sort}
 use Rattle.ls_types_judgement.specs.Typing.{IsTyped, IsTypedStatement, AreTypedStatements, IsTypedMethod, IsTypedFile}
-use Rattle.ls_refs_expressions.specs.Temporaries.{temporaries, statement_temporaries, block_temporaries}
-use Rattle.ls_refs_expressions.specs.Lowered.{lowered, lowered_statement, lowered_block, lowered_method, lowered_file}
+use Rattle.ls_refs.specs.Temporaries.{temporaries, statement_temporaries, block_temporaries}
+use Rattle.ls_refs.specs.Lowered.{lowered, lowered_statement, lowered_block, lowered_method, lowered_file}
 use Rattle.ls_finally.specs.Placed.{IsPlaced, IsPlacedStatement, ArePlaced, AllPlaced}
 use Rattle.ls_linker.proofs.Segments.{in_range}
 use Rattle.ls_linker.proofs.Ahead.{ahead_placed}

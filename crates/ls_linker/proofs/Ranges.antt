@@ -11,9 +11,9 @@ use Rattle.ls_checked.specs.CheckedTree.{Statements, Done, Then}
 use Rattle.ls_types_judgement.specs.Leaving.{JumpsInLoops, JumpInLoops}
 use Rattle.ls_meaning.specs.declared.sort.Sort.{Sort}
 use Rattle.ls_types_judgement.specs.Typing.{IsTyped, IsTypedStatement, AreTypedStatements, IsTypedMethod, IsTypedFile}
-use Rattle.ls_refs_expressions.specs.Temporaries as refs
-use Rattle.ls_refs_expressions.specs.Temporaries.{temporaries, statement_temporaries, block_temporaries}
-use Rattle.ls_refs_expressions.specs.Lowered.{lowered, lowered_statement, lowered_block, lowered_method, lowered_file}
+use Rattle.ls_refs.specs.Temporaries as refs
+use Rattle.ls_refs.specs.Temporaries.{temporaries, statement_temporaries, block_temporaries}
+use Rattle.ls_refs.specs.Lowered.{lowered, lowered_statement, lowered_block, lowered_method, lowered_file}
 use Rattle.ls_refs.specs.Refused.{AllFit}
 use Rattle.ls_finally.specs.Flat.{flat_method, flat_file}
 use Rattle.ls_emit.specs.Emittable.{IsEmittable, IsEmittableMethod, AllEmittable, IsEmittableFile}

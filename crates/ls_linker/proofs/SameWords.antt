@@ -7,7 +7,7 @@ use Rattle.ls_events.specs.declared.action.Action.TheVariants as act
 use Rattle.ls_events.specs.declared.action.Answer.{Answer}
 use Rattle.ls_events.specs.declared.action.Answer.TheVariants.{Done, Gives, Fails}
 use Rattle.ls_meaning.specs.Course.{Answers}
-use Rattle.ls_refs_expressions.specs.ValueWords.{value_word}
+use Rattle.ls_refs.specs.ValueWords.{value_word}
 use Rattle.ls_refs.specs.Laws.{action_word, answer_word, answer_words}
 use Rattle.ls_preservation.specs.InWords.{word_of, map_action, map_answer}
 

@@ -5,7 +5,7 @@ use Rattle.std.specs.List.{All}
 use Rattle.ls_checked.specs.CheckedTree as checked
 use Rattle.ls_checked.specs.CheckedProgram.{Program}
 use Rattle.ls_lowered.specs.LoweredTree.{Method, File}
-use Rattle.ls_refs_expressions.specs.Lowered.{lowered_method, lowered_file}
+use Rattle.ls_refs.specs.Lowered.{lowered_method, lowered_file}
 use Rattle.ls_finally.specs.Flat.{flat_method, flat_file}
 use Rattle.ls_finally.specs.Counts.{copies_of, FewLocals}
 use Rattle.ls_emit.specs.Units.{method_size, file_size, units_of}

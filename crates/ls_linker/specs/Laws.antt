@@ -9,7 +9,7 @@ use Rattle.ls_meaning.specs.Methods.{invoke}
 use Rattle.ls_meaning.specs.Threads.{Next}
 use Rattle.ls_lowered.specs.LoweredTree as low
 use Rattle.ls_lowered.specs.Methods as courses
-use Rattle.ls_refs_expressions.specs.ValueWords.{value_word, IsSmall}
+use Rattle.ls_refs.specs.ValueWords.{value_word, IsSmall}
 use Rattle.ls_types_judgement.specs.Sorts.{HaveTypes}
 use Rattle.ls_types_judgement.specs.Typing.{parameters_of}
 use Rattle.ls_refs.specs.Laws.{answer_words, in_words}

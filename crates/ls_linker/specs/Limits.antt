@@ -4,7 +4,7 @@ use Rattle.std.specs.Prelude.{◌<◌, ◌≤◌, length}
 use Rattle.ls_checked.specs.CheckedTree.{File}
 use Rattle.ls_checked.specs.CheckedProgram.{Program}
 use Rattle.ls_lowered.specs.declared.fault.LowerFault.TheVariants as lower
-use Rattle.ls_refs_expressions.specs.Lowered.{lowered_file}
+use Rattle.ls_refs.specs.Lowered.{lowered_file}
 use Rattle.ls_refs.specs.Refused.{AllFit}
 use Rattle.ls_finally.specs.Counts.{FewCopies}
 use Rattle.ls_emit.specs.Short.{AllShort}

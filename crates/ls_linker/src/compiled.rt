@@ -5,7 +5,7 @@ ghost use Rattle.std.specs.Prelude.{◌≤◌, length};
 ghost use Rattle.ls_checked.specs.CheckedTree.{File};
 ghost use Rattle.ls_checked.specs.CheckedProgram.{Program};
 ghost use Rattle.ls_types_judgement.specs.WellTyped.{IsWellTyped, IsWellTypedProgram};
-ghost use Rattle.ls_refs_expressions.specs.Lowered.{lowered_file};
+ghost use Rattle.ls_refs.specs.Lowered.{lowered_file};
 ghost use Rattle.ls_finally.specs.Placed.{AllPlaced};
 ghost use Rattle.ls_emit.specs.Emittable.{IsEmittableFile};
 ghost use Rattle.ls_linker.specs.Compiled.{flat_of, code_of};

@@ -3,7 +3,7 @@
 
 ghost use Rattle.ls_checked.specs.CheckedProgram.{Program};
 ghost use Rattle.ls_checked.specs.CheckedTree.{File};
-ghost use Rattle.ls_refs_expressions.specs.Lowered.{lowered_file};
+ghost use Rattle.ls_refs.specs.Lowered.{lowered_file};
 ghost use Rattle.ls_refs.specs.Refused.{AllFit, AllSlotted};
 ghost use Rattle.ls_finally.specs.Placed.{AllPlaced};
 ghost use Rattle.ls_finally.specs.Counts.{FewLocals};

@@ -32,7 +32,7 @@ pub fn any_units_ask()
 
 /// The code to which such units are linked is the same as the source. Each schedule of instructions has a schedule of
 /// source steps with the same trace and history. Each schedule of source steps that fits has a schedule of
-/// instructions.
+/// instructions. `compile` doesn't go this way: `compiled_runs` says the same of its own units.
 pub fn any_units_are_same()
     ensures { AnyUnitsAreSame }
 {

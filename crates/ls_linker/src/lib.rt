@@ -1,7 +1,7 @@
 //! The whole code of a file and its threads: the units one after another, and the threads after them.
 #![tactic(auto)]
 
-pub mod build;
+pub mod building;
 pub mod compiled;
 pub mod count_fault;
 mod counting;
@@ -10,8 +10,10 @@ pub mod files;
 pub mod in_range;
 pub mod laws;
 pub mod lengths;
-pub mod link;
+pub mod link_units;
 pub mod quickness;
 mod threads;
 mod units;
 mod ways;
+
+pub use building::build;

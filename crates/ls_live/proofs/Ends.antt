@@ -7,12 +7,12 @@ use Rattle.std.specs.List.{list_all}
 use Rattle.std.proofs.lemmas.Option.{slice_get_within, slice_get-get_or}
 use Rattle.ls_code.specs.Code.{Code}
 use Rattle.ls_code.specs.Machine.{Machine, loaded, machine_run}
-use Rattle.ls_live_book.specs.Answers.{is_over}
+use Rattle.ls_live.specs.Answers.{is_over}
 use Rattle.ls_live.specs.Records.{IsDone}
 use Rattle.ls_live.specs.Seats.{is_told, AreInOrder}
-use Rattle.ls_live_book.specs.Seats.{Seat, seat_of, agrees, told_agrees}
-use Rattle.ls_live_book.specs.declared.book.Told.{Told}
-use Rattle.ls_live_book.specs.declared.book.Told.TheVariants as told
+use Rattle.ls_live.specs.BookSeats.{Seat, seat_of, agrees, told_agrees}
+use Rattle.ls_live.specs.declared.book.Told.{Told}
+use Rattle.ls_live.specs.declared.book.Told.TheVariants as told
 use Rattle.ls_schedule.specs.Records.{scheduled}
 use Rattle.ls_schedule.specs.declared.replaying.Record.{Record}
 

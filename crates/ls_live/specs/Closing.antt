@@ -4,9 +4,9 @@ use Rattle.std.specs.List.{list_all}
 use Rattle.ls_code.specs.Machine.{Machine}
 use Rattle.ls_schedule.specs.Records.{scheduled}
 use Rattle.ls_schedule.specs.declared.replaying.Record.{Record}
-use Rattle.ls_live_book.specs.Records.{IsRecordFrom}
-use Rattle.ls_live_book.specs.Seats.{Seat, agrees}
-use Rattle.ls_live_book.specs.declared.book.Session.{Ghosts}
+use Rattle.ls_live.specs.BookRecords.{IsRecordFrom}
+use Rattle.ls_live.specs.BookSeats.{Seat, agrees}
+use Rattle.ls_live.specs.declared.book.Session.{Ghosts}
 use Rattle.ls_live.specs.declared.live.CloseFault.{CloseFault}
 use Rattle.ls_live.specs.declared.live.CloseFault.TheVariants.{Missing, Disagree}
 

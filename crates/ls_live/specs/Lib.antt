@@ -1,3 +1,12 @@
 pub mod Closing
 pub mod Records
 pub mod Seats
+pub mod Turns
+pub mod Views
+pub mod Answers
+pub mod Books
+pub mod Due
+pub mod BookRecords
+pub mod BookSeats
+pub mod Sessions
+pub mod Ends

@@ -2,7 +2,7 @@
 use Rattle.std.specs.Prelude.{◌≡◌, ℕ, ◌<◌, ◌⊎◌, length, All, true}
 use Rattle.ls_code.specs.Code.{Code}
 use Rattle.ls_code.specs.Machine.{loaded, machine_run}
-use Rattle.ls_live_book.specs.Answers.{is_over}
+use Rattle.ls_live.specs.Answers.{is_over}
 use Rattle.ls_schedule.specs.Records.{scheduled}
 use Rattle.ls_schedule.specs.declared.replaying.Record.{Record}
 

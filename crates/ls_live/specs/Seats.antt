@@ -1,10 +1,10 @@
 -- Seats after their steps, and in order.
 use Rattle.std.specs.Prelude.{◌≡◌, ℕ, ◌+◌, List, slice_get, Some, Bool, true, false}
-use Rattle.ls_live_book.specs.Seats.{Seat, seat_of}
-use Rattle.ls_live_book.specs.declared.book.More.{More}
-use Rattle.ls_live_book.specs.declared.book.More.TheVariants as more
-use Rattle.ls_live_book.specs.declared.book.Told.{Told}
-use Rattle.ls_live_book.specs.declared.book.Told.TheVariants as told
+use Rattle.ls_live.specs.BookSeats.{Seat, seat_of}
+use Rattle.ls_live.specs.declared.book.More.{More}
+use Rattle.ls_live.specs.declared.book.More.TheVariants as more
+use Rattle.ls_live.specs.declared.book.Told.{Told}
+use Rattle.ls_live.specs.declared.book.Told.TheVariants as told
 
 -- how many steps were recorded
 abbrev pub done_by : More → ℕ

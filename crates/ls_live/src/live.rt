@@ -3,19 +3,18 @@
 ghost use Rattle.ls_image.specs.Images.{code_of_image};
 ghost use Rattle.ls_code.specs.Machine.{loaded};
 ghost use Rattle.ls_live.specs.Seats.{done_by, seat_after};
-ghost use Rattle.ls_live_book.specs.Seats.{Seat as SeatValue, agrees, seat_of};
-ghost use Rattle.ls_live_book.specs.declared.book.Told.TheVariants.{Nothing};
+ghost use Rattle.ls_live.specs.BookSeats.{Seat as SeatValue, agrees, seat_of};
+ghost use Rattle.ls_live.specs.declared.book.Told.TheVariants.{Nothing};
 ghost use Rattle.ls_machine.specs.Room.{AreBadCells};
 ghost use Rattle.std.specs.List.{list_all};
-ghost use Rattle.std.specs.Prelude.{◌≡◌, ◌↔◌, ℕ, ◌+◌, ◌≤◌, ◌<◌, ◌^◌, length, sum_by, IfOk, IfErr, IsErrOf, IsTrue};
+ghost use Rattle.std.specs.Prelude.{◌≡◌, ◌↔◌, ℕ, ◌+◌, ◌≤◌, ◌<◌, ◌^◌, length, sum_by, IfOk, IfErr, IsErrOf};
 ghost use Rattle.std.specs.Prelude.{slice_get, Some, true, vec_len, vec_capacity};
 
 use crate::fault::LiveFault;
-use ls_code::code::Code;
+use crate::{Book, More, Session, Told};
 use ls_events::schedule::MOST_STEPS;
 use ls_image::image::Image;
-use ls_live_book::{Book, More, Session, Told};
-use ls_machine::{LoadFault, MOST_CELLS, Machine};
+use ls_machine::{LoadFault, Machine, are_bad_cells};
 use ls_schedule::Record;
 use std::alloc::Global;
 use std::marker::Model;
@@ -111,13 +110,6 @@ impl<L: Session> Seat<L> {
     {
         self.told
     }
-}
-
-// Whether no machine of the code has this many cells.
-fn are_bad_cells(code: &Code, cells: usize) -> bool
-    ensures { IsTrue result ↔ AreBadCells code.now.names cells }
-{
-    cells == 0 || cells > MOST_CELLS || cells < code.names()
 }
 
 // The machine of an image.

@@ -5,7 +5,7 @@ ghost use Rattle.ls_code.specs.Machine.{loaded};
 ghost use Rattle.ls_image.specs.Images.{code_of_image};
 ghost use Rattle.ls_live.specs.Records.{AreThere, IsDone};
 ghost use Rattle.ls_live.specs.declared.fault.LiveFault.TheVariants.{BadCells, BadLimit};
-ghost use Rattle.ls_live_book.specs.Due.{AreDue};
+ghost use Rattle.ls_live.specs.Due.{AreDue};
 ghost use Rattle.ls_machine.specs.Room.{AreBadCells};
 ghost use Rattle.ls_schedule.specs.Records.{IsRecordOf, scheduled};
 ghost use Rattle.std.specs.Prelude.{◌≡◌, ◌↔◌, ◌<◌, ◌≤◌, length, IfOk, IsErrOf};
@@ -13,8 +13,8 @@ ghost use Rattle.std.specs.Prelude.{◌≡◌, ◌↔◌, ◌<◌, ◌≤◌, le
 use crate::fault::PlayFault;
 use crate::live::{CloseFault, Live};
 use crate::running::run_live;
+use crate::{Gate, Session};
 use ls_image::image::Image;
-use ls_live_book::{Gate, Session};
 use ls_schedule::Record;
 use std::alloc::{AllocError, Global};
 use std::marker::Brand;

@@ -5,7 +5,7 @@ ghost use Rattle.std.specs.List.{list_all};
 ghost use Rattle.std.specs.Prelude.{◌≡◌, true, length, IfOk, IfErr};
 
 use crate::live::{Live, Seat};
-use ls_live_book::{Gate, More, Session, Told};
+use crate::{Gate, More, Session, Told};
 use std::sync::Wait;
 use std::thread;
 use std::thread::Threads;

@@ -2,9 +2,9 @@
 
 use crate::texts::{STEPPER, TWO_STEP};
 use crate::turnstile_seats::opened;
-use ls_following::{FollowFault, OpenGate, follow_tape};
 use ls_image::image::Image;
 use ls_lent_images::with_image;
+use ls_live::{FollowFault, OpenGate, follow_tape};
 use std::alloc::Global;
 use std::sync::Wait;
 use std::test::Fail;

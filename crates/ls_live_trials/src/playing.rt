@@ -2,9 +2,9 @@
 
 use crate::gate::AtMeeting;
 use crate::texts::{STEPPER, TWO_ADD, TWO_STEP};
-use ls_following::{FollowFault, Gate, OpenGate, TapeFault, play_turns};
 use ls_image::image::Image;
 use ls_lent_images::{Meeting, with_image};
+use ls_live::{FollowFault, Gate, OpenGate, TapeFault, play_turns};
 use ls_schedule::{Record, read_schedule};
 use ls_stored_classes::LAZY;
 use std::alloc::Global;

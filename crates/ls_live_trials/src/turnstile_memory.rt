@@ -1,15 +1,15 @@
 // Steps while all further memory is refused. They answer as they do with enough memory.
 
-ghost use Rattle.ls_turnstile.specs.Turns.{IsSeatOf};
+ghost use Rattle.ls_live.specs.Turns.{IsSeatOf};
 ghost use Rattle.std.specs.Prelude.{All};
 
 use crate::texts::{STEPPER, TWO_STEP};
 use crate::turnstile_seats::{CELLS, key, opened, step};
 use ls_image::image::Image;
 use ls_lent_images::{Hoard, with_image};
+use ls_live::{TurnSeat, Turnstile};
 use ls_machine::LoadFault;
 use ls_schedule::read_schedule;
-use ls_turnstile::{TurnSeat, Turnstile};
 use std::alloc::Global;
 use std::test::Fail;
 

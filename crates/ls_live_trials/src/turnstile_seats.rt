@@ -1,14 +1,14 @@
 // Seats that one thread drives.
 
-ghost use Rattle.ls_turnstile.specs.Turns.{IsSeatOf};
+ghost use Rattle.ls_live.specs.Turns.{IsSeatOf};
 ghost use Rattle.std.specs.Prelude.{All, IfOk};
 
 use crate::texts::{STEPPER, TWO_STEP};
 use ls_code::step::Did;
 use ls_image::image::Image;
 use ls_lent_images::with_image;
+use ls_live::{Turn, TurnSeat, Turnstile};
 use ls_schedule::read_schedule;
-use ls_turnstile::{Turn, TurnSeat, Turnstile};
 use std::alloc::Global;
 use std::test::Fail;
 

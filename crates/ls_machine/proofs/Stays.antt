@@ -13,7 +13,7 @@ use Rattle.ls_code.specs.Events.{events_of}
 use Rattle.ls_code.specs.Frame.{Frame}
 use Rattle.ls_code.specs.Thread.{Thread, with_top}
 use Rattle.ls_code.specs.Moves.{FrameMove, Next, Throws, Stuck, Asks as FrameAsks, Beyond, frame_move}
-use Rattle.ls_code.specs.Steps.{Silent, Outcome, outcome_of, performed, fetched_move, of_frame}
+use Rattle.ls_code.specs.Steps.{Silent, StepResult, step_result, performed, fetched_move, of_frame}
 use Rattle.ls_code.specs.Machine.{Machine, is_due, is_running, stops, after, Stepped, stepped_by, machine_step}
 use Rattle.ls_code.specs.Machine.{machine_run, open_step, due_step, step_of}
 use Rattle.ls_code.specs.declared.instruction.Instruction.{Instruction}
@@ -68,7 +68,7 @@ pub one_step :
     → IsUnseenStep m.code n old new m.cells c'
     → (machine_step m n).machine ≡ standing_at m n new.thread c'
 one_step m n old new c' there runs due step =
-    let o : Outcome = outcome_at m.code n old m.cells in
+    let o : StepResult = outcome_at m.code n old m.cells in
     let found : machine_step m n ≡ stepped_by (after m n o) o.did = ap (step_of m n) there ∙
     (ap (open_step m n old.thread) runs ∙ ap (due_step m n old.thread) due) in
     let is : after m n o ≡ standing_at m n o.thread o.cells = machine_after m n o.thread o.cells (stops o.did)
@@ -145,7 +145,7 @@ module _ (p : Code) (n count total : ℕ) (old mid new : KeptThread) (c c1 c2 : 
 
     pub stays_more : Stays p n total old new c c2
     stays_more =
-        let o : Outcome = outcome_at p n mid c1 in
+        let o : StepResult = outcome_at p n mid c1 in
         let keeps = step_keeps p mid.thread c1 n in
         let thread : new.thread ≡ o.thread = ap (λ (k : KeptThread). k.thread) step.came.0 in
         record {
@@ -185,11 +185,11 @@ silent_step :
     → moved p.instructions (Some k.thread.top) ≡ Some f
     → IsUnseenStep p n k (keeping_thread k (with_top k.thread f)) c c
 silent_step p n k f c h =
-    let is : outcome_at p n k c ≡ outcome_of (with_top k.thread f) c did.Silent = ap (performed c n k.thread)
+    let is : outcome_at p n k c ≡ step_result (with_top k.thread f) c did.Silent = ap (performed c n k.thread)
     (fetched_next p k.thread f _ h) in
     record {
-      came = (ap (λ (o : Outcome). keeping_thread k o.thread) (sym is), ap (λ (o : Outcome). o.cells) (sym is), refl);
-      unseen = subst IsUnseen (ap (λ (o : Outcome). o.did) (sym is)) silent_unseen;
+      came = (ap (λ (o : StepResult). keeping_thread k o.thread) (sym is), ap (λ (o : StepResult). o.cells) (sym is), refl);
+      unseen = subst IsUnseen (ap (λ (o : StepResult). o.did) (sym is)) silent_unseen;
       left = omega arith;
     }
 

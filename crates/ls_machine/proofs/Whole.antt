@@ -14,7 +14,7 @@ use Rattle.ls_machine.specs.Takes.{IsUnseen, TakesEvents}
 use Rattle.ls_code.specs.Cells.{Cells}
 use Rattle.ls_code.specs.Events.{events_of}
 use Rattle.ls_code.specs.Moves.{frame_move}
-use Rattle.ls_code.specs.Steps.{Outcome, performed, thread_move, fetched_move, of_frame}
+use Rattle.ls_code.specs.Steps.{StepResult, performed, thread_move, fetched_move, of_frame}
 use Rattle.ls_code.specs.declared.instruction.Instruction.{Instruction}
 use Rattle.ls_code.specs.Machine.{Machine, is_due, stops, after, Stepped, stepped_by, machine_step, open_step, due_step}
 use Rattle.ls_code.specs.Machine.{step_of}
@@ -23,7 +23,7 @@ use Rattle.ls_code.specs.declared.step.Did.TheVariants as did
 use Rattle.ls_events.specs.declared.event.Event.{Event}
 
 -- after a step of thread n the memory is there again
-pub memory_kept : (p : Code) (ts : List KeptThread) (events limit n : ℕ) (k : KeptThread) (o : Outcome) (c : Cells)
+pub memory_kept : (p : Code) (ts : List KeptThread) (events limit n : ℕ) (k : KeptThread) (o : StepResult) (c : Cells)
     (d : Did) →
     n < length ts →
     HasMemory p ts events limit →
@@ -41,7 +41,7 @@ memory_kept p ts events limit n k o c d h m came takes =
       events_fit = let e = m.events_fit in omega (arith, sums, takes, e);
     }
 
-stepped_is : (m : Machine) (n : ℕ) (o : Outcome) (threads : List Thread) (c : Cells) (d : Did) →
+stepped_is : (m : Machine) (n : ℕ) (o : StepResult) (threads : List Thread) (c : Cells) (d : Did) →
     set m.threads n o.thread ≡ threads →
     o.cells ≡ c →
     o.did ≡ d →
@@ -74,7 +74,7 @@ step_due m n ts k c d h list runs due came =
     let found : slice_get m.threads n ≡ Some t = ap (λ xs. slice_get xs n) list ∙
     slice_get-map (λ (x : KeptThread). x.thread) ts n ∙
     ap (option_map (λ (x : KeptThread). x.thread)) (slice_get-get_or ts n no_thread h) in
-    let o : Outcome = performed m.cells n t (thread_move m.code t) in
+    let o : StepResult = performed m.cells n t (thread_move m.code t) in
     let same : k.thread ≡ o.thread = ap (λ (x : KeptThread). x.thread) came.0 in
     let threads : set m.threads n o.thread ≡ map (λ (x : KeptThread). x.thread) (set ts n k) = ap
     (λ xs. set xs n o.thread) list ∙ (ap (set (map (λ (x : KeptThread). x.thread) ts) n) (sym same) ∙
@@ -86,7 +86,7 @@ step_due m n ts k c d h list runs due came =
     stepped_is m n o (map (λ (x : KeptThread). x.thread) (set ts n k)) c d threads cells did))
 
 -- after a step of thread n that is unseen the memory is there again
-pub memory_unseen : (p : Code) (ts : List KeptThread) (events limit n : ℕ) (k : KeptThread) (o : Outcome) (c : Cells)
+pub memory_unseen : (p : Code) (ts : List KeptThread) (events limit n : ℕ) (k : KeptThread) (o : StepResult) (c : Cells)
     (d : Did) →
     n < length ts →
     HasMemory p ts events limit →

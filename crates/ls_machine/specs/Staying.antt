@@ -4,7 +4,7 @@ use Rattle.ls_code.specs.Cells.{Cells}
 use Rattle.ls_code.specs.Code.{Code}
 use Rattle.ls_code.specs.Thread.{Thread}
 use Rattle.ls_code.specs.Machine.{Machine, machine_run, is_due}
-use Rattle.ls_code.specs.Steps.{Outcome, performed, thread_move}
+use Rattle.ls_code.specs.Steps.{StepResult, performed, thread_move}
 use Rattle.ls_machine_threads.specs.Memory.{KeptThread, keeping_thread, events_left}
 use Rattle.ls_machine.specs.Outcomes.{Came}
 use Rattle.ls_machine.specs.Takes.{IsUnseen}
@@ -19,7 +19,7 @@ abbrev pub standing_at : Machine → ℕ → Thread → Cells → Machine
 standing_at m n t c = record m { threads = slice_set m.threads n t; cells = c }
 
 -- a step of thread n that is no event and doesn't stop the machine
-abbrev pub outcome_at : Code → ℕ → KeptThread → Cells → Outcome
+abbrev pub outcome_at : Code → ℕ → KeptThread → Cells → StepResult
 outcome_at p n t c = performed c n t.thread (thread_move p t.thread)
 
 pub record IsUnseenStep (p : Code) (n : ℕ) (old new : KeptThread) (c c' : Cells) : Type 0 where

@@ -13,4 +13,4 @@ mod steps;
 pub use fault::LoadFault;
 pub use ls_code::lock_word::{lock_word, unlock_word};
 pub use machine::saving::{Interner, Saved};
-pub use machine::{MOST_CELLS, Machine};
+pub use machine::{MOST_CELLS, Machine, are_bad_cells};

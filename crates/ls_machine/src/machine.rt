@@ -1,10 +1,10 @@
 // The parallel machine.
 
-ghost use Rattle.std.specs.Prelude.{◌≡◌, ℕ, ◌+◌, ◌<◌, ◌≤◌, ◌^◌, ◌++◌, ◌↔◌, List, [], length, map, slice_get, slice_index_or, vec_len, vec_capacity, IfOk, IsErrOf, ◌*◌, IsTrue};
+ghost use Rattle.std.specs.Prelude.{◌≡◌, ◌+◌, ◌<◌, ◌≤◌, ◌^◌, ◌++◌, ◌↔◌, [], length, map, slice_get, slice_index_or, vec_len, vec_capacity, IfOk, IsErrOf, ◌*◌, IsTrue};
 ghost use Rattle.std.specs.List.{All, sum_by};
 ghost use Rattle.ls_code.specs.Limits.{most_cells};
 ghost use Rattle.ls_code.specs.Events.{events_of, result_of, result_value};
-ghost use Rattle.ls_code.specs.Machine.{loaded, machine_step, machine_run, machine_state, setup_ended, is_due as due};
+ghost use Rattle.ls_code.specs.Machine.{loaded, machine_step, machine_state, setup_ended, is_due as due};
 ghost use Rattle.ls_machine.specs.Back.{all_back};
 ghost use Rattle.ls_machine_threads.specs.Memory.{no_thread, started_kept};
 ghost use Rattle.ls_machine.specs.Room.{AreBadCells};
@@ -16,7 +16,6 @@ use ls_code::code::{CallResult, Code, Method, Start};
 use ls_code::step::{Did, Mode, ThreadState, is_stop};
 use ls_events::action::Action;
 use ls_events::event::{Event, Happening};
-use ls_events::schedule::Schedule;
 use ls_events::value::Value;
 use ls_machine_moves::cells::Cells;
 use ls_machine_moves::words;
@@ -29,6 +28,13 @@ pub mod saving;
 
 /// The most cells of a machine.
 pub const MOST_CELLS: usize = 4_194_304;
+
+/// Whether no machine of the code has so many cells.
+pub fn are_bad_cells(code: &Code, cells: usize) -> bool
+    ensures { IsTrue result ↔ AreBadCells code.now.names cells }
+{
+    cells == 0 || cells > MOST_CELLS || cells < code.names()
+}
 
 /// A machine that runs code, with all the memory that any run of it takes.
 #[derive(Drop)]
@@ -60,7 +66,7 @@ impl Machine {
         ensures bad { IsErrOf result LoadFault.BadCells ↔ AreBadCells code.now.names cells }
         ensures loaded { IfOk result (λ m. m ≡ loaded code.now cells) }
     {
-        if cells == 0 || cells > MOST_CELLS || cells < code.names() {
+        if are_bad_cells(code, cells) {
             return Err(LoadFault::BadCells);
         }
         let machine = load_all(alloc, code, cells)?;
@@ -115,17 +121,7 @@ impl Machine {
         ensures machine { self.new ≡ (machine_step self.old number).machine }
         ensures did { result ≡ (machine_step self.old number).did }
     {
-        if number >= self.threads.len() {
-            return Did::Idle;
-        }
-        if self.stopped {
-            return Did::Stopped;
-        }
-        if !is_due(&self.threads, number) {
-            return Did::Idle;
-        }
-        let thread = &mut self.threads[number];
-        if steps::move_silently(&self.code, thread) {
+        if self.moves_silently(number) {
             return Did::Silent;
         }
         self.acting_step(number)

@@ -3,29 +3,7 @@
 ghost use Rattle.std.specs.Prelude.{◌≡◌, IsTrue};
 
 use ls_events::event::{Event, Happening};
-use ls_events::value::Value;
-
-/// Whether a value is the other. True only where it is.
-fn is_same_value(value: Value, other: Value) -> bool
-    ensures { IsTrue result → value ≡ other }
-{
-    match (value, other) {
-        (Value::Int(a), Value::Int(b)) => a == b,
-        (Value::Boolean(a), Value::Boolean(b)) => a == b,
-        (Value::Reference(a), Value::Reference(b)) => a == b,
-        (
-            Value::Pair {
-                reference: a,
-                mark: m,
-            },
-            Value::Pair {
-                reference: b,
-                mark: n,
-            },
-        ) => a == b && m == n,
-        _ => false,
-    }
-}
+use ls_events::same::is_same_value;
 
 /// Whether what happened is the other. True only where it is.
 fn is_same_happening(happening: Happening, other: Happening) -> bool

@@ -1,10 +1,16 @@
 -- Steps that act, and states in which no thread acts.
-use Rattle.std.specs.Prelude.{ℕ}
+use Rattle.std.specs.Prelude.{ℕ, Bool, true, false}
 use Rattle.ls_checked.specs.CheckedTree.{File}
 use Rattle.ls_checked.specs.CheckedProgram.{Program}
 use Rattle.ls_meaning.specs.declared.step.Did.{Did}
 use Rattle.ls_meaning.specs.declared.step.Did.TheVariants as did
 use Rattle.ls_meaning.specs.Runs.{State, step}
+
+-- whether a step acted
+abbrev pub has_acted : Did → Bool
+has_acted (did.Acted action answer) = true
+has_acted did.Waits = false
+has_acted did.Idle = false
 
 abbrev pub IsActing : Did → Type 0
 IsActing (did.Acted action answer) = Unit {0}

@@ -1,5 +1,8 @@
 // What a thread of a run asks for, and what a step of it does.
 
+ghost use Rattle.std.specs.Prelude.{◌≡◌, true, false};
+ghost use Rattle.ls_meaning.specs.Still.{IsActing, IsStill, has_acted};
+
 use ls_events::action::{Action, Answer};
 use ls_events::value::Value;
 use std::alloc::AllocError;
@@ -33,5 +36,17 @@ pub enum Did {
 impl Clone for Did {
     fn clone(&self) -> Result<Did, AllocError> {
         Ok(*self)
+    }
+}
+
+/// Whether a step acted.
+pub fn has_acted(did: Did) -> bool
+    ensures is { result ≡ has_acted did }
+    ensures acts { result ≡ true → IsActing did }
+    ensures still { result ≡ false → IsStill did }
+{
+    match did {
+        Did::Acted(_, _) => true,
+        Did::Waits | Did::Idle => false,
     }
 }

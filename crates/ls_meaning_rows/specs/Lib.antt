@@ -1,8 +1,11 @@
 pub mod Made
 pub mod Worked
+pub mod DeepCalls
 pub mod Lists
 pub mod Order
+pub mod ArrayOrder
 pub mod Markables
+pub mod MarkableResults
 pub mod Operators
 pub mod Comparisons
 pub mod Completions

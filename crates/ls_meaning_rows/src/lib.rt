@@ -2,10 +2,13 @@
 //! compute exactly these traces. Each clause is one program with its schedule.
 #![tactic(auto)]
 
-ghost use Rattle.ls_meaning_rows.specs.Worked.{UpdateLost, ValueBeforeFinally, ReturnOverThrow, FinallyBeforeTrap, GetWithAnEmptyArray, GetBeforeItsTrap, SixtyFourCalls, HeldTwice};
+ghost use Rattle.ls_meaning_rows.specs.Worked.{UpdateLost, ValueBeforeFinally, ReturnOverThrow, FinallyBeforeTrap, GetWithAnEmptyArray, GetBeforeItsTrap, HeldTwice};
+ghost use Rattle.ls_meaning_rows.specs.DeepCalls.{SixtyFourCalls};
 ghost use Rattle.ls_meaning_rows.specs.Lists.{LazyList};
-ghost use Rattle.ls_meaning_rows.specs.Order.{TargetNullAfterArguments, FieldNullAfterValue, MethodArguments, Operands, ConstructorArguments, AndLeftFalse, AndLeftTrue, OrLeftTrue, OrLeftFalse, ArrayNullAfterIndex, ArrayIndexValue, ArrayNullAfterValue, NegativeIndex, NegativeLength, IndexAtTheLength};
-ghost use Rattle.ls_meaning_rows.specs.Markables.{ArgumentsOfTheMaking, ArgumentsOfSet, ArgumentsOfAttemptMark, ArgumentsOfCompareAndSet, NullTargetAfterArguments, NullTargetOfGetAfterItsArray, NullArrayOfGetAfterTheRead, GetWithTwoElements, ExpectedMarkIsWrong, ExpectedReferenceIsWrong, ExchangeSetsBoth, AttemptOfTheSameMark};
+ghost use Rattle.ls_meaning_rows.specs.Order.{TargetNullAfterArguments, FieldNullAfterValue, MethodArguments, Operands, ConstructorArguments, AndLeftFalse, AndLeftTrue, OrLeftTrue, OrLeftFalse};
+ghost use Rattle.ls_meaning_rows.specs.ArrayOrder.{ArrayNullAfterIndex, ArrayIndexValue, ArrayNullAfterValue, NegativeIndex, NegativeLength, IndexAtTheLength};
+ghost use Rattle.ls_meaning_rows.specs.Markables.{ArgumentsOfTheMaking, ArgumentsOfSet, ArgumentsOfAttemptMark, ArgumentsOfCompareAndSet, NullTargetAfterArguments, NullTargetOfGetAfterItsArray, NullArrayOfGetAfterTheRead};
+ghost use Rattle.ls_meaning_rows.specs.MarkableResults.{GetWithTwoElements, ExpectedMarkIsWrong, ExpectedReferenceIsWrong, ExchangeSetsBoth, AttemptOfTheSameMark};
 ghost use Rattle.ls_meaning_rows.specs.Comparisons.{Less, LessOrEqual, Greater, GreaterOrEqual, Equal, NotEqual, References, Booleans};
 ghost use Rattle.ls_meaning_rows.specs.Operators.{Quotients, Remainders, Sums, Differences, Products, QuotientByZero, RemainderByZero, OppositeOfTheLeastInt};
 ghost use Rattle.ls_meaning_rows.specs.Completions.{LocalsSetInFinally, LocalResetAtEachDeclaration, ReturnOverReturn, ReturnOverBreak, BreakOverReturn, ThrowOverReturn, ThrowOverThrow, ContinueOutOfATry, OuterLoops, NestedFinallyBlocksInOrder, ReturnEndsABlock, ReturnWithoutAValue, ElseBranch};

@@ -3,7 +3,7 @@
 use ls_events::event::{Event, Happening};
 use ls_events::value::Value;
 use ls_observers::observer::Observer;
-use ls_rests_observer::RestsObserver;
+use ls_source_judge::RestsObserver;
 use std::alloc::{AllocError, Global};
 use std::test::Fail;
 

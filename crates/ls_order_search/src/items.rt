@@ -10,7 +10,7 @@ ghost use Rattle.ls_order_search.specs.Search.{CallsOf, NoOrder, NoWay, Settled,
 ghost use Rattle.ls_order_search.specs.Search.{on_items, stays};
 ghost use Rattle.ls_order_search.specs.Trapped.{is_trapped};
 
-use crate::search::search;
+use crate::searching::search;
 use crate::trying::{is_trapped, tries};
 use ls_orders::calls::SetCall;
 use ls_orders::places::{is_marked, mark};

@@ -11,7 +11,7 @@ mod opening;
 mod places;
 mod pool;
 pub mod printing;
-mod search;
+mod searching;
 pub mod telling;
 mod trapped;
 mod trying;

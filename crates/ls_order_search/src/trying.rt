@@ -4,7 +4,7 @@ ghost use Rattle.std.specs.Prelude.{◌≡◌, ◌++◌, IfNone, IfOk, IfSome};
 ghost use Rattle.ls_order_search.specs.Search.{Lasting, NoWay, Rising, Way, Within};
 ghost use Rattle.ls_order_search.specs.Trapped.{is_trapped};
 
-use crate::search::search;
+use crate::searching::search;
 use ls_orders::calls::{End, SetCall};
 use std::alloc::{AllocError, Global};
 

@@ -5,3 +5,9 @@ pub mod Changes
 pub mod SeenChanges
 pub mod Filling
 pub mod Data
+pub mod Setup
+pub mod Lists
+pub mod Numbers
+pub mod States
+pub mod ChoicesData
+pub mod Tabled

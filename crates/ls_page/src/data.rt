@@ -14,7 +14,7 @@ use crate::quoted::push_quoted;
 use ls_labels::names::Names;
 use ls_report::print_history;
 use ls_source::run::play;
-use ls_state::state::state;
+use ls_state::state;
 use std::alloc::{AllocError, Global};
 use std::fmt::Write;
 

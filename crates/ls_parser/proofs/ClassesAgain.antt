@@ -23,8 +23,10 @@ use Rattle.ls_parser.proofs.OntoClasses.{onto_parameters, onto_result, onto_lock
 use Rattle.ls_parser.proofs.OntoClasses.{member_longer, onto_class_tree, class_longer, onto_part, part_longer}
 use Rattle.ls_parser.proofs.OntoClasses.{onto_dotted, onto_import, import_longer, onto_header, onto_file}
 use Rattle.ls_parser_declarations.proofs.DeclarationsRead.{Anything}
-use Rattle.ls_parser_statements.proofs.StatementsAgain.{anything, modifiers_complete, type_complete, type_no_modifier}
-use Rattle.ls_parser_statements.proofs.StatementsAgain.{declarators_complete, block_complete, modifiers_brace}
+use Rattle.ls_parser_statements.proofs.DeclarationsAgain.{anything, modifiers_complete, type_complete, type_no_modifier}
+use Rattle.ls_parser_statements.proofs.DeclarationsAgain.{declarators_complete}
+use Rattle.ls_parser_statements.proofs.StatementBeginnings.{modifiers_brace}
+use Rattle.ls_parser_statements.proofs.StatementsAgain.{block_complete}
 use Rattle.ls_parser.proofs.ClassesRead.{FormedClass}
 
 abbrev Always : List Lexeme → Type 0

@@ -16,8 +16,8 @@ use Rattle.ls_parser_spelling.specs.Spells.{TextSpells}
 use Rattle.ls_tree.specs.FileView.{bare_file}
 use Rattle.ls_tree.specs.PlacedStatements.{placed_file}
 use Rattle.ls_tree.specs.declared.tree.ClassFile.{ClassFile}
-use Rattle.ls_parser_placing.specs.Files.{IsFileOf}
-use Rattle.ls_parser_placing.proofs.Views.{is_file_of}
+use Rattle.ls_parser_spelling.specs.Files.{IsFileOf}
+use Rattle.ls_parser_spelling.proofs.Views.{is_file_of}
 use Rattle.ls_parser_tokens.specs.Reading.{many_at}
 use Rattle.ls_parser_expressions.proofs.Lists.{many_sound, onto_all_spells}
 use Rattle.ls_parser_declarations.proofs.DeclarationsRead.{Anything}

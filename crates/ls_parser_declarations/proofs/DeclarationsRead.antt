@@ -23,7 +23,8 @@ use Rattle.ls_parser_expressions.proofs.Shrinks.{Shrinks}
 use Rattle.ls_parser_expressions.proofs.Lists.{onto_all, SoundItem, many_sound}
 use Rattle.ls_parser_declarations.proofs.OntoDeclarations.{onto_modifier, modifier_longer, onto_type, onto_declarator}
 use Rattle.ls_parser_declarations.proofs.OntoDeclarations.{declarator_longer, onto_next_declarator, onto_declaration}
-use Rattle.ls_parser_expressions.proofs.ExpressionsRead.{expression_sound, class_reads}
+use Rattle.ls_parser_expressions.proofs.ChainsRead.{class_reads}
+use Rattle.ls_parser_expressions.proofs.ExpressionsRead.{expression_sound}
 
 abbrev cons : Lexeme → List Lexeme → List Lexeme
 cons k ks = k ∷ ks

@@ -8,5 +8,11 @@ pub mod Posts
 pub mod Rows
 pub mod PlacedRows
 pub mod Places
+pub mod ChainsRead
+pub mod SuffixesRead
+pub mod PrimariesRead
 pub mod ExpressionsRead
+pub mod ExpressionEdges
+pub mod ChainsAgain
+pub mod SuffixesAgain
 pub mod ExpressionsAgain

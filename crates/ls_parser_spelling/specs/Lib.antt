@@ -4,3 +4,7 @@ pub mod Kinds
 pub mod Places
 pub mod StatementPlaces
 pub mod FilePlaces
+pub mod Unplaced
+pub mod Outlines
+pub mod Files
+pub mod Laws

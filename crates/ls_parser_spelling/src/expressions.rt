@@ -107,10 +107,7 @@ pub fn put_expression<'a>(out: &mut Vec<TokenKind<'a>>, e: &'a Expression) -> Re
             name,
             arguments,
             ..
-        } => {
-            put_call(out, target, name, arguments)?;
-            Ok(())
-        }
+        } => put_call(out, target, name, arguments),
         Expression::Item { array, index, .. } => {
             put_expression(out, array)?;
             put_between(out, Sign::OpenBracket, index, Sign::CloseBracket)
@@ -119,18 +116,12 @@ pub fn put_expression<'a>(out: &mut Vec<TokenKind<'a>>, e: &'a Expression) -> Re
             class,
             arguments,
             ..
-        } => {
-            put_made(out, class, arguments)?;
-            Ok(())
-        }
+        } => put_made(out, class, arguments),
         Expression::NewMarkable {
             class,
             arguments,
             ..
-        } => {
-            put_made_markable(out, class, arguments)?;
-            Ok(())
-        }
+        } => put_made_markable(out, class, arguments),
         Expression::NewArray { length, .. } => {
             put_word(out, Word::New)?;
             put_word(out, Word::Boolean)?;

@@ -93,20 +93,14 @@ fn put_statement<'a>(out: &mut Vec<TokenKind<'a>>, s: &'a Statement) -> Result<(
         spell_statement (bare_statement s.now)) }
 {
     match s {
-        Statement::Block(block) => {
-            put_block(out, &block.items)?;
-            Ok(())
-        }
+        Statement::Block(block) => put_block(out, &block.items),
         Statement::Empty(_) => put_sign(out, Sign::Semicolon),
         Statement::If {
             condition,
             then,
             otherwise,
             ..
-        } => {
-            put_if(out, condition, then, otherwise)?;
-            Ok(())
-        }
+        } => put_if(out, condition, then, otherwise),
         Statement::While {
             label,
             condition,
@@ -124,14 +118,8 @@ fn put_statement<'a>(out: &mut Vec<TokenKind<'a>>, s: &'a Statement) -> Result<(
         Statement::Break { label, .. } => put_jump(out, Word::Break, label),
         Statement::Continue { label, .. } => put_jump(out, Word::Continue, label),
         Statement::Return { value, .. } => put_return(out, value),
-        Statement::Try { body, finally, .. } => {
-            put_try(out, &body.items, &finally.items)?;
-            Ok(())
-        }
-        Statement::Synchronized { target, body, .. } => {
-            put_synchronized(out, target, &body.items)?;
-            Ok(())
-        }
+        Statement::Try { body, finally, .. } => put_try(out, &body.items, &finally.items),
+        Statement::Synchronized { target, body, .. } => put_synchronized(out, target, &body.items),
         Statement::Simple { simple, .. } => {
             put_simple(out, simple)?;
             put_sign(out, Sign::Semicolon)

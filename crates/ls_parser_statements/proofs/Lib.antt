@@ -4,7 +4,10 @@ pub mod StatementSteps
 pub mod SimplesRead
 pub mod SimplesAgain
 pub mod SimplePlaces
+pub mod HeadsRead
 pub mod StatementsRead
+pub mod DeclarationsAgain
+pub mod StatementBeginnings
 pub mod StatementsAgain
 pub mod PlacedRows
 pub mod Places

@@ -16,9 +16,9 @@ use Rattle.ls_parser_declarations.specs.ReadingDeclarations.{starts_declaration}
 use Rattle.ls_parser_statements.specs.ReadingStatements.{label_at, counted_at, simple_from, simple_at, simples_to}
 use Rattle.ls_parser_expressions.proofs.Onto.{onto, onto_expressions}
 use Rattle.ls_parser_expressions.proofs.Lists.{onto_all, many_from_complete}
-use Rattle.ls_parser_expressions.proofs.ExpressionsAgain.{Follow, follow_close, follow_comma, follow_semicolon}
-use Rattle.ls_parser_expressions.proofs.ExpressionsAgain.{follow_assign, post_head, no_semicolon, expression_complete}
-use Rattle.ls_parser_expressions.proofs.ExpressionsAgain.{post_complete}
+use Rattle.ls_parser_expressions.proofs.ExpressionEdges.{Follow, follow_close, follow_comma, follow_semicolon}
+use Rattle.ls_parser_expressions.proofs.ExpressionEdges.{follow_assign, post_head, no_semicolon}
+use Rattle.ls_parser_expressions.proofs.ExpressionsAgain.{expression_complete, post_complete}
 use Rattle.ls_parser_statements.proofs.OntoStatements.{onto_simple, onto_next_simple, onto_simples, next_simple_longer}
 use Rattle.ls_parser_statements.proofs.SimplesRead.{FormedSimple}
 

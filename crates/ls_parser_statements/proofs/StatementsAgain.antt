@@ -1,290 +1,40 @@
--- Declarations and statements: what is well-formed is read again.
-use Rattle.std.proofs.Common.{◌≡◌, ℕ, zero, suc, ◌+◌, ◌≤◌, Bool, true, false, List, [], ◌∷◌, Option, Some, None, refl}
-use Rattle.std.proofs.Common.{sym, ap, ◌∙◌, arith}
+-- Statements: what is well-formed is read again.
+use Rattle.std.proofs.Common.{◌≡◌, ℕ, zero, suc, ◌+◌, ◌≤◌, true, false, List, [], ◌∷◌, Option, Some, None, refl, sym}
+use Rattle.std.proofs.Common.{ap, ◌∙◌, arith}
 use Rattle.std.specs.List.{AllByRecursion}
-use Rattle.std.specs.Prelude.{◌&&◌, ◌||◌}
 use Rattle.ls_lexer.specs.declared.sign.Sign.TheVariants as signs
 use Rattle.ls_lexer.specs.declared.word.Word.TheVariants as words
-use Rattle.ls_lexer.specs.Lexemes.{Lexeme, Named, Reserved, Marked}
-use Rattle.ls_tree.specs.Trees.{Text, Expression, Number, True, False, Null, This, Name, Paren, Unary, Binary, Field}
-use Rattle.ls_tree.specs.Trees.{Call, CallOn, Item, New, NewMarkable, NewArray, Modifier, Public, Protected, Private}
-use Rattle.ls_tree.specs.Trees.{Final, Volatile, Annotation, TypeName, Int, Boolean, BooleanArray, Class, Markable}
-use Rattle.ls_tree.specs.Trees.{Declarator, Declaration, Simple, Statement, Block, Empty, If, IfElse, While, For}
+use Rattle.ls_lexer.specs.Lexemes.{Lexeme, Reserved, Marked}
+use Rattle.ls_tree.specs.Trees.{Text, Expression, Declaration, Simple, Statement, Block, Empty, If, IfElse, While, For}
 use Rattle.ls_tree.specs.Trees.{Break, Continue, Return, Try, Perform, Synchronized, Assign, Add, Count, Evaluate}
 use Rattle.ls_tree.specs.Trees.{Opening, Declares, Performs, Items, NoItem, Do, Declare, Piece, Doing, Declaring}
 use Rattle.ls_tree.specs.Trees.{collected}
-use Rattle.ls_tree.specs.WellFormed.{WellFormed, is_post, expression_height, value_height, declarators_height}
-use Rattle.ls_tree.specs.WellFormed.{declaration_height, simple_height, simples_height, opening_height}
-use Rattle.ls_tree.specs.WellFormed.{statement_height, items_height, ends_open, WellFormedValue}
-use Rattle.ls_tree.specs.WellFormed.{WellFormedDeclaration, WellFormedSimple, WellFormedSimples, WellFormedOpening}
-use Rattle.ls_tree.specs.WellFormed.{WellFormedStatement, WellFormedItems}
-use Rattle.ls_parser_tokens.specs.Reading.{Reader, after_sign, after_word, name_at, not_yet, many_at, behind_comma}
-use Rattle.ls_parser_expressions.specs.ReadingExpressions.{is_markable, expression_at, post_at}
-use Rattle.ls_parser_declarations.specs.ReadingDeclarations.{starts_modifier, modifier_at, modifiers_at, type_at}
-use Rattle.ls_parser_declarations.specs.ReadingDeclarations.{declarator_at, declarators_at, declaration_at}
-use Rattle.ls_parser_declarations.specs.ReadingDeclarations.{starts_type, named_declaration, starts_declaration}
+use Rattle.ls_tree.specs.WellFormed.{WellFormed, is_post, expression_height, value_height, declaration_height}
+use Rattle.ls_tree.specs.WellFormed.{simple_height, simples_height, opening_height, statement_height, items_height}
+use Rattle.ls_tree.specs.WellFormed.{ends_open, WellFormedValue, WellFormedDeclaration, WellFormedSimple}
+use Rattle.ls_tree.specs.WellFormed.{WellFormedSimples, WellFormedOpening, WellFormedStatement, WellFormedItems}
+use Rattle.ls_parser_tokens.specs.Reading.{Reader, after_word, not_yet, many_at}
+use Rattle.ls_parser_expressions.specs.ReadingExpressions.{expression_at, post_at}
 use Rattle.ls_parser_statements.specs.ReadingStatements.{piece_at, braces_at, condition_at, jump_at, value_at}
 use Rattle.ls_parser_statements.specs.ReadingStatements.{simple_from, simple_at, opening_at, head_in, other_at}
 use Rattle.ls_parser_statements.specs.ReadingStatements.{FirstOther, first_of, local_at, statement_of, nested_at}
 use Rattle.ls_parser_statements.specs.ReadingStatements.{statement_at, block_at}
-use Rattle.ls_parser_expressions.proofs.Onto.{onto, onto_expressions}
+use Rattle.ls_parser_expressions.proofs.Onto.{onto}
 use Rattle.ls_parser_expressions.proofs.Lists.{onto_all, many_from_complete}
-use Rattle.ls_parser_declarations.proofs.OntoDeclarations.{onto_modifier, modifier_longer, onto_type, onto_initial}
-use Rattle.ls_parser_declarations.proofs.OntoDeclarations.{onto_declarator, onto_next_declarator}
-use Rattle.ls_parser_declarations.proofs.OntoDeclarations.{next_declarator_longer, onto_declaration}
-use Rattle.ls_parser_statements.proofs.OntoStatements.{onto_label, onto_label_before, onto_value, onto_condition}
-use Rattle.ls_parser_statements.proofs.OntoStatements.{onto_simple, onto_next_simple, onto_simples, onto_opening}
-use Rattle.ls_parser_statements.proofs.OntoStatements.{onto_head, onto_statement, onto_items, onto_block, onto_piece}
+use Rattle.ls_parser_declarations.proofs.OntoDeclarations.{onto_declarator, onto_next_declarator, onto_declaration}
+use Rattle.ls_parser_statements.proofs.OntoStatements.{onto_label, onto_value, onto_condition, onto_simple}
+use Rattle.ls_parser_statements.proofs.OntoStatements.{onto_next_simple, onto_simples, onto_opening, onto_head}
+use Rattle.ls_parser_statements.proofs.OntoStatements.{onto_statement, onto_items, onto_block, onto_piece}
 use Rattle.ls_parser_statements.proofs.OntoStatements.{onto_collected, piece_longer}
-use Rattle.ls_parser_declarations.proofs.DeclarationsRead.{Anything, FormedDeclarator}
-use Rattle.ls_parser_statements.proofs.StatementsRead.{FormedPiece}
-use Rattle.ls_parser_statements.proofs.SimplesAgain.{Opens, called, simple_opens, simple_label, simple_else}
-use Rattle.ls_parser_statements.proofs.SimplesAgain.{simple_semicolon, from_again, simple_pos, semicolon_ends}
-use Rattle.ls_parser_statements.proofs.SimplesAgain.{close_ends, others_follow, simples_complete}
-use Rattle.ls_parser_expressions.proofs.ExpressionsAgain.{Follow, follow_close, follow_comma, follow_semicolon}
-use Rattle.ls_parser_expressions.proofs.ExpressionsAgain.{follow_assign, post_head, no_semicolon, expression_complete}
-use Rattle.ls_parser_expressions.proofs.ExpressionsAgain.{post_complete}
-
--- ---- modifiers and types
-
-modifier_again : (m : Modifier) (rest : List Lexeme) → modifier_at (onto_modifier m rest) ≡ Some (m, rest)
-modifier_again Public rest = refl
-modifier_again Protected rest = refl
-modifier_again Private rest = refl
-modifier_again Final rest = refl
-modifier_again Volatile rest = refl
-modifier_again (Annotation name) rest = refl
-
-pub modifier_first : (m : Modifier) (rest : List Lexeme) → starts_modifier (onto_modifier m rest) ≡ true
-modifier_first Public rest = refl
-modifier_first Protected rest = refl
-modifier_first Private rest = refl
-modifier_first Final rest = refl
-modifier_first Volatile rest = refl
-modifier_first (Annotation name) rest = refl
-
--- each thing is anything
-pub anything : {A : Type 0} (xs : List A) → AllByRecursion Anything xs
-anything [] = tt
-anything (x ∷ xs) = (tt, anything xs)
-
-pub modifiers_complete : (ms : List Modifier) (rest : List Lexeme) →
-    starts_modifier rest ≡ false →
-    modifiers_at (onto_all onto_modifier ms rest) ≡ Some (ms, rest)
-modifiers_complete ms rest stop =
-    many_from_complete onto_modifier Anything starts_modifier modifier_at (λ ks. Unit {0})
-    (λ m rest' p follow. modifier_again m rest') (λ m rest' p. (modifier_first m rest', tt)) modifier_longer
-    [] ms rest (anything ms) stop tt
-
-and_false : (b : Bool) → (b && false) ≡ false
-and_false true = refl
-and_false false = refl
-
--- a type before a name
-pub type_complete : (t : TypeName) (name : Text) (rest : List Lexeme) →
-    type_at (onto_type t (Named name ∷ rest)) ≡ Some (t, Named name ∷ rest)
-type_complete Int name rest = refl
-type_complete Boolean name rest = refl
-type_complete BooleanArray name rest = refl
-type_complete (Class text) name rest = rw (and_false (is_markable text)) refl
-type_complete (Markable text) name rest = refl
-
--- a type doesn't begin with a modifier
-pub type_no_modifier : (t : TypeName) (rest : List Lexeme) → starts_modifier (onto_type t rest) ≡ false
-type_no_modifier Int rest = refl
-type_no_modifier Boolean rest = refl
-type_no_modifier BooleanArray rest = refl
-type_no_modifier (Class text) rest = refl
-type_no_modifier (Markable text) rest = refl
-
--- ---- declarations
-
--- nothing that goes on with a declarator
-record FollowDeclarator (ks : List Lexeme) : Type 0 where
-  follow : Follow 6 ks
-  assign : after_sign signs.Assign ks ≡ None
-
-of_value : (limit : ℕ) (name : Text) (value : Option Expression) (rest : List Lexeme) →
-    WellFormedValue value →
-    value_height value ≤ limit →
-    FollowDeclarator rest
-    → declarator_at (expression_at limit) (Named name ∷ onto_initial value rest) ≡
-    Some (record { name = name; value = value }, rest)
-of_value limit name None rest formed fits f = rw f.assign refl
-of_value limit name (Some value) rest formed fits f =
-    rw (expression_complete limit value rest formed fits f.follow) refl
-
-declarator_complete : (limit : ℕ) (d : Declarator) (rest : List Lexeme) →
-    FormedDeclarator limit d →
-    FollowDeclarator rest →
-    declarator_at (expression_at limit) (onto_declarator d rest) ≡ Some (d, rest)
-declarator_complete limit d rest formed f = of_value limit d.name d.value rest formed.0 formed.1 f
-
-more_formed : (limit : ℕ) (ds : List Declarator) →
-    AllByRecursion (λ (m : Declarator). WellFormedValue m.value) ds →
-    declarators_height ds ≤ limit →
-    AllByRecursion (FormedDeclarator limit) ds
-more_formed limit [] formed fits = tt
-more_formed limit (d ∷ ds) formed fits = ((formed.0, omega arith), more_formed limit ds formed.1 (omega arith))
-
-declarators_follow : (ds : List Declarator) (rest : List Lexeme) →
-    FollowDeclarator (onto_all onto_next_declarator ds (Marked signs.Semicolon ∷ rest))
-declarators_follow [] rest = record { follow = follow_semicolon 6 rest; assign = refl }
-declarators_follow (d ∷ ds) rest =
-    record {
-      follow =
-          follow_comma 6 (onto_declarator d (onto_all onto_next_declarator ds (Marked signs.Semicolon ∷ rest)));
-      assign =
-          refl;
-    }
-
--- declarators that are spelled are read again
-pub declarators_complete : (limit : ℕ) (d : Declaration) (rest : List Lexeme) →
-    WellFormedDeclaration d →
-    declarators_height (d.first ∷ d.more) ≤ limit
-    → declarators_at (expression_at limit) d.modifiers d.type_name
-    (onto_declarator d.first (onto_all onto_next_declarator d.more (Marked signs.Semicolon ∷ rest))) ≡
-    Some (d, rest)
-declarators_complete limit d rest formed fits =
-    let all : AllByRecursion (FormedDeclarator limit) (d.first ∷ d.more) =
-    more_formed limit (d.first ∷ d.more) formed fits in
-    rw (
-      declarator_complete limit d.first (onto_all onto_next_declarator d.more (Marked signs.Semicolon ∷ rest)) all.0
-          (declarators_follow d.more rest),
-      many_from_complete onto_next_declarator (FormedDeclarator limit) (not_yet signs.Semicolon)
-          (behind_comma (declarator_at (expression_at limit))) FollowDeclarator
-          (λ m rest' p follow. declarator_complete limit m rest' p follow)
-          (λ m rest' p. (refl, record { follow = follow_comma 6 (onto_declarator m rest'); assign = refl }))
-          next_declarator_longer
-          [] d.more (Marked signs.Semicolon ∷ rest) all.1 refl
-          (record { follow = follow_semicolon 6 rest; assign = refl }),
-    ) refl
-
-pub declaration_complete : (limit : ℕ) (d : Declaration) (rest : List Lexeme) →
-    WellFormedDeclaration d →
-    declarators_height (d.first ∷ d.more) ≤ limit →
-    declaration_at (expression_at limit) (onto_declaration d rest) ≡ Some (d, rest)
-declaration_complete limit d rest formed fits =
-    let ks : List Lexeme =
-    onto_declarator d.first (onto_all onto_next_declarator d.more (Marked signs.Semicolon ∷ rest)) in
-    rw (
-      modifiers_complete d.modifiers (onto_type d.type_name ks) (type_no_modifier d.type_name ks),
-      type_complete d.type_name d.first.name
-          (onto_initial d.first.value (onto_all onto_next_declarator d.more (Marked signs.Semicolon ∷ rest))),
-      declarators_complete limit d rest formed fits,
-    ) refl
-
-or_false : (a b : Bool) → a ≡ false → b ≡ false → (a || b) ≡ false
-or_false true b h h' = absurd cc
-or_false false b h h' = h'
-
-or_true : (a : Bool) → (a || true) ≡ true
-or_true true = refl
-or_true false = refl
-
-type_first : (t : TypeName) (name : Text) (rest : List Lexeme) →
-    (starts_type (onto_type t (Named name ∷ rest)) || named_declaration (onto_type t (Named name ∷ rest))) ≡ true
-type_first Int name rest = refl
-type_first Boolean name rest = refl
-type_first BooleanArray name rest = refl
-type_first (Class text) name rest = refl
-type_first (Markable text) name rest = refl
-
-modifiers_first : (ms : List Modifier) (t : TypeName) (name : Text) (rest : List Lexeme) →
-    starts_declaration (onto_all onto_modifier ms (onto_type t (Named name ∷ rest))) ≡ true
-modifiers_first [] t name rest = rw (type_no_modifier t (Named name ∷ rest)) (type_first t name rest)
-modifiers_first (m ∷ ms) t name rest =
-    rw (modifier_first m (onto_all onto_modifier ms (onto_type t (Named name ∷ rest)))) refl
-
-pub declaration_first : (d : Declaration) (rest : List Lexeme) → starts_declaration (onto_declaration d rest) ≡ true
-declaration_first d rest =
-    modifiers_first d.modifiers d.type_name d.first.name
-    (onto_initial d.first.value (onto_all onto_next_declarator d.more (Marked signs.Semicolon ∷ rest)))
-
--- ---- how a statement begins
-
-while_opens : (label : Option Text) (ks : List Lexeme) → Opens (onto_label_before label (Reserved words.While ∷ ks))
-while_opens None ks = record { declares = refl; brace = refl }
-while_opens (Some name) ks = record { declares = refl; brace = refl }
-
-for_opens : (label : Option Text) (ks : List Lexeme) → Opens (onto_label_before label (Reserved words.For ∷ ks))
-for_opens None ks = record { declares = refl; brace = refl }
-for_opens (Some name) ks = record { declares = refl; brace = refl }
-
-pub statement_opens : (t : Statement) (rest : List Lexeme) → WellFormedStatement t → Opens (onto_statement t rest)
-statement_opens (Block items) rest formed = record { declares = refl; brace = refl }
-statement_opens Empty rest formed = record { declares = refl; brace = refl }
-statement_opens (If condition first) rest formed = record { declares = refl; brace = refl }
-statement_opens (IfElse condition first second) rest formed = record { declares = refl; brace = refl }
-statement_opens (While label condition body) rest formed =
-    while_opens label (onto_condition condition (onto_statement body rest))
-statement_opens (For label opening condition updates body) rest formed =
-    for_opens label (onto_head opening condition updates (onto_statement body rest))
-statement_opens (Break label) rest formed = record { declares = refl; brace = refl }
-statement_opens (Continue label) rest formed = record { declares = refl; brace = refl }
-statement_opens (Return value) rest formed = record { declares = refl; brace = refl }
-statement_opens (Try body finally) rest formed = record { declares = refl; brace = refl }
-statement_opens (Synchronized target body) rest formed = record { declares = refl; brace = refl }
-statement_opens (Perform simple) rest formed =
-    simple_opens simple (Marked signs.Semicolon ∷ rest) formed (simple_semicolon rest)
-
--- a closing brace doesn't begin a declaration either, and a declaration is not a closing brace
-pub modifiers_brace : (ms : List Modifier) (t : TypeName) (rest : List Lexeme) →
-    after_sign signs.CloseBrace (onto_all onto_modifier ms (onto_type t rest)) ≡ None
-modifiers_brace [] Int rest = refl
-modifiers_brace [] Boolean rest = refl
-modifiers_brace [] BooleanArray rest = refl
-modifiers_brace [] (Class text) rest = refl
-modifiers_brace [] (Markable text) rest = refl
-modifiers_brace (Public ∷ ms) t rest = refl
-modifiers_brace (Protected ∷ ms) t rest = refl
-modifiers_brace (Private ∷ ms) t rest = refl
-modifiers_brace (Final ∷ ms) t rest = refl
-modifiers_brace (Volatile ∷ ms) t rest = refl
-modifiers_brace (Annotation name ∷ ms) t rest = refl
-
--- no `else` begins a statement or a declaration
-while_else : (label : Option Text) (ks : List Lexeme) →
-    after_word words.Else (onto_label_before label (Reserved words.While ∷ ks)) ≡ None
-while_else None ks = refl
-while_else (Some name) ks = refl
-
-for_else : (label : Option Text) (ks : List Lexeme) →
-    after_word words.Else (onto_label_before label (Reserved words.For ∷ ks)) ≡ None
-for_else None ks = refl
-for_else (Some name) ks = refl
-
-statement_else : (t : Statement) (rest : List Lexeme) →
-    WellFormedStatement t →
-    after_word words.Else (onto_statement t rest) ≡ None
-statement_else (While label condition body) rest formed =
-    while_else label (onto_condition condition (onto_statement body rest))
-statement_else (For label opening condition updates body) rest formed =
-    for_else label (onto_head opening condition updates (onto_statement body rest))
-statement_else (Perform simple) rest formed = simple_else simple (Marked signs.Semicolon ∷ rest) formed
-statement_else (Block items) rest formed = refl
-statement_else Empty rest formed = refl
-statement_else (If condition first) rest formed = refl
-statement_else (IfElse condition first second) rest formed = refl
-statement_else (Break label) rest formed = refl
-statement_else (Continue label) rest formed = refl
-statement_else (Return value) rest formed = refl
-statement_else (Try body finally) rest formed = refl
-statement_else (Synchronized target body) rest formed = refl
-
-modifiers_else : (ms : List Modifier) (t : TypeName) (rest : List Lexeme) →
-    after_word words.Else (onto_all onto_modifier ms (onto_type t rest)) ≡ None
-modifiers_else [] Int rest = refl
-modifiers_else [] Boolean rest = refl
-modifiers_else [] BooleanArray rest = refl
-modifiers_else [] (Class text) rest = refl
-modifiers_else [] (Markable text) rest = refl
-modifiers_else (Public ∷ ms) t rest = refl
-modifiers_else (Protected ∷ ms) t rest = refl
-modifiers_else (Private ∷ ms) t rest = refl
-modifiers_else (Final ∷ ms) t rest = refl
-modifiers_else (Volatile ∷ ms) t rest = refl
-modifiers_else (Annotation name ∷ ms) t rest = refl
+use Rattle.ls_parser_statements.proofs.HeadsRead.{FormedPiece}
+use Rattle.ls_parser_statements.proofs.SimplesAgain.{called, simple_opens, simple_label, simple_semicolon, from_again}
+use Rattle.ls_parser_statements.proofs.SimplesAgain.{simple_pos, semicolon_ends, close_ends, others_follow}
+use Rattle.ls_parser_statements.proofs.SimplesAgain.{simples_complete}
+use Rattle.ls_parser_expressions.proofs.ExpressionEdges.{follow_close, follow_semicolon, post_head, no_semicolon}
+use Rattle.ls_parser_expressions.proofs.ExpressionsAgain.{expression_complete}
+use Rattle.ls_parser_statements.proofs.DeclarationsAgain.{declaration_complete, declaration_first}
+use Rattle.ls_parser_statements.proofs.StatementBeginnings.{statement_opens, modifiers_brace, statement_else}
+use Rattle.ls_parser_statements.proofs.StatementBeginnings.{modifiers_else}
 
 -- ---- statements
 

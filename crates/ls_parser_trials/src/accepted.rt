@@ -2,7 +2,7 @@
 
 use ls_lexer::lexing::lex;
 use ls_lexer::token::{Token, TokenKind};
-use ls_parser::parse::parse;
+use ls_parser::parse;
 use ls_parser::spelling::spell;
 use ls_stored_classes::{COARSE, FINE, LAZY, LOCK_FREE, OPTIMISTIC};
 use std::alloc::Global;

@@ -1,7 +1,7 @@
 // Tokens that are parsed.
 
 use ls_lexer::lexing::lex;
-use ls_parser::parse::{one_file, one_tree, parse};
+use ls_parser::parsing::{one_file, one_tree, parse};
 use std::test::Fail;
 
 #[test]

@@ -25,15 +25,16 @@ use Rattle.ls_preservation.specs.Sorts.{Names, ActionHas}
 use Rattle.ls_preservation.specs.Threads.{Asks}
 use Rattle.ls_preservation.specs.Same.{IsCells, total}
 use Rattle.ls_preservation.specs.Translations.{most_silent, to_source}
-use Rattle.ls_preservation.proofs.Setting.{Setting}
+use Rattle.ls_preservation.proofs.Setting.{Setting, setting_of}
 use Rattle.ls_preservation.proofs.Lists.{get_there, index_there}
 use Rattle.ls_preservation.proofs.Meaning.{Means}
 use Rattle.ls_preservation.proofs.LockCells.{full_is}
-use Rattle.ls_preservation.proofs.Others.{IsHeldType, lock_on, lock_word, lock_renamed, renamed_lock, lock_named, LockNamed}
-use Rattle.ls_preservation.proofs.Others.{word_there}
+use Rattle.ls_preservation.proofs.Others.{IsHeldType, lock_on, lock_word, lock_renamed, renamed_lock, lock_named}
+use Rattle.ls_preservation.proofs.Others.{LockNamed, word_there}
 use Rattle.ls_preservation.proofs.Middle.{Here}
 use Rattle.ls_preservation.proofs.Effects.{renaming, thing_there, Agrees}
 use Rattle.ls_preservation.proofs.Following
+use Rattle.ls_preservation.proofs.BothAct
 use Rattle.ls_preservation.specs.InTime.{IsOpen}
 use Rattle.ls_preservation.specs.Acting.{first_did, StepsAs, ActsInTime}
 use Rattle.ls_preservation.proofs.Reached.{follows_all}
@@ -44,24 +45,9 @@ use Rattle.ls_preservation.proofs.Read.{in_middle}
 module _ (file : File) (program : Program) (code : Code) (asks : Asks file program code) (sound : Means file program)
     (room : ℕ) (within : IsCells code room) where
   abbrev setting : Setting
-  setting = record {
-    file = file;
-    program = program;
-    code = code;
-    asks = asks;
-    sound = sound;
-    room = room;
-    small = within.most;
-  }
+  setting = setting_of file program code asks sound room within
 
-  abbrev bound : ℕ
-  bound = most_silent code
-
-  abbrev names : ℕ
-  names = Following.names setting
-
-  abbrev Follows : State → Machine → Type 0
-  Follows = Following.Follows setting
+  open Following.notions setting use {named, names, bound, stands, Follows, InWords, acts_as}
 
   abbrev Each : (s : State) (m : Machine) → Follows s m → ℕ → Option Answers → Option Thread → Type 0
   Each s m h t o p = Following.Each setting m.cells h.sorts (renaming names s.store) t o p
@@ -69,15 +55,6 @@ module _ (file : File) (program : Program) (code : Code) (asks : Asks file progr
   -- whether there is room for a store
   abbrev roomy : Store → Bool
   roomy st = nat_le (length program.names + total st.things) room
-
-  abbrev acts_as : State → Action Value → Action ℕ
-  acts_as = Following.acts_as setting
-
-  abbrev stands : ℕ → Thread → Pause
-  stands = Following.stands setting
-
-  abbrev InWords : (ℕ → ℕ) → Next → Pause → Type 0
-  InWords = Following.InWords setting
 
   module _ (s : State) (m : Machine) (h : Follows s m) (t : ℕ) (had : Answers) (at : slice_get s.answers t ≡ Some had)
       (x : Thread) (there : slice_get m.threads t ≡ Some x) (each : Each s m h t (Some had) (Some x)) (a : Action Value)
@@ -93,7 +70,7 @@ module _ (file : File) (program : Program) (code : Code) (asks : Asks file progr
         Replies (roomy st) m.cells t (acts_as s a) go
     replies go stood st y does =
         by_effect (cells.effect m.cells t (acts_as s a)) refl
-        (subst (λ d. Agrees file.classes (Following.named setting) code.sizes room h.sorts s.store a q d
+        (subst (λ d. Agrees file.classes named code.sizes room h.sorts s.store a q d
         (cells.effect m.cells t (acts_as s a))) does
         (Following.agree_here setting s m h t a q has))
       where
@@ -102,13 +79,13 @@ module _ (file : File) (program : Program) (code : Code) (asks : Asks file progr
 
         by_effect : (e : cells.Effect) →
             cells.effect m.cells t (acts_as s a) ≡ e →
-            Agrees file.classes (Following.named setting) code.sizes room h.sorts s.store a q (Does st y) e →
+            Agrees file.classes named code.sizes room h.sorts s.store a q (Does st y) e →
             Replies (roomy st) m.cells t (acts_as s a) go
         by_effect cells.Waits ee agree = absurd agree
         by_effect cells.Unfit ee agree = absurd agree
         by_effect cells.Stops ee agree = Stopped (no_room agree) ee
         by_effect (cells.Answers c w) ee agree =
-            let both = Following.both_act setting s m h t had x at there each a q goes has go stood st y c w does
+            let both = BothAct.both_act setting s m h t had x at there each a q goes has go stood st y c w does
             (λ z. z) (λ y' e l. (y', refl, Here refl)) agree in
             Answered c w both.0 ee both.1
 
@@ -117,19 +94,19 @@ module _ (file : File) (program : Program) (code : Code) (asks : Asks file progr
         LockNamed h.sorts o →
         renamed_lock (renaming names s.store) o ≡ Some lock →
         (n : ℕ) × (q : ValueType) × IsHeldType q × Names h.sorts n q × (renaming names s.store n ≡ lock)
-    some_lock None lock named e = cc
-    some_lock (Some n) lock named e = (n, named.0, named.1, named.2, cc)
+    some_lock None lock is e = cc
+    some_lock (Some n) lock is e = (n, is.0, is.1, is.2, cc)
 
     named_word : (n lock : ℕ) (q : ValueType) →
         IsHeldType q →
         Names h.sorts n q →
         renaming names s.store n ≡ lock →
         Word m.cells t lock
-    named_word zero lock q held named e = absurd named
-    named_word (suc k) lock q held named e =
-        let r = thing_there file.classes h.sorts s.store.things h.sorts k q h.holds.typed named in (
+    named_word zero lock q held is e = absurd is
+    named_word (suc k) lock q held is e =
+        let r = thing_there file.classes h.sorts s.store.things h.sorts k q h.holds.typed is in (
           lock_word r.0,
-          ap (λ z. cells.cell_at m.cells z 0) (sym e) ∙ word_there file.classes (Following.named setting) code.sizes
+          ap (λ z. cells.cell_at m.cells z 0) (sym e) ∙ word_there file.classes named code.sizes
               room h.sorts s.store m.cells h.holds k r.0 q r.1 held r.2,
           full_is file.classes h.sorts r.0 q t r.2,
         )

@@ -31,12 +31,15 @@ use Rattle.ls_preservation.specs.Threads.{object_cells}
 use Rattle.ls_preservation.specs.Same.{size_of, total}
 use Rattle.ls_preservation.proofs.Lists.{get_end, get_there}
 use Rattle.ls_preservation.proofs.Cells.{sizes_of, address, listed, hold_word, cells_of, laid, all_cells, AgreeTo}
-use Rattle.ls_preservation.proofs.Cells.{length_all, laid-append, address-append, address_new, written_agree, pair_agree}
+use Rattle.ls_preservation.proofs.Cells.{length_all, laid-append, address-append, address_new, written_agree}
+use Rattle.ls_preservation.proofs.Cells.{pair_agree}
 use Rattle.ls_preservation.proofs.Effects.{HaveTypes, ThingHas, ThingsHave, thing_more, things_more, things_end}
-use Rattle.ls_preservation.proofs.Effects.{things_length, thing_there, many_length, many_more, extends_end, renaming, Holds}
-use Rattle.ls_preservation.proofs.Effects.{Agrees}
+use Rattle.ls_preservation.proofs.Effects.{things_length, thing_there, many_length, many_more, extends_end, renaming}
+use Rattle.ls_preservation.proofs.Effects.{Holds, Agrees}
 use Rattle.ls_preservation.proofs.FieldCases as cases
-use Rattle.ls_preservation.proofs.ThingCases as more
+use Rattle.ls_preservation.proofs.ItemCases
+use Rattle.ls_preservation.proofs.LockCases
+use Rattle.ls_preservation.proofs.PairCases
 
 pub total-append : (os : List Thing) (o : Thing) → total (os ++ o ∷ []) ≡ total os + size_of o
 total-append [] o = omega arith
@@ -82,18 +85,13 @@ fields_same (Some k) = refl
 
 module _ (classes : List Class) (named : List ValueType) (sizes : List ℕ) (room : ℕ) (small : room ≤ most_cells)
     (σ : List ValueType) (st : Store) (c : Cells) (holds : Holds classes named sizes room σ st c) where
+  open cases.laws classes named sizes room σ st c holds use {agree_at}
+
   abbrev ρ : ℕ → ℕ
   ρ = renaming (length named) st
 
   abbrev Agree : Action Value → Sort → Effect → machine.Effect → Type 0
   Agree a s e d = Agrees classes named sizes room σ st a s e d
-
-  agree_at : (a : Action Value) (s : Sort) (e e' : Effect) (d d' : machine.Effect) →
-      e ≡ e' →
-      d ≡ d' →
-      Agree a s e' d' →
-      Agree a s e d
-  agree_at = cases.agree_at classes named sizes room σ st c holds
 
   words_length : length c.words ≡ length named + total st.things
   words_length = omega (
@@ -332,12 +330,12 @@ module _ (file : File) (program : Program) (sizes : List ℕ) (room : ℕ) (smal
   effects_agree t (ReadItem (suc n) i) s h =
       let o = named_thing n type.BooleanArray h.0 in
       at t (ReadItem (suc n) i) s (ValueOf type.Boolean) h.1
-      (more.item_case file.classes named sizes room small σ st c holds t n i o.0 o.1 o.2)
+      (ItemCases.item_case file.classes named sizes room small σ st c holds t n i o.0 o.1 o.2)
   effects_agree t (WriteItem zero i v) s h = absurd h.0
   effects_agree t (WriteItem (suc n) i v) s h =
       let o = named_thing n type.BooleanArray h.0 in
-      at t (WriteItem (suc n) i v) s NoValue h.2 (more.set_item_case file.classes named sizes room small σ st c holds t
-      n i v h.0 h.1 o.0 o.1 o.2)
+      at t (WriteItem (suc n) i v) s NoValue h.2 (ItemCases.set_item_case file.classes named sizes room small σ st c
+      holds t n i v h.0 h.1 o.0 o.1 o.2)
   effects_agree t (ReadName n) s h =
       at t (ReadName n) s (ValueOf h.0) h.2 (cases.name_case file.classes named sizes room σ st c holds t n h.0
       (name_typed program n h.0 h.1))
@@ -355,44 +353,44 @@ module _ (file : File) (program : Program) (sizes : List ℕ) (room : ℕ) (smal
   effects_agree t (NewArray (negsuc n)) s h = let e = h.1 in cc
   effects_agree t (Lock zero) s h = absurd h.0
   effects_agree t (Lock (suc n)) s h = let o = named_thing n type.Lock h.0 in
-      at t (Lock (suc n)) s NoValue h.1 (more.lock_case file.classes named sizes room small σ st c holds t n h.0 o.0 o.1
-      o.2)
+      at t (Lock (suc n)) s NoValue h.1 (LockCases.lock_case file.classes named sizes room small σ st c holds t n h.0
+      o.0 o.1 o.2)
   effects_agree t (Unlock zero) s h = absurd h.0
   effects_agree t (Unlock (suc n)) s h = let o = named_thing n type.Lock h.0 in
-      at t (Unlock (suc n)) s NoValue h.1 (more.unlock_case file.classes named sizes room small σ st c holds t n h.0 o.0
-      o.1 o.2)
+      at t (Unlock (suc n)) s NoValue h.1 (LockCases.unlock_case file.classes named sizes room small σ st c holds t n
+      h.0 o.0 o.1 o.2)
   effects_agree t (TryLock zero) s h = absurd h.0
   effects_agree t (TryLock (suc n)) s h = let o = named_thing n type.Lock h.0 in
-      at t (TryLock (suc n)) s (ValueOf type.Boolean) h.1 (more.try_case file.classes named sizes room small σ st c
+      at t (TryLock (suc n)) s (ValueOf type.Boolean) h.1 (LockCases.try_case file.classes named sizes room small σ st c
       holds t n h.0 o.0 o.1 o.2)
   effects_agree t (IsHeld zero) s h = absurd h.0
   effects_agree t (IsHeld (suc n)) s h = let o = named_thing n type.Lock h.0 in
-      at t (IsHeld (suc n)) s (ValueOf type.Boolean) h.1 (more.held_case file.classes named sizes room small σ st c
+      at t (IsHeld (suc n)) s (ValueOf type.Boolean) h.1 (LockCases.held_case file.classes named sizes room small σ st c
       holds t n o.0 o.1 o.2)
   effects_agree t (LockMonitor zero) s h = absurd h.1
   effects_agree t (LockMonitor (suc n)) s h = let o = named_thing n (type.Class h.0) h.1 in
-      at t (LockMonitor (suc n)) s NoValue h.2 (more.monitor_case file.classes named sizes room small σ st c holds t n
-      h.0 h.1 o.0 o.1 o.2)
+      at t (LockMonitor (suc n)) s NoValue h.2 (LockCases.monitor_case file.classes named sizes room small σ st c holds
+      t n h.0 h.1 o.0 o.1 o.2)
   effects_agree t (UnlockMonitor zero) s h = absurd h.1
   effects_agree t (UnlockMonitor (suc n)) s h = let o = named_thing n (type.Class h.0) h.1 in
-      at t (UnlockMonitor (suc n)) s NoValue h.2 (more.leave_case file.classes named sizes room small σ st c holds t n
-      h.0 h.1 o.0 o.1 o.2)
+      at t (UnlockMonitor (suc n)) s NoValue h.2 (LockCases.leave_case file.classes named sizes room small σ st c holds
+      t n h.0 h.1 o.0 o.1 o.2)
   effects_agree t (ReadPair zero) s h = absurd h.1
   effects_agree t (ReadPair (suc n)) s h = let o = named_thing n (type.Markable h.0) h.1 in
-      at t (ReadPair (suc n)) s (PairOf h.0) h.2 (more.pair_case file.classes named sizes room small σ st c holds t n
-      h.0 o.0 o.1 o.2)
+      at t (ReadPair (suc n)) s (PairOf h.0) h.2 (PairCases.pair_case file.classes named sizes room small σ st c holds t
+      n h.0 o.0 o.1 o.2)
   effects_agree t (SetPair zero v) s h = absurd h.1
   effects_agree t (SetPair (suc n) v) s h =
       let o = named_thing n (type.Markable h.0) h.1 in at t (SetPair (suc n) v) s NoValue h.3
-      (more.set_case file.classes named sizes room small σ st c holds t n h.0 v h.1 h.2 o.0 o.1 o.2)
+      (PairCases.set_case file.classes named sizes room small σ st c holds t n h.0 v h.1 h.2 o.0 o.1 o.2)
   effects_agree t (SwapPair zero e v) s h = absurd h.1
   effects_agree t (SwapPair (suc n) e v) s h =
       let o = named_thing n (type.Markable h.0) h.1 in at t (SwapPair (suc n) e v) s (ValueOf type.Boolean) h.4
-      (more.swap_case file.classes named sizes room small σ st c holds t n h.0 e v h.1 h.2 h.3 o.0 o.1 o.2)
+      (PairCases.swap_case file.classes named sizes room small σ st c holds t n h.0 e v h.1 h.2 h.3 o.0 o.1 o.2)
   effects_agree t (AttemptMark zero r m) s h = absurd h.1
   effects_agree t (AttemptMark (suc n) r m) s h =
       let o = named_thing n (type.Markable h.0) h.1 in at t (AttemptMark (suc n) r m) s (ValueOf type.Boolean) h.3
-      (more.mark_case file.classes named sizes room small σ st c holds t n h.0 r m h.1 h.2 o.0 o.1 o.2)
+      (PairCases.mark_case file.classes named sizes room small σ st c holds t n h.0 r m h.1 h.2 o.0 o.1 o.2)
   effects_agree t Turn s h = still t Turn s h refl refl
   effects_agree t (Enter m) s h = still t (Enter m) s h refl refl
   effects_agree t (Call n) s h = still t (Call n) s h refl refl

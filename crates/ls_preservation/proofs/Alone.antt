@@ -6,7 +6,7 @@ use Rattle.ls_events.specs.declared.action.Answer.{Answer}
 use Rattle.ls_code.specs.Code.{Code}
 use Rattle.ls_code.specs.Thread.{Thread}
 use Rattle.ls_code.specs.Cells.{Cells, Answers, Waits, Stops, effect}
-use Rattle.ls_code.specs.Steps.{Asks as MoveAsks, outcome_of, settled, replied, performed, thread_move}
+use Rattle.ls_code.specs.Steps.{Asks as MoveAsks, step_result, settled, replied, performed, thread_move}
 use Rattle.ls_code.specs.Machine.{Machine}
 use Rattle.ls_code.specs.Machine as machine
 use Rattle.ls_code.specs.declared.step.Mode.TheVariants as mode
@@ -56,7 +56,7 @@ module _ (r : Bool) (code : Code) (t : ℕ) where
   abbrev pub Comes : Cells → ℕ → Thread → Type 0
   Comes c zero x = ⊥
   Comes c (suc n) x = (x.mode ≡ mode.Running) × (Acting r (one code t c x).did ⊎
-      ((x' : Thread) × (one code t c x ≡ outcome_of x' c did.Silent) × Comes c n x'))
+      ((x' : Thread) × (one code t c x ≡ step_result x' c did.Silent) × Comes c n x'))
 
   -- with more steps it is reached too
   pub longer : (c : Cells) (n k : ℕ) (x : Thread) → n ≤ k → Comes c n x → Comes c k x
@@ -93,5 +93,5 @@ module _ (r : Bool) (code : Code) (t : ℕ) where
   acts_first (suc n) m x image goes ready there (runs, inr (x', e, h)) =
       ap (λ (z : machine.Stepped). acts_or_stops r (or_later z.did (first_did n z.machine t)))
       (silent_step code t m x x' image goes runs ready there e)
-      ∙ acts_first n (machine.after m t (outcome_of x' m.cells did.Silent)) x' image refl
+      ∙ acts_first n (machine.after m t (step_result x' m.cells did.Silent)) x' image refl
       (still_ready code t m x' (nat_eq t 0) refl ready) (set_same m.threads t x x' there) h

@@ -1,22 +1,19 @@
 -- A thread of the machine between two acting instructions, and a thread that is fed.
-use Rattle.std.proofs.Common.{◌≡◌, ℕ, zero, suc, Bool, true, false, List, [], ◌∷◌, ◌++◌, Option, Some, None, refl, sym}
-use Rattle.std.proofs.Common.{ap, ◌∙◌, subst, ◌⊎◌, inl, inr, if◌then◌else◌}
+use Rattle.std.proofs.Common.{◌≡◌, ℕ, zero, suc, Bool, true, false, List, [], ◌∷◌, ◌++◌, Option, refl, sym, ap, ◌∙◌}
+use Rattle.std.proofs.Common.{subst, ◌⊎◌, inl, inr, if◌then◌else◌}
 use Rattle.ls_events.specs.declared.action.Action.{Action}
-use Rattle.ls_events.specs.declared.action.Action.TheVariants as act
 use Rattle.ls_events.specs.declared.action.Answer.{Answer}
 use Rattle.ls_code.specs.Code.{Code}
 use Rattle.ls_code.specs.Thread.{Thread}
 use Rattle.ls_code.specs.Cells.{Cells}
-use Rattle.ls_code.specs.Exchanges.{Quietly, Reports, Plan, Says, Touches, Stores}
-use Rattle.ls_code.specs.Steps.{Move, Silent, Still, Asks, Plans, silent_or_still, thread_move, outcome_of, ended_so}
-use Rattle.ls_code.specs.Steps.{planned, performed}
+use Rattle.ls_code.specs.Steps.{Move, Silent, Still, Asks, Plans, thread_move, step_result, planned, performed}
 use Rattle.ls_code.specs.declared.step.Did.TheVariants as did
 use Rattle.ls_code.specs.Fed.{Pause, Paused, Passes, IsOver, IsStuck, TooLong}
 use Rattle.ls_code.specs.declared.step.Mode.{Mode}
 use Rattle.ls_code.specs.declared.step.Mode.TheVariants as mode
-use Rattle.ls_code.specs.Reading.{is_locking, is_trying, is_unlocking, operation, planned_move, read_move, whole_move}
-use Rattle.ls_code.specs.Reading.{begins_early, carry, advance, quiet, quiet_from, resume}
+use Rattle.ls_code.specs.Reading.{read_move, whole_move, begins_early, carry, advance, quiet, quiet_from, resume}
 use Rattle.ls_preservation.specs.Parts.{IsPlanned}
+use Rattle.ls_preservation.proofs.ReadPlans.{plan_all}
 
 -- a pause that isn't for too long a silence
 abbrev pub IsLoud : Pause → Type 0
@@ -131,91 +128,20 @@ module _ (p : Code) (number : ℕ) where
 
   -- what the reading calls silent, is silent
   abbrev Tells : Thread → Move → Move → Type 0
-  Tells x d (Silent x') = (c : Cells) → performed c number x d ≡ outcome_of x' c did.Silent
-  Tells x d Still = Unit {0}
-  Tells x d (Asks a go) = Unit {0}
-  Tells x d (Plans go) = Unit {0}
-
-  if_tells : (x : Thread) (d : Move) (b : Bool) (a : Action ℕ) (go : Answer ℕ → Option Thread) →
-      Tells x d (if b then Asks a go else Still)
-  if_tells x d true a go = tt
-  if_tells x d false a go = tt
-
-  operation_tells : (x : Thread) (d : Move) (a : Action ℕ) → Tells x d (operation p number x a)
-  operation_tells x d (act.Lock o) = if_tells x d (is_locking p 1 x.top.counter) _ _
-  operation_tells x d (act.TryLock o) = if_tells x d (is_trying p x.top.counter) _ _
-  operation_tells x d (act.Unlock o) = if_tells x d (is_unlocking p 0 x.top.counter) _ _
-  operation_tells x d (act.LockMonitor o) = if_tells x d (is_locking p 4 x.top.counter) _ _
-  operation_tells x d (act.UnlockMonitor o) = if_tells x d (is_unlocking p 1 x.top.counter) _ _
-  operation_tells x d (act.ReadField o i) = tt
-  operation_tells x d (act.WriteField o i v) = tt
-  operation_tells x d (act.ReadItem o i) = tt
-  operation_tells x d (act.WriteItem o i v) = tt
-  operation_tells x d (act.ReadName o) = tt
-  operation_tells x d (act.WriteName o v) = tt
-  operation_tells x d (act.New o) = tt
-  operation_tells x d act.NewLock = tt
-  operation_tells x d (act.NewMarkable v) = tt
-  operation_tells x d (act.NewArray o) = tt
-  operation_tells x d (act.IsHeld o) = tt
-  operation_tells x d (act.ReadPair o) = tt
-  operation_tells x d (act.SetPair o v) = tt
-  operation_tells x d (act.SwapPair o v w) = tt
-  operation_tells x d (act.AttemptMark o r m) = tt
-  operation_tells x d act.Turn = tt
-  operation_tells x d (act.Enter o) = tt
-  operation_tells x d (act.Call o) = tt
-  operation_tells x d (act.Return o v) = tt
-  operation_tells x d (act.Trap o v) = tt
-
-  says_tells : (x : Thread) (d : Move) (o : Option Thread) →
-      ((c : Cells) → performed c number x d ≡ ended_so c x o did.Silent) →
-      Tells x d (silent_or_still o)
-  says_tells x d None f = tt
-  says_tells x d (Some x') f = f
-
-  plan_tells : (x : Thread) (d : Move) (q : Plan) →
-      ((c : Cells) → performed c number x d ≡ planned c number x q) →
-      Tells x d (planned_move p number x q)
-  plan_tells x d (Says (Quietly s)) f = says_tells x d s f
-  plan_tells x d (Says (Reports a y s)) f = tt
-  plan_tells x d (Stores touch s) f = tt
-  plan_tells x d (Touches a (act.ReadPair lock) go) f = operation_tells x d a
-  plan_tells x d (Touches a (act.ReadField o i) go) f = tt
-  plan_tells x d (Touches a (act.WriteField o i v) go) f = tt
-  plan_tells x d (Touches a (act.ReadItem o i) go) f = tt
-  plan_tells x d (Touches a (act.WriteItem o i v) go) f = tt
-  plan_tells x d (Touches a (act.ReadName o) go) f = tt
-  plan_tells x d (Touches a (act.WriteName o v) go) f = tt
-  plan_tells x d (Touches a (act.New o) go) f = tt
-  plan_tells x d (Touches a act.NewLock go) f = tt
-  plan_tells x d (Touches a (act.NewMarkable v) go) f = tt
-  plan_tells x d (Touches a (act.NewArray o) go) f = tt
-  plan_tells x d (Touches a (act.IsHeld o) go) f = tt
-  plan_tells x d (Touches a (act.LockMonitor o) go) f = tt
-  plan_tells x d (Touches a (act.UnlockMonitor o) go) f = tt
-  plan_tells x d (Touches a (act.SetPair o v) go) f = tt
-  plan_tells x d (Touches a (act.SwapPair o v w) go) f = tt
-  plan_tells x d (Touches a (act.AttemptMark o r m) go) f = tt
-  plan_tells x d (Touches a act.Turn go) f = tt
-  plan_tells x d (Touches a (act.Enter o) go) f = tt
-  plan_tells x d (Touches a (act.Call o) go) f = tt
-  plan_tells x d (Touches a (act.Return o v) go) f = tt
-  plan_tells x d (Touches a (act.Trap o v) go) f = tt
-  plan_tells x d (Touches a (act.Lock o) go) f = tt
-  plan_tells x d (Touches a (act.TryLock o) go) f = tt
-  plan_tells x d (Touches a (act.Unlock o) go) f = tt
+  Tells x d (Silent x') = (c : Cells) → performed c number x d ≡ step_result x' c did.Silent
+  Tells x d _ = Unit {0}
 
   move_tells : (x : Thread) (d : Move) → Tells x d (read_move p number x d)
   move_tells x (Silent x') = λ c. refl
   move_tells x Still = tt
   move_tells x (Asks a go) = tt
-  move_tells x (Plans go) = plan_tells x (Plans go) (go number) (λ c. refl)
+  move_tells x (Plans go) = plan_all p number (Tells x (Plans go)) (record { still = tt; asks = λ a go. tt }) x
+      (go number) (λ u e c. ap (planned c number x) e)
 
   -- what the reading calls silent, is silent on the machine
   pub silent_is : (x x' : Thread) (c : Cells) →
       whole_move p number x ≡ Silent x' →
-      performed c number x (thread_move p x) ≡ outcome_of x' c did.Silent
+      performed c number x (thread_move p x) ≡ step_result x' c did.Silent
   silent_is x x' c e = (subst (Tells x (thread_move p x)) e (move_tells x (thread_move p x))) c
 
   -- an instruction that asks by itself, or that begins an operation
@@ -232,77 +158,12 @@ module _ (p : Code) (number : ℕ) where
   NoPlan (Plans go) = ⊥
   NoPlan _ = Unit {0}
 
-  none_if : (b : Bool) (a : Action ℕ) (go : Answer ℕ → Option Thread) → NoPlan (if b then Asks a go else Still)
-  none_if true a go = tt
-  none_if false a go = tt
-
-  none_operation : (x : Thread) (a : Action ℕ) → NoPlan (operation p number x a)
-  none_operation x (act.Lock o) = none_if (is_locking p 1 x.top.counter) _ _
-  none_operation x (act.TryLock o) = none_if (is_trying p x.top.counter) _ _
-  none_operation x (act.Unlock o) = none_if (is_unlocking p 0 x.top.counter) _ _
-  none_operation x (act.LockMonitor o) = none_if (is_locking p 4 x.top.counter) _ _
-  none_operation x (act.UnlockMonitor o) = none_if (is_unlocking p 1 x.top.counter) _ _
-  none_operation x (act.ReadField o i) = tt
-  none_operation x (act.WriteField o i v) = tt
-  none_operation x (act.ReadItem o i) = tt
-  none_operation x (act.WriteItem o i v) = tt
-  none_operation x (act.ReadName o) = tt
-  none_operation x (act.WriteName o v) = tt
-  none_operation x (act.New o) = tt
-  none_operation x act.NewLock = tt
-  none_operation x (act.NewMarkable v) = tt
-  none_operation x (act.NewArray o) = tt
-  none_operation x (act.IsHeld o) = tt
-  none_operation x (act.ReadPair o) = tt
-  none_operation x (act.SetPair o v) = tt
-  none_operation x (act.SwapPair o v w) = tt
-  none_operation x (act.AttemptMark o r m) = tt
-  none_operation x act.Turn = tt
-  none_operation x (act.Enter o) = tt
-  none_operation x (act.Call o) = tt
-  none_operation x (act.Return o v) = tt
-  none_operation x (act.Trap o v) = tt
-
-  none_silent : (o : Option Thread) → NoPlan (silent_or_still o)
-  none_silent None = tt
-  none_silent (Some x) = tt
-
-  none_plan : (x : Thread) (q : Plan) → NoPlan (planned_move p number x q)
-  none_plan x (Says (Quietly s)) = none_silent s
-  none_plan x (Says (Reports a y s)) = tt
-  none_plan x (Stores touch s) = tt
-  none_plan x (Touches a (act.ReadPair lock) go) = none_operation x a
-  none_plan x (Touches a (act.ReadField o i) go) = tt
-  none_plan x (Touches a (act.WriteField o i v) go) = tt
-  none_plan x (Touches a (act.ReadItem o i) go) = tt
-  none_plan x (Touches a (act.WriteItem o i v) go) = tt
-  none_plan x (Touches a (act.ReadName o) go) = tt
-  none_plan x (Touches a (act.WriteName o v) go) = tt
-  none_plan x (Touches a (act.New o) go) = tt
-  none_plan x (Touches a act.NewLock go) = tt
-  none_plan x (Touches a (act.NewMarkable v) go) = tt
-  none_plan x (Touches a (act.NewArray o) go) = tt
-  none_plan x (Touches a (act.IsHeld o) go) = tt
-  none_plan x (Touches a (act.LockMonitor o) go) = tt
-  none_plan x (Touches a (act.UnlockMonitor o) go) = tt
-  none_plan x (Touches a (act.SetPair o v) go) = tt
-  none_plan x (Touches a (act.SwapPair o v w) go) = tt
-  none_plan x (Touches a (act.AttemptMark o r m) go) = tt
-  none_plan x (Touches a act.Turn go) = tt
-  none_plan x (Touches a (act.Enter o) go) = tt
-  none_plan x (Touches a (act.Call o) go) = tt
-  none_plan x (Touches a (act.Return o v) go) = tt
-  none_plan x (Touches a (act.Trap o v) go) = tt
-  none_plan x (Touches a (act.Lock o) go) = tt
-  none_plan x (Touches a (act.TryLock o) go) = tt
-  none_plan x (Touches a (act.Unlock o) go) = tt
-
   -- a move of the reading has no plan
   pub none : (x : Thread) (d : Move) → NoPlan (read_move p number x d)
   none x (Silent x') = tt
   none x Still = tt
   none x (Asks a go) = tt
-  none x (Plans go) = none_plan x (go number)
+  none x (Plans go) = plan_all p number NoPlan (record { still = tt; asks = λ a go. tt }) x (go number) (λ u e. tt)
 
   module _ (bound : ℕ) where
     -- after one answer

@@ -18,7 +18,7 @@ use Rattle.ls_meaning.specs.Values.{nothing}
 use Rattle.ls_meaning.specs.Store.{Thing, Object, LockOf, Markable, Array, Store, thing_at, with_thing, with_name}
 use Rattle.ls_meaning.specs.Effect.{Effect, Does, Leaves, change, on_thing, at_thing, put_back, in_range, effect}
 use Rattle.ls_meaning.specs.Threads.{Goes}
-use Rattle.ls_code.specs.Cells.{Cells, place_at, word_at, cell_at, with_words, on_cell, written_at, on_name, on_item}
+use Rattle.ls_code.specs.Cells.{Cells, cell_at, with_words, on_cell, written_at, on_name}
 use Rattle.ls_code.specs.Cells as machine
 use Rattle.ls_preservation.specs.InWords.{written, map_answer}
 use Rattle.ls_preservation.specs.Sorts.{Refers, HasType, fields_of, Suits}
@@ -27,8 +27,8 @@ use Rattle.ls_preservation.proofs.Lists.{set_here, get_left, set_left, get_withi
 use Rattle.ls_preservation.proofs.Lists.{length-set}
 use Rattle.ls_preservation.proofs.Cells.{offset, sizes_of, address, hold_word, cells_of, laid, all_cells, length_all}
 use Rattle.ls_preservation.proofs.Cells.{sizes-set, cells_get, cells_set, cells_within}
-use Rattle.ls_preservation.proofs.Effects.{HaveTypes, ThingHas, ThingsHave, Extends, many_length, things_set, value_there}
-use Rattle.ls_preservation.proofs.Effects.{values_set, renaming, Holds, Grows, Agrees}
+use Rattle.ls_preservation.proofs.Effects.{ThingHas, many_length, things_set, value_there, values_set, renaming, Holds}
+use Rattle.ls_preservation.proofs.Effects.{Grows, Agrees}
 use Rattle.ls_preservation.proofs.Effects as effects
 
 pub total-set : (os : List Thing) (n : ℕ) (o o' : Thing) →
@@ -184,6 +184,48 @@ module _ (classes : List Class) (named : List ValueType) (sizes : List ℕ) (roo
       ) in
       let test : nat_lt (place n i) (length c.words) ≡ true = grind (arith, nat_tests) in
       ap (λ b. if b then machine.Answers (with_cell n i w) v else machine.Unfit) test
+
+  -- the laws above, to be opened
+  pub record Laws : Type 0 where
+    pub agree_at : (a : Action Value) (s : Sort) (e e' : Effect) (d d' : machine.Effect) →
+        e ≡ e' →
+        d ≡ d' →
+        Agree a s e' d' →
+        Agree a s e d
+    pub unchanged : (a : Action Value) (s : Sort) (n : ℕ) (o : Thing) (x : Answer Value) (w : Answer ℕ) →
+        slice_get st.things n ≡ Some o →
+        Suits (Refers σ) (Goes a s) x →
+        w ≡ map_answer (written ρ) x →
+        Agree a s (Does (put st n o) x) (machine.Answers c w)
+    pub one_cell : (n i w : ℕ) (o o' : Thing) (s : ValueType) →
+        slice_get st.things n ≡ Some o →
+        slice_get σ n ≡ Some s →
+        ThingHas classes σ o' s →
+        size_of o' ≡ size_of o →
+        i < size_of o →
+        cells_of ρ o' ≡ slice_set (cells_of ρ o) i w →
+        (a : Action Value) (r : Sort) (x : Answer Value) (v : Answer ℕ) →
+        Suits (Refers σ) (Goes a r) x →
+        v ≡ map_answer (written ρ) x →
+        Agree a r (Does (put st n o') x) (machine.Answers (with_cell n i w) v)
+    pub cell_is : (n i w : ℕ) (o : Thing) →
+        slice_get st.things n ≡ Some o →
+        i < size_of o →
+        slice_get (cells_of ρ o) i ≡ Some w →
+        cell_at c (ρ (suc n)) i ≡ Some w
+    pub write_is : (n i w : ℕ) (o : Thing) (v : Answer ℕ) →
+        slice_get st.things n ≡ Some o →
+        i < size_of o →
+        machine.written c (ρ (suc n)) i w v ≡ machine.Answers (with_cell n i w) v
+
+  pub laws : Laws
+  laws = record {
+    agree_at = agree_at;
+    unchanged = unchanged;
+    one_cell = one_cell;
+    cell_is = cell_is;
+    write_is = write_is;
+  }
 
   -- fields
   pub read_case : (t n f : ℕ) (s : ValueType) (k : ℕ) →

@@ -1,76 +1,98 @@
--- A machine that follows a state of the source, and an action that both perform.
-use Rattle.std.proofs.Common.{◌≡◌, ℕ, zero, suc, ◌+◌, ◌<◌, ◌≤◌, ◌^◌, ◌≢◌, Bool, true, false, ◌&&◌, ◌||◌, List, [], ◌∷◌}
-use Rattle.std.proofs.Common.{◌++◌, length, map, Option, Some, None, refl, sym, ap, ◌∙◌, subst, arith, slice_get}
-use Rattle.std.proofs.Common.{slice_set, nat_eq, if◌then◌else◌}
-use Rattle.ls_code.specs.Limits.{most_cells}
+-- A machine that follows a state of the source.
+use Rattle.std.proofs.Common.{◌≡◌, ℕ, zero, suc, ◌+◌, ◌<◌, ◌≤◌, ◌^◌, Bool, true, false, ◌&&◌, ◌||◌, List, [], ◌∷◌, ◌++◌}
+use Rattle.std.proofs.Common.{length, map, Option, Some, None, refl, sym, ap, ◌∙◌, subst, arith, slice_get, slice_set}
+use Rattle.std.proofs.Common.{nat_eq, if◌then◌else◌}
 use Rattle.ls_events.specs.declared.event.Event.{Event}
 use Rattle.ls_events.specs.declared.value.Value.{Value}
 use Rattle.ls_events.specs.declared.value.ValueType.{ValueType}
 use Rattle.ls_events.specs.declared.action.Action.{Action}
 use Rattle.ls_events.specs.declared.action.Answer.{Answer}
-use Rattle.ls_checked.specs.CheckedTree.{File}
-use Rattle.ls_checked.specs.CheckedProgram.{Program}
 use Rattle.ls_meaning.specs.declared.sort.Sort.{Sort}
 use Rattle.ls_meaning.specs.Course.{Answers}
 use Rattle.ls_meaning.specs.Store.{Store}
-use Rattle.ls_meaning.specs.Effect.{Does, effect}
+use Rattle.ls_meaning.specs.Effect.{effect}
 use Rattle.ls_meaning.specs.Threads.{Next, Goes, Ended, Trapped, next}
-use Rattle.ls_meaning.specs.Steps.{Acted}
 use Rattle.ls_meaning.specs.Steps as source
-use Rattle.ls_meaning.specs.Runs.{State, answers_of, has_ended, has_started, performed, idle, step_of, stepped}
-use Rattle.ls_meaning.specs.Runs.{source_step}
-use Rattle.ls_code.specs.Code.{Code, Start}
+use Rattle.ls_meaning.specs.Runs.{State, answers_of, has_ended, has_started}
+use Rattle.ls_code.specs.Code.{Start}
 use Rattle.ls_code.specs.Thread.{Thread}
 use Rattle.ls_code.specs.Cells.{Cells}
 use Rattle.ls_code.specs.Cells as cells
 use Rattle.ls_code.specs.Steps.{Asks as MoveAsks}
+use Rattle.ls_code.specs.Steps as machine_steps
 use Rattle.ls_code.specs.Fed.{Pause, Paused, Passes, IsOver, IsStuck, TooLong}
 use Rattle.ls_code.specs.Reading.{whole_move, quiet_from, resume}
 use Rattle.ls_preservation.proofs.Setting.{Setting}
-use Rattle.ls_preservation.proofs.Others.{Sees, IsHeldType, lock_on, lock_renamed, renamed_lock, lock_named, LockNamed}
-use Rattle.ls_preservation.proofs.Others.{sees_kept}
-use Rattle.ls_preservation.proofs.Middle.{Middle, same_mode, middle_kept}
+use Rattle.ls_preservation.proofs.Others.{IsHeldType, lock_on, lock_renamed, renamed_lock, lock_named, LockNamed}
+use Rattle.ls_preservation.proofs.Middle.{Middle, same_mode}
 use Rattle.ls_code.specs.Machine.{Machine, Entry, started, is_running, setup_ended, is_due}
 use Rattle.ls_code.specs.Machine as machine
 use Rattle.ls_code.specs.declared.step.Mode.{Mode}
 use Rattle.ls_code.specs.declared.step.Mode.TheVariants as mode
 use Rattle.ls_preservation.specs.InWords.{word_of, written, map_action, map_answer, in_words}
 use Rattle.ls_meaning.specs.Renamings.{renamed, renamed_action, renamed_next}
-use Rattle.ls_preservation.specs.Sorts.{Names, Refers, ActionHas, Suits, InKind, Known}
-use Rattle.ls_preservation.specs.Threads.{told, Asks}
-use Rattle.ls_preservation.proofs.Meaning.{Means}
+use Rattle.ls_preservation.specs.Sorts.{Names, Refers, ActionHas, InKind, Known}
+use Rattle.ls_preservation.specs.Threads.{told}
 use Rattle.ls_preservation.specs.Translations.{most_silent}
 use Rattle.ls_preservation.specs.Same.{total}
-use Rattle.ls_preservation.proofs.Lists.{set_here, index_there, get_within, each_set, map_end, length-set}
-use Rattle.ls_preservation.proofs.Feeding.{IsLoud, beginning, ended, stand, told_one, resumed, stand-append, Stands}
+use Rattle.ls_preservation.proofs.Lists.{index_there, get_within}
+use Rattle.ls_preservation.proofs.Feeding.{IsLoud, beginning, ended, stand, resumed, Stands}
 use Rattle.ls_preservation.proofs.Cells.{address_one, length_all, things_fit, offset_below, AgreeTo}
-use Rattle.ls_preservation.proofs.Effects.{Extends, refers_more, things_length, many_length, renaming, Holds, Grows, Agrees}
-use Rattle.ls_preservation.proofs.Effects as effects
+use Rattle.ls_preservation.proofs.Effects.{things_length, many_length, renaming, Holds, Grows, Agrees}
 use Rattle.ls_preservation.proofs.AllCases.{names_of, effects_agree}
-use Rattle.ls_preservation.proofs.Answers.{action_words, answers_words, suited_end, suited_more, suited_renamed}
-use Rattle.ls_preservation.proofs.Answers.{answer_agree, answers_agree, action_agree, Says, says}
+use Rattle.ls_preservation.proofs.Answers.{action_words, answers_words, suited_renamed, Says}
+
+-- an entry of the source's trace
+abbrev pub line : ℕ → Action Value → Answer Value → source.Entry Value
+line t a y = record { thread = t; action = a; answer = y }
+
+-- an entry of the machine's trace
+abbrev pub line_in : ℕ → Action ℕ → Answer ℕ → Entry
+line_in t b w = record { thread = t; action = b; answer = w }
+
+pub entry_same : (t : ℕ) (b b' : Action ℕ) (w w' : Answer ℕ) →
+    b ≡ b' →
+    w ≡ w' →
+    ◌≡◌ {A = Entry} (line_in t b w) (line_in t b' w')
+entry_same t b b' w w' p q = cc
+
+-- the state after an answer to a thread
+abbrev pub told_to : State → ℕ → Answers → Store → Answer Value → State
+told_to s t had st y = record { store = st; answers = slice_set s.answers t (had ++ y ∷ []) }
+
+-- the machine after a step of a thread
+abbrev pub went : Machine → ℕ → Thread → Cells → Bool → List Event → Machine
+went m t x c stopped events = record {
+  code = m.code;
+  threads = slice_set m.threads t x;
+  cells = c;
+  stopped = stopped;
+  history = events;
+}
+
+-- what a step of the machine is, if a thread's part of it is this
+abbrev pub moved : Machine → ℕ → machine_steps.StepResult → machine.Stepped
+moved m t o = machine.stepped_by (machine.after m t o) o.did
+
+-- The words of the section below that other files write without its setting: each says what its namesake there says.
+pub record Notions : Type 1 where
+  pub named : List ValueType
+  pub names : ℕ
+  pub bound : ℕ
+  pub StoreHolds : List ValueType → Store → Cells → Type 0
+  pub stands : ℕ → Thread → Pause
+  pub words : (ℕ → ℕ) → Answers → List (Answer ℕ)
+  pub fed_to : ℕ → Start → List (Answer ℕ) → Pause
+  pub Each : Cells → List ValueType → (ℕ → ℕ) → ℕ → Option Answers → Option Thread → Type 0
+  pub Follows : State → Machine → Type 0
+  pub InWords : (ℕ → ℕ) → Next → Pause → Type 0
+  pub Live : State → source.Entry Value → Type 0
+  pub Later : State → State → Type 0
+  pub write : State → source.Entry Value → Entry
+  pub acts_as : State → Action Value → Action ℕ
 
 module _ (setting : Setting) where
-  abbrev file : File
-  file = setting.file
-
-  abbrev program : Program
-  program = setting.program
-
-  abbrev code : Code
-  code = setting.code
-
-  abbrev asks : Asks file program code
-  asks = setting.asks
-
-  abbrev sound : Means file program
-  sound = setting.sound
-
-  abbrev room : ℕ
-  room = setting.room
-
-  abbrev small : room ≤ most_cells
-  small = setting.small
+  open setting use {file, program, code, asks, sound, room, small}
 
   -- the types of the setup names' objects
   abbrev pub named : List ValueType
@@ -376,43 +398,12 @@ module _ (setting : Setting) where
       (subst (λ q. InWords (renaming names st) (next file program t had) q)
       (began σ st c holds t had x each runs b go em) (stands_so σ st c holds t had x each))
 
-  names_more : (σ σ' : List ValueType) → Extends σ σ' → (n : ℕ) (q : ValueType) → Names σ n q → Names σ' n q
-  names_more σ σ' e zero q h = absurd h
-  names_more σ σ' e (suc n) q h = e n q h
-
-  names_within : (σ : List ValueType) (n : ℕ) (q : ValueType) → Names σ n q → n ≤ length σ
-  names_within σ zero q h = absurd h
-  names_within σ (suc n) q h = get_within σ n q h
-
-  -- what another thread's action leaves of a thread
-  each_more : (σ σ' : List ValueType) (st st' : Store) (c c' : Cells) →
-      StoreHolds σ st c →
-      StoreHolds σ' st' c' →
-      Extends σ σ' →
-      AgreeTo (length σ) (renaming names st) (renaming names st') →
-      (t : ℕ) (a : Action Value) (y : Answer Value) →
-      effect file.classes st t a ≡ Does st' y →
-      (u : ℕ) →
-      u ≢ t →
-      (o : Option Answers) (p : Option Thread) →
-      Each c σ (renaming names st) u o p →
-      Each c' σ' (renaming names st') u o p
-  each_more σ σ' st st' c c' holds holds' e ag t a y does u d None None h = tt
-  each_more σ σ' st st' c c' holds holds' e ag t a y does u d None (Some x) h = absurd h
-  each_more σ σ' st st' c c' holds holds' e ag t a y does u d (Some had) None h = absurd h
-  each_more σ σ' st st' c c' holds holds' e ag t a y does u d (Some had) (Some x) h = (
-    h.0,
-    h.1,
-    suited_more (Refers σ) (Refers σ') (refers_more σ σ' e) (next file program u) had h.2,
-    h.3,
-    h.4 ∙ ap (fed_to u h.0) (answers_agree σ (renaming names st) (renaming names st') ag (next file program u) had h.2),
-    middle_kept code c u h.3 x c' (λ runs b go lock w em on sees.
-        let l = lock_of σ st c holds u had x h runs b go em lock on in
-        subst (λ z. Sees c' u z w) l.4
-        (sees_kept file.classes named code.sizes room σ σ' st st' c c' holds holds' u t (λ z. d (sym z)) a y does l.0
-        l.1 l.2 l.3 (names_more σ σ' e l.0 l.1 l.3) (ag l.0 (names_within σ l.0 l.1 l.3)) w
-        (subst (λ z. Sees c u z w) (sym l.4) sees))) h.5,
-  )
+  -- the place to which an answer leads
+  pub some_thread : (ρ : ℕ → ℕ) (t : ℕ) (d : Next) (o : Option Thread) →
+      InWords ρ d (quiet_from code t bound o) →
+      (x : Thread) × (o ≡ Some x)
+  some_thread ρ t d None h = absurd (not_stuck ρ d h)
+  some_thread ρ t d (Some x) h = (x, refl)
 
   -- what is kept of an entry, whatever is made later
   abbrev pub Live : State → source.Entry Value → Type 0
@@ -427,145 +418,9 @@ module _ (setting : Setting) where
   abbrev pub write : State → source.Entry Value → Entry
   write s e = in_words (renaming names s.store) e
 
-  entry_same : (t : ℕ) (b b' : Action ℕ) (w w' : Answer ℕ) →
-      b ≡ b' →
-      w ≡ w' →
-      ◌≡◌ {A = Entry} (record { thread = t; action = b; answer = w }) (record { thread = t; action = b'; answer = w' })
-  entry_same t b b' w w' p q = cc
-
-  -- an entry of the source's trace
-  abbrev pub line : ℕ → Action Value → Answer Value → source.Entry Value
-  line t a y = record { thread = t; action = a; answer = y }
-
-  -- an entry of the machine's trace
-  abbrev pub line_in : ℕ → Action ℕ → Answer ℕ → Entry
-  line_in t b w = record { thread = t; action = b; answer = w }
-
-  -- the state after an answer to a thread
-  abbrev pub told_to : State → ℕ → Answers → Store → Answer Value → State
-  told_to s t had st y = record { store = st; answers = slice_set s.answers t (had ++ y ∷ []) }
-
-  -- the machine after a step of a thread
-  abbrev pub went : Machine → ℕ → Thread → Cells → Bool → List Event → Machine
-  went m t x c stopped events = record {
-    code = m.code;
-    threads = slice_set m.threads t x;
-    cells = c;
-    stopped = stopped;
-    history = events;
-  }
-
   -- an action of the source in words
   abbrev pub acts_as : State → Action Value → Action ℕ
   acts_as s a = map_action (renaming names s.store) (written (renaming names s.store)) a
-
-  -- a thread goes on, and the source stays in its place
-  pub went_on : (s : State) (m : Machine) (h : Follows s m) (t : ℕ) (had : Answers) (x x' : Thread) (stopped : Bool)
-      (events : List Event) →
-      slice_get s.answers t ≡ Some had →
-      slice_get m.threads t ≡ Some x →
-      Each m.cells h.sorts (renaming names s.store) t (Some had) (Some x') →
-      Follows s (went m t x' m.cells stopped events)
-  went_on s m h t had x x' stopped events at there each' = record {
-    sorts = h.sorts;
-    same_code = h.same_code;
-    holds = h.holds;
-    count = h.count;
-    each = λ u. subst (λ l. Each m.cells h.sorts (renaming names s.store) u (slice_get l u)
-        (slice_get (slice_set m.threads t x') u)) (set_here s.answers t had at)
-        (each_set (Each m.cells h.sorts (renaming names s.store)) s.answers m.threads t had had x x' at there
-        (λ v d. h.each v) each' u);
-  }
-
-  -- the place to which an answer leads
-  some_thread : (ρ : ℕ → ℕ) (t : ℕ) (d : Next) (o : Option Thread) →
-      InWords ρ d (quiet_from code t bound o) →
-      (x : Thread) × (o ≡ Some x)
-  some_thread ρ t d None h = absurd (not_stuck ρ d h)
-  some_thread ρ t d (Some x) h = (x, refl)
-
-  -- both perform the same action
-  pub both_act : (s : State) (m : Machine) (h : Follows s m) (t : ℕ) (had : Answers) (x : Thread) →
-      slice_get s.answers t ≡ Some had →
-      slice_get m.threads t ≡ Some x →
-      (each : Each m.cells h.sorts (renaming names s.store) t (Some had) (Some x)) →
-      (a : Action Value) (q : Sort) →
-      next file program t had ≡ Goes a q →
-      ActionHas file program h.sorts t a q →
-      (go : Answer ℕ → Option Thread) →
-      stands t each.3 ≡ Paused (acts_as s a) go →
-      (st' : Store) (y : Answer Value) (c' : Cells) (w : Answer ℕ) →
-      effect file.classes s.store t a ≡ Does st' y →
-      (x_of : Thread → Thread) →
-      ((y' : Thread) → go w ≡ Some y' → IsLoud (stands t y') →
-      (y'' : Thread) × (stands t y'' ≡ stands t y') × Middle code c' t y'' (x_of y')) →
-      effects.Done file.classes named code.sizes room h.sorts s.store a q st' y c' w →
-      (y' : Thread) × (go w ≡ Some y') × ((stopped : Bool) (events : List Event) →
-      Follows (told_to s t had st' y) (went m t (x_of y') c' stopped events)) ×
-      (line_in t (acts_as s a) w ≡ write (told_to s t had st' y) (line t a y)) ×
-      Live (told_to s t had st' y) (line t a y) × Later s (told_to s t had st' y)
-  both_act s m h t had x at there each a q goes has go acts st' y c' w does x_of mid done =
-      let σ = h.sorts in
-      let σ' = done.sorts in
-      let ρ = renaming names s.store in
-      let ρ' = renaming names st' in
-      let long : length σ ≡ length s.store.things = things_length file.classes σ s.store.things σ h.holds.typed in
-      let long' : length σ' ≡ length st'.things = things_length file.classes σ' st'.things σ' done.holds.typed in
-      let agree : AgreeTo (length σ) ρ ρ' = λ n le. done.grows.places n (omega arith) in
-      let known : Known file program σ' t (had ++ y ∷ []) = suited_end (Refers σ') (next file program t) had y
-      (suited_more (Refers σ) (Refers σ') (refers_more σ σ' done.extends) (next file program t) had each.2)
-      (subst (λ d. Suits (Refers σ') d y) (sym goes) done.suits) in
-      let said : words ρ' (had ++ y ∷ []) ≡ words ρ had ++ w ∷ [] =
-      map_end (map_answer (written ρ')) had y ∙ ap (λ l. l ++ map_answer (written ρ') y ∷ [])
-      (sym (answers_agree σ ρ ρ' agree (next file program t) had each.2)) ∙
-      ap (λ z. words ρ had ++ z ∷ []) (sym done.word) in
-      let way : fed_to t each.0 (words ρ' (had ++ y ∷ [])) ≡ quiet_from code t bound (go w) =
-      ap (fed_to t each.0) said ∙ stand-append code t bound (words ρ had) w (stands t (started each.0)) ∙
-      ap (λ z. told_one code t bound z w) (sym each.4 ∙ acts) in
-      let leads = some_thread ρ' t (next file program t (had ++ y ∷ [])) (go w)
-      (subst (λ z. InWords ρ' (next file program t (had ++ y ∷ [])) z) way
-      (asks_words σ' st' c' done.holds t each.0 (had ++ y ∷ []) each.1 known)) in
-      let way' : stands t leads.0 ≡ fed_to t each.0 (words ρ' (had ++ y ∷ [])) = sym
-      (way ∙ ap (λ o. quiet_from code t bound o) leads.1) in
-      let loud : IsLoud (stands t leads.0) = subst IsLoud (sym way')
-      (in_words_loud ρ' (next file program t (had ++ y ∷ [])) _
-      (asks_words σ' st' c' done.holds t each.0 (had ++ y ∷ []) each.1 known)) in
-      let mids = mid leads.0 leads.1 loud in (
-        leads.0,
-        leads.1,
-        (λ stopped events. record {
-          sorts = σ';
-          same_code = h.same_code;
-          holds = done.holds;
-          count = length-set s.answers t (had ++ y ∷ []) ∙ h.count;
-          each = each_set (Each c' σ' ρ') s.answers m.threads t had (had ++ y ∷ []) x (x_of leads.0) at there
-              (λ u d. each_more σ σ' s.store st' m.cells c' h.holds done.holds done.extends agree t a y does u d
-              (slice_get s.answers u) (slice_get m.threads u) (h.each u))
-              (each.0, each.1, known, mids.0, mids.1 ∙ way', mids.2);
-        }),
-        entry_same t _ _ _ _ (action_agree file program σ ρ ρ' agree t a q has) done.word,
-        (
-          (λ ρ2 ag. entry_same t _ _ _ _ (action_agree file program σ ρ' ρ2
-              (λ n le. ag n (omega (arith, done.grows.things))) t a q has)
-              (answer_agree σ' ρ' ρ2 (λ n le. ag n (omega arith)) (Goes a q) y done.suits)),
-          says file program σ t a q has,
-        ),
-        done.grows,
-      )
-
-  -- a step of the source, from its parts
-  pub source_acts : (s : State) (t : ℕ) (had : Answers) (a : Action Value) (q : Sort) (st' : Store) (y : Answer Value) →
-      has_started file program s t ≡ true →
-      slice_get s.answers t ≡ Some had →
-      next file program t had ≡ Goes a q →
-      effect file.classes s.store t a ≡ Does st' y →
-      source_step file program s t ≡ Acted (told_to s t had st' y) (line t a y)
-  source_acts s t had a q st' y start at goes does =
-      let here : answers_of s t ≡ had = index_there s.answers t had [] at in
-      ap (λ z. stepped t z.did z.after)
-      (ap (λ b. if b then step_of file s t (next file program t (answers_of s t)) else idle s) start
-      ∙ ap (step_of file s t) (ap (next file program t) here ∙ goes) ∙ ap (performed s t a) does)
-      ∙ ap (λ l. Acted (told_to s t l st' y) (line t a y)) here
 
   -- what an action does agrees with what the machine does for it
   pub agree_here : (s : State) (m : Machine) (h : Follows s m) (t : ℕ) (a : Action Value) (q : Sort) →
@@ -574,3 +429,22 @@ module _ (setting : Setting) where
       (cells.effect m.cells t (acts_as s a))
   agree_here s m h t a q has = effects_agree file program code.sizes room small asks.sizes h.sorts s.store m.cells
       h.holds t a q has
+
+  -- to be opened
+  abbrev pub notions : Notions
+  notions = record {
+    named = named;
+    names = names;
+    bound = bound;
+    StoreHolds = StoreHolds;
+    stands = stands;
+    words = words;
+    fed_to = fed_to;
+    Each = Each;
+    Follows = Follows;
+    InWords = InWords;
+    Live = Live;
+    Later = Later;
+    write = write;
+    acts_as = acts_as;
+  }

@@ -25,8 +25,8 @@ use Rattle.ls_code.specs.Words.{int_of, bool_of, word_of as int_word, bool_word}
 use Rattle.ls_code.specs.Code.{Code, Start}
 use Rattle.ls_code.specs.Thread.{Thread}
 use Rattle.ls_code.specs.Events.{result_in, result_value, action_events, events_of}
-use Rattle.ls_code.specs.Machine.{Machine, Entry, loaded, is_due, due_step, open_step, step_of, machine_step}
-use Rattle.ls_code.specs.Machine.{machine_run, machine_trace}
+use Rattle.ls_code.specs.Machine.{Machine, Entry, is_due, due_step, open_step, step_of, machine_step, machine_run}
+use Rattle.ls_code.specs.Machine.{machine_trace}
 use Rattle.ls_code.specs.Machine as machine
 use Rattle.ls_code.specs.declared.step.Did.{Did}
 use Rattle.ls_code.specs.declared.step.Did.TheVariants as did

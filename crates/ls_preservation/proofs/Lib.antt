@@ -4,21 +4,30 @@ pub mod Setting
 pub mod Runs
 pub mod LiftBack
 pub mod LiftForth
+pub mod ReadPlans
 pub mod Feeding
 pub mod Cells
 pub mod Effects
 pub mod FieldCases
-pub mod ThingCases
+pub mod ItemCases
+pub mod LockCases
+pub mod PairCases
 pub mod AllCases
 pub mod Answers
 pub mod LockWords
+pub mod UsualMoves
 pub mod Codes
 pub mod PartsThere
 pub mod Others
 pub mod LockCells
 pub mod Middle
 pub mod Following
+pub mod BothAct
+pub mod ActingBack
+pub mod LocksBack
 pub mod StepBack
+pub mod Between
+pub mod BurstActs
 pub mod Bursts
 pub mod StepForth
 pub mod Total
@@ -32,6 +41,8 @@ pub mod Shorter
 mod Exchanging
 mod OwnParts
 mod Meets
+mod SameFed
+mod LockFed
 mod FedByWords
 mod AskedByWords
 pub mod Reached

@@ -12,7 +12,7 @@ use Rattle.ls_code.specs.Code.{Code}
 use Rattle.ls_code.specs.Thread.{Thread}
 use Rattle.ls_code.specs.Cells.{Cells, Answers, Waits, cell_at}
 use Rattle.ls_code.specs.Exchanges.{throwing}
-use Rattle.ls_code.specs.Steps.{Outcome, outcome_of, ended_so}
+use Rattle.ls_code.specs.Steps.{StepResult, step_result, ended_so}
 use Rattle.ls_code.specs.Locks.{taken_of, left_of, is_own}
 use Rattle.ls_code.specs.Reading.{seen, exchanged, full_word, after_lock, after_try, after_unlock}
 use Rattle.ls_code.specs.declared.step.Mode.TheVariants as mode
@@ -33,14 +33,14 @@ abbrev pub Word : Cells → ℕ → ℕ → Type 0
 Word c t lock = (now : ℕ) × (cell_at c lock 0 ≡ Some now) × (taken_of now t ≡ taken.TooMany → now ≡ full_word t)
 
 module _ (room : Bool) (code : Code) (t : ℕ) (c : Cells) where
-  acts_by : (x : Thread) (o : Outcome) → one code t c x ≡ o → Acting room o.did → Acting room (one code t c x).did
-  acts_by x o e acts = ap (λ (z : Outcome). acts_or_stops room z.did) e ∙ acts
+  acts_by : (x : Thread) (o : StepResult) → one code t c x ≡ o → Acting room o.did → Acting room (one code t c x).did
+  acts_by x o e acts = ap (λ (z : StepResult). acts_or_stops room z.did) e ∙ acts
 
   acts_thrown : (x x' z : Thread) (b : Action ℕ) (kind : Kind) →
       one code t c x ≡ ended_so c x (throwing code z kind) (did.Acted b (Fails kind)) →
       throwing code z kind ≡ Some x' →
       Acting room (one code t c x).did
-  acts_thrown x x' z b kind e thrown = acts_by x (outcome_of x' c (did.Acted b (Fails kind)))
+  acts_thrown x x' z b kind e thrown = acts_by x (step_result x' c (did.Acted b (Fails kind)))
       (e ∙ ap (λ o. ended_so c x o (did.Acted b (Fails kind))) thrown) refl
 
   module _ (y : Thread) (runs : y.mode ≡ mode.Running) (a : ℕ) (now : ℕ) (ec : cell_at c a 0 ≡ Some now)

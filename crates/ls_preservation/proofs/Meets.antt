@@ -1,23 +1,23 @@
 -- The pauses to which a thread is read, and the pauses of its own instructions.
-use Rattle.std.proofs.Common.{◌≡◌, ℕ, zero, suc, ◌≤◌, Bool, true, false, List, [], ◌∷◌, Option, Some, None, refl, sym}
-use Rattle.std.proofs.Common.{ap, ◌∙◌, subst, arith, ◌⊎◌, inl, inr, if◌then◌else◌, All}
+use Rattle.std.proofs.Common.{◌≡◌, ℕ, zero, suc, ◌≤◌, true, false, List, [], ◌∷◌, Option, refl, sym, ap, ◌∙◌, subst}
+use Rattle.std.proofs.Common.{arith, ◌⊎◌, inl, inr, All}
 use Rattle.ls_events.specs.declared.action.Action.{Action}
 use Rattle.ls_events.specs.declared.action.Action.TheVariants as act
 use Rattle.ls_events.specs.declared.action.Answer.{Answer}
 use Rattle.ls_code.specs.Code.{Code}
 use Rattle.ls_code.specs.Thread.{Thread}
-use Rattle.ls_code.specs.Exchanges.{Quietly, Reports, Plan, Says, Touches, Stores}
-use Rattle.ls_code.specs.Steps.{Move, Silent, Still, Asks, Plans, silent_or_still, thread_move}
-use Rattle.ls_code.specs.Fed.{Pause, Paused, Passes, IsOver, IsStuck, TooLong, Lost, carry_on, carry_plan}
+use Rattle.ls_code.specs.Steps.{Move, Silent, Still, Asks, Plans, thread_move}
+use Rattle.ls_code.specs.Fed.{Pause, Paused, Passes, IsOver, IsStuck, TooLong, Lost, carry_plan}
 use Rattle.ls_code.specs.Fed as own
 use Rattle.ls_code.specs.declared.step.Mode.{Mode}
 use Rattle.ls_code.specs.declared.step.Mode.TheVariants as mode
-use Rattle.ls_code.specs.Reading.{is_locking, is_trying, is_unlocking, operation, planned_move, read_move, whole_move}
-use Rattle.ls_code.specs.Reading.{begins_early, after_lock, after_try, after_unlock, carry, quiet, resume}
+use Rattle.ls_code.specs.Reading.{is_locking, is_trying, is_unlocking, read_move, whole_move, begins_early, after_lock}
+use Rattle.ls_code.specs.Reading.{after_try, after_unlock, carry, quiet, resume}
 use Rattle.ls_preservation.specs.Parts.{IsPlanned}
 use Rattle.ls_preservation.specs.ByWords.{IsExchanged, is_on_lock}
-use Rattle.ls_preservation.proofs.Feeding.{IsLoud, NoPlan, none, asked_by, asking, ended, trapped, still, beginning, at_end}
-use Rattle.ls_preservation.proofs.Feeding.{more}
+use Rattle.ls_preservation.proofs.ReadPlans.{plan_all}
+use Rattle.ls_preservation.proofs.Feeding.{IsLoud, NoPlan, none, asked_by, asking, ended, trapped, still, beginning}
+use Rattle.ls_preservation.proofs.Feeding.{at_end, more}
 use Rattle.ls_preservation.proofs.PartsThere.{Begins, Beginning, there}
 use Rattle.ls_preservation.proofs.Exchanging.{asks_plainly}
 use Rattle.ls_preservation.proofs.OwnParts.{rest, at}
@@ -67,85 +67,14 @@ module _ (p : Code) (number : ℕ) where
   -- what the reading calls silent, is silent
   abbrev Tells : Thread → Move → Move → Type 0
   Tells x d (Silent u) = (g : Thread → Pause) → own.carry number d g ≡ g u
-  Tells x d Still = Unit {0}
-  Tells x d (Asks a go) = Unit {0}
-  Tells x d (Plans go) = Unit {0}
-
-  if_tells : (x : Thread) (d : Move) (b : Bool) (a : Action ℕ) (go : Answer ℕ → Option Thread) →
-      Tells x d (if b then Asks a go else Still)
-  if_tells x d true a go = tt
-  if_tells x d false a go = tt
-
-  operation_tells : (x : Thread) (d : Move) (a : Action ℕ) → Tells x d (operation p number x a)
-  operation_tells x d (act.Lock o) = if_tells x d (is_locking p 1 x.top.counter) _ _
-  operation_tells x d (act.TryLock o) = if_tells x d (is_trying p x.top.counter) _ _
-  operation_tells x d (act.Unlock o) = if_tells x d (is_unlocking p 0 x.top.counter) _ _
-  operation_tells x d (act.LockMonitor o) = if_tells x d (is_locking p 4 x.top.counter) _ _
-  operation_tells x d (act.UnlockMonitor o) = if_tells x d (is_unlocking p 1 x.top.counter) _ _
-  operation_tells x d (act.ReadField o i) = tt
-  operation_tells x d (act.WriteField o i v) = tt
-  operation_tells x d (act.ReadItem o i) = tt
-  operation_tells x d (act.WriteItem o i v) = tt
-  operation_tells x d (act.ReadName o) = tt
-  operation_tells x d (act.WriteName o v) = tt
-  operation_tells x d (act.New o) = tt
-  operation_tells x d act.NewLock = tt
-  operation_tells x d (act.NewMarkable v) = tt
-  operation_tells x d (act.NewArray o) = tt
-  operation_tells x d (act.IsHeld o) = tt
-  operation_tells x d (act.ReadPair o) = tt
-  operation_tells x d (act.SetPair o v) = tt
-  operation_tells x d (act.SwapPair o v w) = tt
-  operation_tells x d (act.AttemptMark o r m) = tt
-  operation_tells x d act.Turn = tt
-  operation_tells x d (act.Enter o) = tt
-  operation_tells x d (act.Call o) = tt
-  operation_tells x d (act.Return o v) = tt
-  operation_tells x d (act.Trap o v) = tt
-
-  says_tells : (x : Thread) (d : Move) (o : Option Thread) →
-      ((g : Thread → Pause) → own.carry number d g ≡ carry_on o g) →
-      Tells x d (silent_or_still o)
-  says_tells x d None f = tt
-  says_tells x d (Some u) f = f
-
-  plan_tells : (x : Thread) (d : Move) (q : Plan) →
-      ((g : Thread → Pause) → own.carry number d g ≡ carry_plan q g) →
-      Tells x d (planned_move p number x q)
-  plan_tells x d (Says (Quietly s)) f = says_tells x d s f
-  plan_tells x d (Says (Reports a y s)) f = tt
-  plan_tells x d (Stores touch s) f = tt
-  plan_tells x d (Touches a (act.ReadPair lock) go) f = operation_tells x d a
-  plan_tells x d (Touches a (act.ReadField o i) go) f = tt
-  plan_tells x d (Touches a (act.WriteField o i v) go) f = tt
-  plan_tells x d (Touches a (act.ReadItem o i) go) f = tt
-  plan_tells x d (Touches a (act.WriteItem o i v) go) f = tt
-  plan_tells x d (Touches a (act.ReadName o) go) f = tt
-  plan_tells x d (Touches a (act.WriteName o v) go) f = tt
-  plan_tells x d (Touches a (act.New o) go) f = tt
-  plan_tells x d (Touches a act.NewLock go) f = tt
-  plan_tells x d (Touches a (act.NewMarkable v) go) f = tt
-  plan_tells x d (Touches a (act.NewArray o) go) f = tt
-  plan_tells x d (Touches a (act.IsHeld o) go) f = tt
-  plan_tells x d (Touches a (act.LockMonitor o) go) f = tt
-  plan_tells x d (Touches a (act.UnlockMonitor o) go) f = tt
-  plan_tells x d (Touches a (act.SetPair o v) go) f = tt
-  plan_tells x d (Touches a (act.SwapPair o v w) go) f = tt
-  plan_tells x d (Touches a (act.AttemptMark o r m) go) f = tt
-  plan_tells x d (Touches a act.Turn go) f = tt
-  plan_tells x d (Touches a (act.Enter o) go) f = tt
-  plan_tells x d (Touches a (act.Call o) go) f = tt
-  plan_tells x d (Touches a (act.Return o v) go) f = tt
-  plan_tells x d (Touches a (act.Trap o v) go) f = tt
-  plan_tells x d (Touches a (act.Lock o) go) f = tt
-  plan_tells x d (Touches a (act.TryLock o) go) f = tt
-  plan_tells x d (Touches a (act.Unlock o) go) f = tt
+  Tells x d _ = Unit {0}
 
   move_tells : (x : Thread) (d : Move) → Tells x d (read_move p number x d)
   move_tells x (Silent u) = λ g. refl
   move_tells x Still = tt
   move_tells x (Asks a go) = tt
-  move_tells x (Plans go) = plan_tells x (Plans go) (go number) (λ g. refl)
+  move_tells x (Plans go) = plan_all p number (Tells x (Plans go)) (record { still = tt; asks = λ a go. tt }) x
+      (go number) (λ u e g. ap (λ q. carry_plan q g) e)
 
   silent_own : (x u : Thread) →
       whole_move p number x ≡ Silent u →
@@ -179,26 +108,7 @@ module _ (p : Code) (n bound : ℕ) where
       (er ∙ ap (Paused (act.LockMonitor a)) b.1) eo
   begun y (act.UnlockMonitor a) go j r o run b er eo = LeaveBegins y a j run b.0
       (er ∙ ap (Paused (act.UnlockMonitor a)) b.1) eo
-  begun y (act.ReadField o i) go j q z run b er eo = absurd b
-  begun y (act.WriteField o i v) go j q z run b er eo = absurd b
-  begun y (act.ReadItem o i) go j q z run b er eo = absurd b
-  begun y (act.WriteItem o i v) go j q z run b er eo = absurd b
-  begun y (act.ReadName o) go j q z run b er eo = absurd b
-  begun y (act.WriteName o v) go j q z run b er eo = absurd b
-  begun y (act.New o) go j q z run b er eo = absurd b
-  begun y act.NewLock go j q z run b er eo = absurd b
-  begun y (act.NewMarkable v) go j q z run b er eo = absurd b
-  begun y (act.NewArray o) go j q z run b er eo = absurd b
-  begun y (act.IsHeld o) go j q z run b er eo = absurd b
-  begun y (act.ReadPair o) go j q z run b er eo = absurd b
-  begun y (act.SetPair o v) go j q z run b er eo = absurd b
-  begun y (act.SwapPair o v w) go j q z run b er eo = absurd b
-  begun y (act.AttemptMark o r m) go j q z run b er eo = absurd b
-  begun y act.Turn go j q z run b er eo = absurd b
-  begun y (act.Enter o) go j q z run b er eo = absurd b
-  begun y (act.Call o) go j q z run b er eo = absurd b
-  begun y (act.Return o v) go j q z run b er eo = absurd b
-  begun y (act.Trap o v) go j q z run b er eo = absurd b
+  begun y b go j r o run h er eo = absurd h
 
   own_over : (k : ℕ) (t : Thread) (m : Mode) →
       t.mode ≡ m →

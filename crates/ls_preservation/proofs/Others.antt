@@ -26,7 +26,7 @@ use Rattle.ls_preservation.proofs.Lists.{set_same, set_other, get_within, get_le
 use Rattle.ls_preservation.proofs.Cells.{hold_word}
 use Rattle.ls_preservation.proofs.Effects.{IsHold, ThingHas, thing_there, renaming, Holds}
 use Rattle.ls_preservation.proofs.FieldCases.{thing_is, put_is, cell_is}
-use Rattle.ls_preservation.proofs.ThingCases.{held_own}
+use Rattle.ls_preservation.proofs.LockCases.{held_own}
 use Rattle.ls_preservation.proofs.LockWords.{Fresh, fresh_apart, zero_not_own}
 
 -- the hold of a thing; a thing without one is as if it were free

@@ -16,8 +16,8 @@ use Rattle.ls_code.specs.Moves.{discarded}
 use Rattle.ls_code.specs.Exchanges.{Seen, Quietly, Reports, Says, Touches, throwing, saw, see_at, see_named}
 use Rattle.ls_code.specs.Exchanges.{seeing_action, taking_action, dropping_action, take_at, take_named, take_from, took}
 use Rattle.ls_code.specs.Exchanges.{replaced, drop_at, drop_named, drop_to, with_word, stuck}
-use Rattle.ls_code.specs.Steps.{Move, Silent, Still, Asks, Plans, outcome_of, seen_outcome, touched, planned, performed}
-use Rattle.ls_code.specs.Steps.{fetched_move, silent_or_still, thread_move}
+use Rattle.ls_code.specs.Steps.{Move, Silent, Still, Asks, Plans, step_result, seen_outcome, touched, planned}
+use Rattle.ls_code.specs.Steps.{performed, fetched_move, silent_or_still, thread_move}
 use Rattle.ls_code.specs.declared.step.Did.TheVariants as did
 use Rattle.ls_code.specs.declared.instruction.Instruction.{Instruction}
 use Rattle.ls_code.specs.declared.instruction.Instruction.TheVariants as op
@@ -81,7 +81,7 @@ module _ (p : Code) (n : ℕ) (y : Thread) (a : ℕ) (rest : List ℕ) (top : y.
 
   back_is : (c : Cells) →
       slice_get p.instructions (y.top.counter + 1 + 1) ≡ Some (op.JumpIfFalse y.top.counter) →
-      one p n c (exchanged y 0) ≡ outcome_of y c did.Silent
+      one p n c (exchanged y 0) ≡ step_result y c did.Silent
   back_is c e = ap (performed c n (exchanged y 0)) (ap (fetched_move p (exchanged y 0)) e)
 
   -- SEE of an operation, if the lock isn't null and there is room for the word
@@ -194,7 +194,7 @@ module _ (p : Code) (n : ℕ) (y : Thread) (a : ℕ) (rest : List ℕ) (top : y.
             drop_is v w o (left.Left next) c at_drop eo ek ∙
             ap (touched c (seen y w) (λ word. Reports o Done
             (Some (with_top (seen y w) (discarded (seen y w).top 2))))) ee
-            ∙ ap (λ z. outcome_of z d (did.Acted o Done)) same);
+            ∙ ap (λ z. step_result z d (did.Acted o Done)) same);
       }
     where
       owner : (w : ℕ) (b : Bool) → is_own w n ≡ b → (next : ℕ) → left_of w n ≡ left.Left next → is_own w n ≡ true

@@ -11,7 +11,7 @@ use Rattle.ls_meaning.specs.Threads.{Next, Goes, Ended, Trapped, next}
 use Rattle.ls_meaning.specs.Runs.{State, answers_of, source_run}
 use Rattle.ls_code.specs.Code.{Code}
 use Rattle.ls_code.specs.Thread.{Thread}
-use Rattle.ls_code.specs.Steps.{Move, Silent, Still, Asks as MoveAsks, Plans, thread_move, performed, outcome_of}
+use Rattle.ls_code.specs.Steps.{Move, Silent, Still, Asks as MoveAsks, Plans, thread_move, performed, step_result}
 use Rattle.ls_code.specs.Steps as machine_steps
 use Rattle.ls_code.specs.Fed.{Pause, Paused, Passes, IsOver, IsStuck, TooLong}
 use Rattle.ls_code.specs.Reading.{whole_move, begins_early, carry, quiet, word_of_another, exchanged}
@@ -25,7 +25,7 @@ use Rattle.ls_code.specs.declared.step.ThreadState.TheVariants as state
 use Rattle.ls_preservation.specs.Threads.{Asks}
 use Rattle.ls_preservation.specs.Same.{IsCells}
 use Rattle.ls_preservation.specs.Translations.{most_silent, to_source}
-use Rattle.ls_preservation.proofs.Setting.{Setting}
+use Rattle.ls_preservation.proofs.Setting.{Setting, setting_of}
 use Rattle.ls_preservation.proofs.Lists.{set_same, set_other, get_there, index_there}
 use Rattle.ls_preservation.proofs.Meaning.{Means}
 use Rattle.ls_preservation.proofs.Runs.{run-append}
@@ -65,10 +65,10 @@ module _ (code : Code) (t : ℕ) where
       x.mode ≡ mode.Running →
       Ready m →
       slice_get m.threads t ≡ Some x →
-      performed m.cells t x (thread_move code x) ≡ outcome_of x' m.cells did.Silent →
-      machine_step m t ≡ machine.stepped_by (machine.after m t (outcome_of x' m.cells did.Silent)) did.Silent
+      performed m.cells t x (thread_move code x) ≡ step_result x' m.cells did.Silent →
+      machine_step m t ≡ machine.stepped_by (machine.after m t (step_result x' m.cells did.Silent)) did.Silent
   silent_step m x x' image goes runs ready there em = step_is m x image goes runs ready there ∙
-      ap (λ (o : machine_steps.Outcome). machine.stepped_by (machine.after m t o) o.did) em
+      ap (λ (o : machine_steps.StepResult). machine.stepped_by (machine.after m t o) o.did) em
 
   -- a step of the thread leaves that so
   pub still_ready : (m : Machine) (x : Thread) (b : Bool) →
@@ -170,11 +170,11 @@ module _ (code : Code) (t : ℕ) where
       (x x' : Thread) →
       slice_get m.threads t ≡ Some x →
       x.mode ≡ mode.Running →
-      performed m.cells t x (thread_move code x) ≡ outcome_of x' m.cells did.Silent →
+      performed m.cells t x (thread_move code x) ≡ step_result x' m.cells did.Silent →
       quiet code t n x' ≡ IsOver z →
       machine_state (machine_run m (replicate (suc n) t)) t ≡ mode_state z
   ends_after z n ih m image goes ready x x' there runs em e =
-      let m' : Machine = machine.after m t (outcome_of x' m.cells did.Silent) in
+      let m' : Machine = machine.after m t (step_result x' m.cells did.Silent) in
       ap (λ (r : machine.Stepped). machine_state (machine_run r.machine (replicate n t)) t)
       (silent_step m x x' image goes runs ready there em)
       ∙ ih m' image refl (still_ready m x' (nat_eq t 0) refl ready) x' (set_same m.threads t x x' there) e
@@ -249,7 +249,7 @@ module _ (code : Code) (t : ℕ) where
       slice_get m.threads t ≡ Some x →
       x.mode ≡ mode.Running →
       y.mode ≡ mode.Running →
-      performed m.cells t x (thread_move code x) ≡ outcome_of x' m.cells did.Silent →
+      performed m.cells t x (thread_move code x) ≡ step_result x' m.cells did.Silent →
       whole_move code t y ≡ Silent x' →
       quiet code t n y ≡ IsOver z →
       machine_state (machine_run m (replicate n t)) t ≡ mode_state z
@@ -284,30 +284,15 @@ module _ (code : Code) (t : ℕ) where
 module _ (file : File) (program : Program) (code : Code) (asks : Asks file program code) (sound : Means file program)
     (room : ℕ) (within : IsCells code room) where
   abbrev setting : Setting
-  setting = record {
-    file = file;
-    program = program;
-    code = code;
-    asks = asks;
-    sound = sound;
-    room = room;
-    small = within.most;
-  }
+  setting = setting_of file program code asks sound room within
 
-  abbrev bound : ℕ
-  bound = most_silent code
-
-  abbrev Follows : State → Machine → Type 0
-  Follows = Following.Follows setting
+  open Following.notions setting use {names, bound, stands, Follows, InWords}
 
   abbrev Each : (s : State) (m : Machine) → Follows s m → ℕ → Option Answers → Option Thread → Type 0
-  Each s m h t o p = Following.Each setting m.cells h.sorts (renaming (Following.names setting) s.store) t o p
+  Each s m h t o p = Following.Each setting m.cells h.sorts (renaming names s.store) t o p
 
   abbrev Stood : Next → Machine → ℕ → Type 0
   Stood d m t = StandsAs d (machine_state (machine_run m (replicate bound t)) t)
-
-  abbrev InWords : (ℕ → ℕ) → Next → Pause → Type 0
-  InWords = Following.InWords setting
 
   in_time_by : (ρ : ℕ → ℕ) (m : Machine) (t : ℕ) →
       m.code ≡ code →
@@ -316,7 +301,7 @@ module _ (file : File) (program : Program) (code : Code) (asks : Asks file progr
       slice_get m.threads t ≡ Some x →
       Middle code m.cells t y x →
       (d : Next) (q : Pause) →
-      Following.stands setting t y ≡ q →
+      stands t y ≡ q →
       InWords ρ d q →
       Stood d m t
   in_time_by ρ m t image is_open y x there mid (Goes a k) q e w = tt
@@ -348,7 +333,7 @@ module _ (file : File) (program : Program) (code : Code) (asks : Asks file progr
   in_time_at s m h t is_open had at None there each = absurd each
   in_time_at s m h t is_open had at (Some x) there each =
       in_time_by _ m t h.same_code is_open each.3 x there each.5 (next file program t had)
-      (Following.stands setting t each.3) refl
+      (stands t each.3) refl
       (Following.stands_so setting h.sorts s.store m.cells h.holds t had x each)
 
   pub in_time : (s : State) (m : Machine) (h : Follows s m) (t : ℕ) →

@@ -11,7 +11,7 @@ use Rattle.ls_code.specs.Machine.{Machine, Entry, loaded, machine_run}
 use Rattle.ls_preservation.specs.Threads.{Asks}
 use Rattle.ls_preservation.specs.Translations.{to_source}
 use Rattle.ls_preservation.specs.Same.{IsCells}
-use Rattle.ls_preservation.proofs.Setting.{Setting}
+use Rattle.ls_preservation.proofs.Setting.{Setting, setting_of}
 use Rattle.ls_preservation.proofs.Meaning.{Means}
 use Rattle.ls_preservation.proofs.Runs.{md, run_is, trace_is}
 use Rattle.ls_preservation.proofs.LiftBack
@@ -21,27 +21,9 @@ use Rattle.ls_preservation.proofs.Theorem
 module _ (file : File) (program : Program) (code : Code) (asks : Asks file program code) (sound : Means file program)
     (room : ℕ) (within : IsCells code room) where
   abbrev setting : Setting
-  setting = record {
-    file = file;
-    program = program;
-    code = code;
-    asks = asks;
-    sound = sound;
-    room = room;
-    small = within.most;
-  }
+  setting = setting_of file program code asks sound room within
 
-  abbrev Follows : State → Machine → Type 0
-  Follows = Following.Follows setting
-
-  abbrev Live : State → source.Entry Value → Type 0
-  Live = Following.Live setting
-
-  abbrev Later : State → State → Type 0
-  Later = Following.Later setting
-
-  abbrev write : State → source.Entry Value → Entry
-  write = Following.write setting
+  open Following.notions setting use {Follows, Live, Later, write}
 
   -- after each schedule the machine follows the source
   pub follows_all : (ts : List ℕ) →

@@ -6,7 +6,7 @@ use Rattle.ls_events.specs.declared.action.Answer.{Answer}
 use Rattle.ls_code.specs.Code.{Code}
 use Rattle.ls_code.specs.Thread.{Thread}
 use Rattle.ls_code.specs.Cells.{Cells}
-use Rattle.ls_code.specs.Steps.{Move, Silent, Still, Asks as MoveAsks, Plans, outcome_of, thread_move, fetched_move}
+use Rattle.ls_code.specs.Steps.{Move, Silent, Still, Asks as MoveAsks, Plans, step_result, thread_move, fetched_move}
 use Rattle.ls_code.specs.Fed.{Pause, Paused, IsOver, TooLong}
 use Rattle.ls_code.specs.Reading.{seen, exchanged, whole_move, begins_early, carry, quiet, word_of_another}
 use Rattle.ls_code.specs.declared.instruction.Instruction.{Instruction}
@@ -163,7 +163,7 @@ module _ (room : Bool) (code : Code) (t : ℕ) (c : Cells) (b : Action ℕ) (go 
   told : (n : ℕ) (x y x' : Thread) →
       x.mode ≡ mode.Running →
       y.mode ≡ mode.Running →
-      one code t c x ≡ outcome_of x' c did.Silent →
+      one code t c x ≡ step_result x' c did.Silent →
       whole_move code t y ≡ Silent x' →
       quiet code t n y ≡ Paused b go →
       Comes room code t c (suc n) x

@@ -6,8 +6,8 @@ use Rattle.ls_preservation.specs.Same.{Same}
 use Rattle.ls_preservation.specs.Threads.{Asks}
 use Rattle.ls_preservation.specs.InTime.{EndsInTime}
 use Rattle.ls_preservation.specs.Acting.{ActsInTime}
-use Rattle.ls_preservation.specs.WrongCodes.{no_file, no_calls, goes_round, stuck, still, fat, mute, two, swapped, fewer}
-use Rattle.ls_preservation.specs.WrongCodes.{locking_file, locking, gives_up, lost_race}
+use Rattle.ls_preservation.specs.WrongCodes.{no_file, no_calls, goes_round, stuck, still, fat, mute, two, swapped}
+use Rattle.ls_preservation.specs.WrongCodes.{fewer, locking_file, locking, gives_up, lost_race}
 
 -- the setup's five actions, and T's six
 abbrev actions : List ℕ

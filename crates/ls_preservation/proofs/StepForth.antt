@@ -1,13 +1,10 @@
 -- One step of the source, and what the machine does for it.
 use Rattle.std.proofs.Common.{◌≡◌, ℕ, zero, suc, ◌+◌, ◌<◌, ◌≤◌, Bool, true, false, ◌||◌, List, [], ◌∷◌, ◌++◌, length}
 use Rattle.std.proofs.Common.{Option, Some, None, refl, sym, ap, ◌∙◌, subst, arith, slice_get, nat_eq, if◌then◌else◌}
-use Rattle.ls_code.specs.Limits.{most_cells}
 use Rattle.ls_events.specs.declared.value.Value.{Value}
-use Rattle.ls_events.specs.declared.value.ValueType.{ValueType}
 use Rattle.ls_events.specs.declared.action.Action.{Action}
 use Rattle.ls_events.specs.declared.action.Answer.{Answer}
-use Rattle.ls_checked.specs.CheckedTree.{File}
-use Rattle.ls_checked.specs.CheckedProgram.{Program, ThreadProgram}
+use Rattle.ls_checked.specs.CheckedProgram.{ThreadProgram}
 use Rattle.ls_meaning.specs.declared.sort.Sort.{Sort}
 use Rattle.ls_meaning.specs.Course.{Answers}
 use Rattle.ls_meaning.specs.Store.{Store}
@@ -17,7 +14,6 @@ use Rattle.ls_meaning.specs.Steps.{Stepped, Acted}
 use Rattle.ls_meaning.specs.Steps as source
 use Rattle.ls_meaning.specs.Runs.{State, answers_of, has_ended, has_started, performed, idle, step_of, stepped}
 use Rattle.ls_meaning.specs.Runs.{source_step}
-use Rattle.ls_code.specs.Code.{Code}
 use Rattle.ls_code.specs.Thread.{Thread}
 use Rattle.ls_code.specs.Steps.{Move, Silent, Still, Asks as MoveAsks, Plans, thread_move}
 use Rattle.ls_code.specs.Steps as machine_steps
@@ -28,77 +24,23 @@ use Rattle.ls_code.specs.Machine as machine
 use Rattle.ls_code.specs.declared.step.Mode.{Mode}
 use Rattle.ls_code.specs.declared.step.Mode.TheVariants as mode
 use Rattle.ls_code.specs.declared.step.Did.TheVariants as did
-use Rattle.ls_preservation.specs.Threads.{Asks}
 use Rattle.ls_preservation.proofs.Setting.{Setting}
-use Rattle.ls_preservation.proofs.Meaning.{Means}
-use Rattle.ls_preservation.specs.Translations.{most_silent, until_acts, unless, until_over, setup_end, has_setup_ended}
+use Rattle.ls_preservation.specs.Translations.{until_acts, unless, until_over, setup_end, has_setup_ended}
 use Rattle.ls_preservation.specs.Same.{total}
 use Rattle.ls_preservation.proofs.Lists.{set_same, get_there, index_there, get_within}
 use Rattle.ls_preservation.proofs.Runs.{run-append, trace-append}
 use Rattle.ls_preservation.proofs.LiftForth
 use Rattle.ls_preservation.proofs.Feeding.{IsLoud, silent_is, trapped, at_end, more}
 use Rattle.ls_preservation.proofs.Effects.{renaming}
-use Rattle.ls_preservation.proofs.AllCases.{names_of}
+use Rattle.ls_preservation.proofs.Following.{line, told_to, moved}
 use Rattle.ls_preservation.proofs.Following
+use Rattle.ls_preservation.proofs.Between
 use Rattle.ls_preservation.proofs.Bursts
 
 module _ (setting : Setting) where
-  abbrev file : File
-  file = setting.file
-
-  abbrev program : Program
-  program = setting.program
-
-  abbrev code : Code
-  code = setting.code
-
-  abbrev asks : Asks file program code
-  asks = setting.asks
-
-  abbrev sound : Means file program
-  sound = setting.sound
-
-  abbrev room : ℕ
-  room = setting.room
-
-  abbrev small : room ≤ most_cells
-  small = setting.small
-
-  abbrev names : ℕ
-  names = length (names_of program)
-
-  abbrev bound : ℕ
-  bound = most_silent code
-
-  abbrev stands : ℕ → Thread → Pause
-  stands = Following.stands setting
-
-  abbrev Each : List ValueType → (ℕ → ℕ) → ℕ → Option Answers → Option Thread → Type 0
-  Each = Bursts.Each setting
-
-  abbrev Follows : State → Machine → Type 0
-  Follows = Bursts.Follows setting
-
-  abbrev InWords : (ℕ → ℕ) → Next → Pause → Type 0
-  InWords = Following.InWords setting
-
-  abbrev Live : State → source.Entry Value → Type 0
-  Live = Following.Live setting
-
-  abbrev Later : State → State → Type 0
-  Later = Following.Later setting
-
-  abbrev write : State → source.Entry Value → Entry
-  write = Following.write setting
-
-  abbrev line : ℕ → Action Value → Answer Value → source.Entry Value
-  line = Following.line setting
-
-  abbrev told_to : State → ℕ → Answers → Store → Answer Value → State
-  told_to = Following.told_to setting
-
-  abbrev moved : Machine → ℕ → machine_steps.Outcome → machine.Stepped
-  moved m t o = machine.stepped_by (machine.after m t o) o.did
+  open setting use {file, program, code, room}
+  open Following.notions setting use {names, bound, stands, InWords, Live, Later, write}
+  open Between.notions setting use {Each, Follows}
 
   -- there is room for what the state has
   abbrev pub Fits : State → Type 0
@@ -177,9 +119,9 @@ module _ (setting : Setting) where
       (asks_not_over true (begins_early (thread_move code x)) b go (quiet code 0 n) e)
   quiet_step n s ih m h unstopped x there runs (Plans go) em e = absurd (cc)
   quiet_step n s ih m h unstopped x there runs (Silent x') em e =
-      let r : machine.Stepped = moved m 0 (machine_steps.outcome_of x' m.cells did.Silent) in
+      let r : machine.Stepped = moved m 0 (machine_steps.step_result x' m.cells did.Silent) in
       let eq : machine_step m 0 ≡ r =
-      Bursts.machine_goes setting m 0 x (thread_move code x) h.same_code unstopped runs refl
+      Between.machine_goes setting m 0 x (thread_move code x) h.same_code unstopped runs refl
       there refl ∙ ap (moved m 0) (silent_is code 0 x x' m.cells em) in
       let on : setup_ended (slice_get m.threads 0) ≡ false = ap setup_ended there ∙ ap machine.has_ended runs in
       let h1 : Follows s r.machine = by_had (slice_get s.answers 0) refl
@@ -193,10 +135,10 @@ module _ (setting : Setting) where
       by_had : (o : Option Answers) →
           slice_get s.answers 0 ≡ o →
           Each h.sorts (renaming names s.store) 0 o (Some x) →
-          Follows s (moved m 0 (machine_steps.outcome_of x' m.cells did.Silent)).machine
+          Follows s (moved m 0 (machine_steps.step_result x' m.cells did.Silent)).machine
       by_had None at each = absurd each
-      by_had (Some had) at each = Bursts.went_on setting s m h 0 had x x' false _ at there
-          (Bursts.keeps setting h.sorts s.store m.cells h.holds 0 had x x' each runs em)
+      by_had (Some had) at each = Between.went_on setting s m h 0 had x x' false _ at there
+          (Between.keeps setting h.sorts s.store m.cells h.holds 0 had x x' each runs em)
 
   quiet_more : (n : ℕ) (s : State) →
       Quiets s n →
@@ -260,7 +202,7 @@ module _ (setting : Setting) where
       let over' : has_ended (next file program 0 had) ≡ true = ap (λ l. has_ended (next file program 0 l))
       (sym (index_there s.answers 0 had [] at)) ∙ over in
       let stood : stands 0 x ≡ IsOver mode.Ended = over_words (renaming names s.store) (next file program 0 had)
-      (stands 0 x) (Bursts.stands_so setting h.sorts s.store m.cells h.holds 0 had x each) over' in
+      (stands 0 x) (Between.stands_so setting h.sorts s.store m.cells h.holds 0 had x each) over' in
       quiet_run bound s m h unstopped x there stood
 
   -- in step, with the setup's end made in the machine once its source has ended
@@ -317,7 +259,7 @@ module _ (setting : Setting) where
   forth_does s m h t had at start a q goes st' y does (Some x) there each = λ fits.
       let s1 = told_to s t had st' y in
       let loud : IsLoud (quiet code t bound x) = Following.in_words_loud setting (renaming names s.store)
-      (next file program t had) _ (Bursts.stands_so setting h.follows.sorts s.store m.cells h.follows.holds t
+      (next file program t had) _ (Between.stands_so setting h.follows.sorts s.store m.cells h.follows.holds t
       had x each) in
       let r = Bursts.burst setting s t had at a q goes st' y does fits bound m h.follows h.goes
       (ready_forth s m h t x there (nat_eq t 0) start) x there loud in

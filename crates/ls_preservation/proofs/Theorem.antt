@@ -17,20 +17,19 @@ use Rattle.ls_code.specs.Thread.{Thread}
 use Rattle.ls_code.specs.Machine.{Machine, Entry, started, loaded, machine_trace}
 use Rattle.ls_preservation.specs.InWords.{written, in_words, births, numbered, ArePlaces, Agree}
 use Rattle.ls_preservation.specs.Threads.{Asks, calls_of}
-use Rattle.ls_preservation.proofs.Setting.{Setting}
+use Rattle.ls_preservation.proofs.Setting.{Setting, setting_of}
 use Rattle.ls_preservation.proofs.Meaning.{Means}
-use Rattle.ls_preservation.specs.Translations.{to_source, most_silent, has_setup_ended, to_machine}
+use Rattle.ls_preservation.specs.Translations.{to_source, has_setup_ended, to_machine}
 use Rattle.ls_preservation.specs.Same.{total, Fits, IsCells, Alike, Same}
 use Rattle.ls_preservation.proofs.Runs.{md, trace_is}
 use Rattle.ls_preservation.proofs.LiftBack
 use Rattle.ls_preservation.proofs.LiftForth
 use Rattle.ls_preservation.proofs.Cells.{sizes_of, AgreeTo}
 use Rattle.ls_preservation.proofs.Effects.{HaveTypes, renaming}
-use Rattle.ls_preservation.proofs.AllCases.{names_of}
 use Rattle.ls_preservation.proofs.Following
 use Rattle.ls_preservation.proofs.StepBack
 use Rattle.ls_preservation.proofs.Middle.{Here}
-use Rattle.ls_preservation.proofs.Bursts
+use Rattle.ls_preservation.proofs.Between
 use Rattle.ls_preservation.proofs.StepForth
 use Rattle.ls_preservation.proofs.Histories.{events_in, history_is, AllSay, events_back}
 use Rattle.ls_preservation.proofs.Births.{addresses, numbered_agrees, grows_refl, grows_trans, grows_step, births_right}
@@ -60,15 +59,9 @@ same_length (x ∷ xs) (y ∷ ys) h = ap suc (same_length xs ys (λ t. h (suc t)
 module _ (file : File) (program : Program) (code : Code) (asks : Asks file program code) (sound : Means file program)
     (room : ℕ) (within : IsCells code room) where
   abbrev setting : Setting
-  setting = record {
-    file = file;
-    program = program;
-    code = code;
-    asks = asks;
-    sound = sound;
-    room = room;
-    small = within.most;
-  }
+  setting = setting_of file program code asks sound room within
+
+  open Following.notions setting use {names, bound, Follows, Live, Later, write}
 
   abbrev sd : State → ℕ → Stepped State (source.Entry Value)
   sd = source_step file program
@@ -79,30 +72,8 @@ module _ (file : File) (program : Program) (code : Code) (asks : Asks file progr
   abbrev m0 : Machine
   m0 = loaded code room
 
-  abbrev names : ℕ
-  names = length (names_of program)
-
-  abbrev bound : ℕ
-  bound = most_silent code
-
-  -- the relation between the two runs
-  abbrev pub Follows : State → Machine → Type 0
-  Follows = Following.Follows setting
-
-  -- what is kept of an entry, whatever is made later
-  abbrev pub Live : State → source.Entry Value → Type 0
-  Live = Following.Live setting
-
-  -- a later state
-  abbrev pub Later : State → State → Type 0
-  Later = Following.Later setting
-
-  -- an entry of the source's trace in words
-  abbrev pub write : State → source.Entry Value → Entry
-  write = Following.write setting
-
   abbrev Has : ℕ → Option Answers → Option Thread → Type 0
-  Has t o p = Bursts.Each setting [] (renaming names s0.store) t o p
+  Has t o p = Between.Each setting [] (renaming names s0.store) t o p
 
   each_start : (xs : List Start) (ys : List ThreadProgram) (k t : ℕ) →
       ((u : ℕ) → calls_of (slice_get xs u) (slice_get ys u)) →
@@ -122,7 +93,7 @@ module _ (file : File) (program : Program) (code : Code) (asks : Asks file progr
   count : names ≡ length program.names
   count = length-map program.names (λ x. type.Class x.class)
 
-  steady_start : Bursts.Follows setting s0 m0
+  steady_start : Between.Follows setting s0 m0
   steady_start = record {
     sorts = [];
     same_code = refl;
@@ -144,7 +115,7 @@ module _ (file : File) (program : Program) (code : Code) (asks : Asks file progr
   }
 
   back_each : (σ : List ValueType) (t : ℕ) (o : Option Answers) (p : Option Thread) →
-      Bursts.Each setting σ (renaming names s0.store) t o p →
+      Between.Each setting σ (renaming names s0.store) t o p →
       Following.Each setting m0.cells σ (renaming names s0.store) t o p
   back_each σ t None None h = tt
   back_each σ t None (Some x) h = absurd h

@@ -46,9 +46,9 @@ is_on_lock a = false
 
 -- what the next word is for: the action of a pause, or an exchange after the operation has seen a word that it can
 -- take
-pub data Stage : Type 0 where
-  Waits : (pause : Pause) → Stage
-  Exchanges : (operation : Action ℕ) → (go : Answer ℕ → Option Thread) → Stage
+pub data Awaited : Type 0 where
+  Waits : (pause : Pause) → Awaited
+  Exchanges : (operation : Action ℕ) → (go : Answer ℕ → Option Thread) → Awaited
 
 -- the answers, if the words are such words
 abbrev pub Read : Type 0
@@ -59,26 +59,26 @@ in_front x None = None
 in_front x (Some xs) = Some (x ∷ xs)
 
 -- the action is over with this answer
-abbrev pub ends_with : Code → ℕ → ℕ → (Answer ℕ → Option Thread) → Answer ℕ → (Stage → Read) → Read
+abbrev pub ends_with : Code → ℕ → ℕ → (Answer ℕ → Option Thread) → Answer ℕ → (Awaited → Read) → Read
 ends_with p n bound go x next = in_front x (next (Waits (quiet_from p n bound (go x))))
 
 -- if a lock is held the most times, it has one word
-abbrev pub too_many : Code → ℕ → ℕ → (Answer ℕ → Option Thread) → ℕ → (Stage → Read) → Read
+abbrev pub too_many : Code → ℕ → ℕ → (Answer ℕ → Option Thread) → ℕ → (Awaited → Read) → Read
 too_many p n bound go word next = if word == full_word n then ends_with p n bound go (Fails Error) next else None
 
 -- if another thread is the owner, `lock()`, and the lock of a monitor, looks again; `tryLock()` is over then
-abbrev pub seen_by_lock : Code → ℕ → ℕ → Action ℕ → (Answer ℕ → Option Thread) → ℕ → Taken → (Stage → Read) → Read
+abbrev pub seen_by_lock : Code → ℕ → ℕ → Action ℕ → (Answer ℕ → Option Thread) → ℕ → Taken → (Awaited → Read) → Read
 seen_by_lock p n bound a go word (taken.Taken changed) next = next (Exchanges a go)
 seen_by_lock p n bound a go word taken.Other next = next (Waits (Paused a go))
 seen_by_lock p n bound a go word taken.TooMany next = too_many p n bound go word next
 
-abbrev pub seen_by_try : Code → ℕ → ℕ → Action ℕ → (Answer ℕ → Option Thread) → ℕ → Taken → (Stage → Read) → Read
+abbrev pub seen_by_try : Code → ℕ → ℕ → Action ℕ → (Answer ℕ → Option Thread) → ℕ → Taken → (Awaited → Read) → Read
 seen_by_try p n bound a go word (taken.Taken changed) next = next (Exchanges a go)
 seen_by_try p n bound a go word taken.Other next = ends_with p n bound go (Gives 0) next
 seen_by_try p n bound a go word taken.TooMany next = too_many p n bound go word next
 
 -- the word that SEE sees
-abbrev pub sees : Code → ℕ → ℕ → Action ℕ → (Answer ℕ → Option Thread) → ℕ → (Stage → Read) → Read
+abbrev pub sees : Code → ℕ → ℕ → Action ℕ → (Answer ℕ → Option Thread) → ℕ → (Awaited → Read) → Read
 sees p n bound (act.Lock lock) go word next = seen_by_lock p n bound (act.Lock lock) go word (taken_of word n) next
 sees p n bound (act.TryLock lock) go word next = seen_by_try p n bound (act.TryLock lock) go word (taken_of word n) next
 sees p n bound (act.Unlock lock) go word next =
@@ -90,7 +90,7 @@ sees p n bound (act.UnlockMonitor object) go word next =
 sees p n bound a go word next = None
 
 -- the outcome of TAKE: 1 if it is won; if it is lost, `lock()` looks again
-abbrev pub exchanges : Code → ℕ → ℕ → Action ℕ → (Answer ℕ → Option Thread) → ℕ → (Stage → Read) → Read
+abbrev pub exchanges : Code → ℕ → ℕ → Action ℕ → (Answer ℕ → Option Thread) → ℕ → (Awaited → Read) → Read
 exchanges p n bound (act.Lock lock) go won next =
     if won == 1 then ends_with p n bound go Done next else next (Waits (Paused (act.Lock lock) go))
 exchanges p n bound (act.TryLock lock) go won next =
@@ -104,7 +104,7 @@ on_word Done read = None
 on_word (Gives word) read = read word
 on_word (Fails kind) read = None
 
-abbrev pub comes : Code → ℕ → ℕ → Answer ℕ → Stage → (Stage → Read) → Read
+abbrev pub comes : Code → ℕ → ℕ → Answer ℕ → Awaited → (Awaited → Read) → Read
 comes p n bound x (Waits (Paused a go)) next =
     if is_on_lock a then on_word x (λ word. sees p n bound a go word next) else ends_with p n bound go x next
 comes p n bound x (Waits (Passes t)) next = in_front x (next (Waits (Passes t)))
@@ -114,9 +114,9 @@ comes p n bound x (Waits TooLong) next = in_front x (next (Waits TooLong))
 comes p n bound x (Exchanges a go) next = on_word x (λ won. exchanges p n bound a go won next)
 
 -- the answers that follow from words and outcomes
-abbrev pub come_to : Code → ℕ → ℕ → List (Answer ℕ) → Stage → Read
-come_to p n bound [] stage = Some []
-come_to p n bound (x ∷ xs) stage = comes p n bound x stage (come_to p n bound xs)
+abbrev pub come_to : Code → ℕ → ℕ → List (Answer ℕ) → Awaited → Read
+come_to p n bound [] awaited = Some []
+come_to p n bound (x ∷ xs) awaited = comes p n bound x awaited (come_to p n bound xs)
 
 -- Take a thread of code that takes locks by exchange alone. Fed by its own instructions with words and outcomes, it
 -- does what it is read to do after the answers. This is said only if it isn't read to be lost, since the reading

@@ -10,7 +10,7 @@ use Rattle.ls_lowered.specs.LoweredTree.{Return, Try, Guarded, Throw, Leavable, 
 use Rattle.ls_lowered.specs.Plain.{plain_statement, in_front, statements_of}
 use Rattle.ls_lowered.specs.Course as low
 use Rattle.ls_lowered.specs.Statements as does
-use Rattle.ls_refs_expressions.specs.Lowered.{inner_of, joined, put_ahead, ahead}
+use Rattle.ls_refs.specs.Lowered.{inner_of, joined, put_ahead, ahead}
 
 none_is_some : {ss : Statements} {X : Type 0} → None ≡ Some ss → X
 none_is_some e = absurd (let f : ⊥ = cc e in f)

@@ -22,12 +22,12 @@ use Rattle.ls_lowered.specs.Words as words
 use Rattle.ls_lowered.specs.LoweredTree as trees
 use Rattle.ls_lowered.specs.Course as low
 use Rattle.ls_lowered.specs.Expressions.{evaluate, flag_word}
-use Rattle.ls_refs_expressions.specs.ValueWords.{value_word}
+use Rattle.ls_refs.specs.ValueWords.{value_word}
 use Rattle.ls_types_judgement.specs.Sorts.{HasType, HasSort}
 use Rattle.ls_types_judgement.specs.Typing.{answer_sort, parameters_of}
-use Rattle.ls_refs_expressions.specs.Temporaries.{temporaries}
-use Rattle.ls_refs_expressions.specs.Calls.{pack}
-use Rattle.ls_refs_expressions.specs.Lowered.{lowered}
+use Rattle.ls_refs.specs.Temporaries.{temporaries}
+use Rattle.ls_refs.specs.Calls.{pack}
+use Rattle.ls_refs.specs.Lowered.{lowered}
 use Rattle.ls_refs.proofs.Values.{reference_word, truth_word, packed, half_word, odd_word, pair_has}
 use Rattle.ls_refs.proofs.Sim.{sim_eq, word_ends, ends_and, Sim, Agrees, gets_agrees, then_agrees, flat, ask_agrees}
 use Rattle.ls_refs.proofs.Sim.{perform_agrees, null_agrees, null_and, Kept}

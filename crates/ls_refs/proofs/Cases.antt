@@ -9,7 +9,7 @@ use Rattle.ls_meaning.specs.declared.sort.Sort.TheVariants.{ValueOf}
 use Rattle.ls_lowered.specs.Course as low
 use Rattle.ls_lowered.specs.Methods.{invoke}
 use Rattle.ls_types_judgement.specs.Typing.{IsTypedMethod, IsTypedFile}
-use Rattle.ls_refs_expressions.specs.Lowered.{lowered_file}
+use Rattle.ls_refs.specs.Lowered.{lowered_file}
 
 -- class C { C() { new C(); } }
 abbrev maker : Method

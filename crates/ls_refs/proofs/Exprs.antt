@@ -21,10 +21,10 @@ use Rattle.ls_meaning.specs.Course.{Answers, Evaluated, Throws, ask}
 use Rattle.ls_meaning.specs.Expressions.{Calls, constructor_of}
 use Rattle.ls_lowered.specs.Words as words
 use Rattle.ls_lowered.specs.Course as low
-use Rattle.ls_refs_expressions.specs.ValueWords.{value_word}
+use Rattle.ls_refs.specs.ValueWords.{value_word}
 use Rattle.ls_types_judgement.specs.Sorts.{HasType, HasSort}
 use Rattle.ls_types_judgement.specs.Typing.{IsTyped, AreTyped, result_type, answer_sort, parameters_of}
-use Rattle.ls_refs_expressions.specs.Temporaries.{temporaries}
+use Rattle.ls_refs.specs.Temporaries.{temporaries}
 use Rattle.ls_refs.proofs.Numbers.{int_back}
 use Rattle.ls_refs.proofs.Values.{reference_word, truth_word, int_word, int_fits, new_word}
 use Rattle.ls_refs.proofs.Sim.{Agrees, gets_agrees, throws_agrees, then_agrees, ask_agrees, null_agrees}

@@ -13,8 +13,8 @@ use Rattle.ls_lowered.specs.declared.tree.Method.{Method as Lowered}
 use Rattle.ls_lowered.specs.declared.fault.LowerFault.{LowerFault}
 use Rattle.ls_lowered.specs.declared.fault.LowerFault.TheVariants.{Memory}
 use Rattle.ls_lowered.specs.Plain.{plain_method as plain_lowered}
-use Rattle.ls_refs_expressions.specs.Temporaries.{locals_of}
-use Rattle.ls_refs_expressions.specs.Lowered.{lowered_method}
+use Rattle.ls_refs.specs.Temporaries.{locals_of}
+use Rattle.ls_refs.specs.Lowered.{lowered_method}
 use Rattle.ls_refs.specs.Refused.{AllFit, Refused}
 use Rattle.ls_lowered.proofs.Taken.{all_of_map, mapped_more}
 

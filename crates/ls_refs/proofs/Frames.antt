@@ -8,7 +8,7 @@ use Rattle.ls_events.specs.declared.value.ValueType.{ValueType}
 use Rattle.ls_events.specs.declared.value.ValueType.TheVariants as types
 use Rattle.ls_meaning.specs.Values.{start_of, nothing}
 use Rattle.ls_meaning.specs.Methods.{frame}
-use Rattle.ls_refs_expressions.specs.ValueWords.{value_word}
+use Rattle.ls_refs.specs.ValueWords.{value_word}
 use Rattle.ls_types_judgement.specs.Sorts.{HasType, HaveTypes}
 use Rattle.ls_refs.proofs.Good.{Holds, get_within}
 

@@ -14,11 +14,11 @@ use Rattle.ls_meaning.specs.Course.{Answers, Evaluated, Asks, Results, Throws, w
 use Rattle.ls_meaning.specs.Expressions.{Calls, evaluate, arguments}
 use Rattle.ls_lowered.specs.Course as low
 use Rattle.ls_lowered.specs.Expressions.{evaluate as find, evaluate_all}
-use Rattle.ls_refs_expressions.specs.ValueWords.{value_word}
+use Rattle.ls_refs.specs.ValueWords.{value_word}
 use Rattle.ls_types_judgement.specs.Sorts.{HasType, HasSort, HaveTypes}
 use Rattle.ls_types_judgement.specs.Typing.{answer_sort, parameters_of}
-use Rattle.ls_refs_expressions.specs.Temporaries.{temporaries, all_temporaries}
-use Rattle.ls_refs_expressions.specs.Lowered.{lowered, all_lowered}
+use Rattle.ls_refs.specs.Temporaries.{temporaries, all_temporaries}
+use Rattle.ls_refs.specs.Lowered.{lowered, all_lowered}
 use Rattle.ls_refs.proofs.Sim.{sim_eq, ends, Agrees, gets_agrees, then_agrees, Kept}
 
 -- the locals of the tree are the first of the words'

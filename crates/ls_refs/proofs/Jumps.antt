@@ -1,19 +1,15 @@
 -- Jumps that have their loops, and how far they lead.
-use Rattle.std.proofs.Common.{◌≡◌, ℕ, ◌+◌, ◌≤◌, List, ◌∷◌, subst, sym, arith}
+use Rattle.std.proofs.Common.{◌≡◌, ℕ, ◌+◌, ◌≤◌, List, ◌∷◌, subst, arith}
 use Rattle.std.specs.Prelude.{All, slice_index_or}
 use Rattle.std.proofs.Props.{props}
 use Rattle.std.proofs.lemmas.Option.{slice_get-get_or}
-use Rattle.std.specs.Global.{Vec}
 use Rattle.ls_checked.specs.declared.tree.Statement as code
-use Rattle.ls_checked.specs.declared.tree.Statement.TheBlock.{hidden-the_row-Statement-0, shape-the_row-Statement-0}
-use Rattle.ls_checked.specs.declared.tree.Statement.TheVariants.{Block'}
 use Rattle.ls_checked.specs.Plain.{statements_of, plain_statement}
 use Rattle.ls_checked.specs.CheckedTree.{Statement, Block, SetSlot, SetField, AddField, SetItem, Evaluate, If, While}
 use Rattle.ls_checked.specs.CheckedTree.{Break, Continue, ReturnNothing, ReturnValue, Try, Statements, Done, Then}
 use Rattle.ls_checked.specs.CheckedTree.{Method, File}
 use Rattle.ls_types_judgement.specs.Leaving.{JumpsInLoops, JumpInLoops}
 use Rattle.ls_types_judgement.specs.Jumps.{HasItsLoops}
-use Rattle.ls_refs.proofs.Rows.{block_read}
 use Rattle.ls_refs.specs.Loops.{loops, block_loops, JumpsBelow, JumpBelow}
 
 mutual
@@ -36,15 +32,6 @@ mutual
   all_below : (m n : ℕ) (ss : Statements) → n + block_loops ss ≤ m → JumpInLoops n ss → JumpBelow m ss
   all_below m n Done l j = tt
   all_below m n (Then s ss) l j = (below m n s (omega (arith, l)) j.0, all_below m n ss (omega (arith, l)) j.1)
-
--- the jumps of a block that is read
-pub block_below : (m : ℕ) (s : code.Statement) (v : Vec code.Statement) (items : List code.Statement) →
-    items ≡ v.items →
-    s ≡ Block' (shape-the_row-Statement-0 v) (hidden-the_row-Statement-0 v) →
-    JumpsBelow m (plain_statement s) → JumpBelow m (statements_of items)
-block_below m s v items e is h =
-    subst (λ (ss : List code.Statement). JumpBelow m (statements_of ss)) (sym e)
-    (subst (JumpBelow m) (block_read v) (subst (λ (z : code.Statement). JumpsBelow m (plain_statement z)) is h))
 
 -- the jumps of what is left of a block
 pub left_below : (m : ℕ) (s : code.Statement) (items rest : List code.Statement) →

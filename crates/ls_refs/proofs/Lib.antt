@@ -15,3 +15,5 @@ pub mod Methods
 pub mod Slots
 pub mod Cases
 pub mod Jumps
+pub mod Sizes
+pub mod Weights

@@ -18,10 +18,10 @@ use Rattle.ls_lowered.specs.Words as words
 use Rattle.ls_lowered.specs.LoweredTree as trees
 use Rattle.ls_lowered.specs.Course as low
 use Rattle.ls_lowered.specs.Expressions.{evaluate}
-use Rattle.ls_refs_expressions.specs.ValueWords.{value_word}
+use Rattle.ls_refs.specs.ValueWords.{value_word}
 use Rattle.ls_types_judgement.specs.Sorts.{HasType, HasSort}
-use Rattle.ls_refs_expressions.specs.Temporaries.{temporaries}
-use Rattle.ls_refs_expressions.specs.Lowered.{lowered}
+use Rattle.ls_refs.specs.Temporaries.{temporaries}
+use Rattle.ls_refs.specs.Lowered.{lowered}
 use Rattle.ls_refs.proofs.Values.{reference_word, packed, half_word, odd_word, pair_has}
 use Rattle.ls_refs.proofs.Sim.{Agrees, gets_agrees, then_agrees, flat, ask_agrees, perform_agrees, null_agrees}
 use Rattle.ls_refs.proofs.Sim.{null_and, moved, Kept, kept_trans, kept_less, kept_set}

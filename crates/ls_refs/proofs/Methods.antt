@@ -20,11 +20,11 @@ use Rattle.ls_lowered.specs.Course as low
 use Rattle.ls_lowered.specs.Statements as does
 use Rattle.ls_lowered.specs.Methods as courses
 use Rattle.ls_lowered.specs.Methods.{invoke as word_invoke}
-use Rattle.ls_refs_expressions.specs.ValueWords.{value_word, IsSmall}
+use Rattle.ls_refs.specs.ValueWords.{value_word, IsSmall}
 use Rattle.ls_types_judgement.specs.Sorts.{HasType, HasSort, HaveTypes}
 use Rattle.ls_types_judgement.specs.Typing.{IsTypedMethod, IsTypedFile, answer_sort, parameters_of}
-use Rattle.ls_refs_expressions.specs.Temporaries.{statement_temporaries}
-use Rattle.ls_refs_expressions.specs.Lowered.{lowered_statement, lowered_method, lowered_file}
+use Rattle.ls_refs.specs.Temporaries.{statement_temporaries}
+use Rattle.ls_refs.specs.Lowered.{lowered_statement, lowered_method, lowered_file}
 use Rattle.ls_refs.specs.Laws.{AsksAsFile, answer_words, in_words, Suited}
 use Rattle.ls_refs.proofs.Sim.{ends, word_ends, Sim, sim_eq, Agrees, throws_agrees, Kept, kept_refl}
 use Rattle.ls_refs.proofs.Good.{Holds, CallsAgree}

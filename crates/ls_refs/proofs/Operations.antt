@@ -19,10 +19,10 @@ use Rattle.ls_meaning.specs.Expressions.{operate}
 use Rattle.ls_lowered.specs.Words as words
 use Rattle.ls_lowered.specs.Course as low
 use Rattle.ls_lowered.specs.Expressions as courses
-use Rattle.ls_refs_expressions.specs.ValueWords.{value_word}
+use Rattle.ls_refs.specs.ValueWords.{value_word}
 use Rattle.ls_types_judgement.specs.Sorts.{HasType, HasSort}
 use Rattle.ls_types_judgement.specs.Typing.{result_type, IsOperand}
-use Rattle.ls_refs_expressions.specs.Calls.{lowered_operator}
+use Rattle.ls_refs.specs.Calls.{lowered_operator}
 use Rattle.ls_refs.proofs.Numbers.{sum_is, difference_is, product_is, quotient_is, remainder_is, negative_is, less_is}
 use Rattle.ls_refs.proofs.Numbers.{at_most_is, zero_is, div_fits}
 use Rattle.ls_refs.proofs.Values.{int_word, int_fits, truth_word, same_values}

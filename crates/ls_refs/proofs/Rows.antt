@@ -5,15 +5,14 @@ use Rattle.std.specs.Prelude.{slice_index_or}
 use Rattle.std.proofs.Math.Seq.{drop-cons}
 use Rattle.ls_checked.specs.CheckedTree as checked
 use Rattle.ls_checked.specs.declared.tree.Statement.{Statement, items_hidden-the_row-Statement-0}
-use Rattle.ls_checked.specs.declared.tree.Statement.TheBlock.{hidden-the_row-Statement-0, shape-the_row-Statement-0}
-use Rattle.ls_checked.specs.declared.tree.Statement.TheVariants.{Block'}
+use Rattle.ls_checked.specs.declared.tree.Statement.TheBlock.{hidden-the_row-Statement-0}
 use Rattle.ls_checked.specs.Plain.{row_statements, statements_of, plain_statement as checked_statement}
 use Rattle.ls_checked.proofs.Rows.{row_is_list}
 use Rattle.ls_lowered.specs.declared.tree.Statement.{Statement as Tree}
-use Rattle.ls_lowered.specs.LoweredTree.{Statements, Block}
+use Rattle.ls_lowered.specs.LoweredTree.{Statements}
 use Rattle.ls_lowered.specs.Plain.{plain_statement, in_front}
-use Rattle.ls_refs_expressions.specs.Temporaries.{statement_temporaries, block_temporaries}
-use Rattle.ls_refs_expressions.specs.Lowered.{lowered_statement, lowered_block, ahead}
+use Rattle.ls_refs.specs.Temporaries.{statement_temporaries, block_temporaries}
+use Rattle.ls_refs.specs.Lowered.{lowered_statement, lowered_block, ahead}
 
 -- those of a block that is read
 pub block_read : (v : Vec Statement) → row_statements (hidden-the_row-Statement-0 v) ≡ statements_of v.items
@@ -42,24 +41,6 @@ one_counted next after s items rest whole split ends h =
     let e : block_temporaries (statements_of items) ≡ statement_temporaries (checked_statement s) + block_temporaries
     (statements_of rest) = ap (λ l. block_temporaries (statements_of l)) split in
     omega (arith, e, ends, h)
-
--- a block and its statements need the same
-pub block_counted : (s : Statement) (v : Vec Statement) (items : List Statement) →
-    items ≡ v.items →
-    s ≡ Block' (shape-the_row-Statement-0 v) (hidden-the_row-Statement-0 v) →
-    block_temporaries (statements_of items) ≡ statement_temporaries (checked_statement s)
-block_counted s v items e is = ap (λ l. block_temporaries (statements_of l)) e ∙
-    ap block_temporaries (sym (block_read v)) ∙ sym (ap (λ z. statement_temporaries (checked_statement z)) is)
-
--- and so they are lowered
-pub block_lowered : (classes : List checked.Class) (free : ℕ) (s : Statement) (v : Vec Statement)
-    (items : List Statement) →
-    items ≡ v.items →
-    s ≡ Block' (shape-the_row-Statement-0 v) (hidden-the_row-Statement-0 v) →
-    Block (lowered_block classes free (statements_of items)) ≡ lowered_statement classes free (checked_statement s)
-block_lowered classes free s v items e is = ap (λ l. Block (lowered_block classes free (statements_of l))) e ∙
-    ap (λ l. Block (lowered_block classes free l)) (sym (block_read v)) ∙
-    sym (ap (λ z. lowered_statement classes free (checked_statement z)) is)
 
 -- what is left at an index
 pub left_at : (xs : List Statement) (i : ℕ) (x : Statement) →

@@ -16,7 +16,7 @@ use Rattle.ls_meaning.specs.Values.{nothing}
 use Rattle.ls_meaning.specs.Course.{Answers, Evaluated, Asks, Results, Throws, ask, with_value, unless_null}
 use Rattle.ls_meaning.proofs.Followers as followers
 use Rattle.ls_lowered.specs.Course as low
-use Rattle.ls_refs_expressions.specs.ValueWords.{value_word}
+use Rattle.ls_refs.specs.ValueWords.{value_word}
 use Rattle.ls_types_judgement.specs.Sorts.{HasSort}
 use Rattle.ls_refs.proofs.Values.{nothing_word}
 use Rattle.ls_refs.specs.Laws.{action_word, answer_words, in_words, Suits, Suited}

@@ -31,11 +31,11 @@ use Rattle.ls_lowered.specs.Course as low
 use Rattle.ls_lowered.specs.Expressions.{evaluate as find}
 use Rattle.ls_lowered.specs.Statements as does
 use Rattle.ls_lowered.specs.Methods.{told}
-use Rattle.ls_refs_expressions.specs.ValueWords.{value_word}
+use Rattle.ls_refs.specs.ValueWords.{value_word}
 use Rattle.ls_types_judgement.specs.Sorts.{HasType, HasSort}
 use Rattle.ls_types_judgement.specs.Typing.{IsTyped, IsTypedStatement, AreTypedStatements}
-use Rattle.ls_refs_expressions.specs.Temporaries.{temporaries, statement_temporaries, block_temporaries}
-use Rattle.ls_refs_expressions.specs.Lowered.{lowered, lowered_statement, lowered_block}
+use Rattle.ls_refs.specs.Temporaries.{temporaries, statement_temporaries, block_temporaries}
+use Rattle.ls_refs.specs.Lowered.{lowered, lowered_statement, lowered_block}
 use Rattle.ls_refs.specs.Laws.{answer_word, answer_words, in_words, Suited}
 use Rattle.ls_refs.proofs.Numbers.{int_back}
 use Rattle.ls_refs.proofs.Values.{reference_word, truth_word, int_word, int_fits}

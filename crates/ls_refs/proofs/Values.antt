@@ -9,7 +9,7 @@ use Rattle.ls_events.specs.declared.value.ValueType.TheVariants as types
 use Rattle.ls_meaning.specs.declared.sort.Sort.TheVariants.{NoValue}
 use Rattle.ls_meaning.specs.Values.{int_of, truth_of, reference_of, mark_of, pair_of, same}
 use Rattle.ls_lowered.specs.Words as words
-use Rattle.ls_refs_expressions.specs.ValueWords.{value_word}
+use Rattle.ls_refs.specs.ValueWords.{value_word}
 use Rattle.ls_types_judgement.specs.Sorts.{HasType, HasSort, IsNew, IsPair}
 use Rattle.ls_refs.proofs.Numbers.{same_ints, half_is, odd_is}
 

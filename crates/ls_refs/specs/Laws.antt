@@ -13,10 +13,10 @@ use Rattle.ls_meaning.specs.Course.{Answers, Evaluated, Asks, Results, Throws}
 use Rattle.ls_meaning.specs.Methods.{invoke}
 use Rattle.ls_lowered.specs.Course as lowered
 use Rattle.ls_lowered.specs.Methods as courses
-use Rattle.ls_refs_expressions.specs.ValueWords.{value_word, IsSmall}
+use Rattle.ls_refs.specs.ValueWords.{value_word, IsSmall}
 use Rattle.ls_types_judgement.specs.Sorts.{HasSort, HaveTypes}
 use Rattle.ls_types_judgement.specs.Typing.{parameters_of}
-use Rattle.ls_refs_expressions.specs.Lowered.{lowered_file}
+use Rattle.ls_refs.specs.Lowered.{lowered_file}
 
 -- an action and an answer in words; objects keep their names, and a field is named by its cell
 abbrev pub action_word : Action Value → Action ℕ

@@ -4,7 +4,7 @@ use Rattle.std.specs.Prelude.{◌≤◌, ◌<◌, List, length, All}
 use Rattle.ls_checked.specs.CheckedTree.{Method, File}
 use Rattle.ls_lowered.specs.declared.fault.LowerFault.{LowerFault}
 use Rattle.ls_lowered.specs.declared.fault.LowerFault.TheVariants.{Memory, TooManyLocals, TooManyCopies}
-use Rattle.ls_refs_expressions.specs.Temporaries.{locals_of}
+use Rattle.ls_refs.specs.Temporaries.{locals_of}
 
 -- no method has more than 128 locals, with those that are taken beside its own
 abbrev pub AllFit : List Method → Type 0

@@ -4,10 +4,10 @@ ghost use Rattle.ls_lowered.specs.Limits.{most_locals};
 ghost use Rattle.std.specs.Prelude.{◌≡◌, ℕ, ◌+◌, ◌*◌, ◌≤◌, length};
 ghost use Rattle.std.specs.Option.{SomeIff};
 ghost use Rattle.ls_checked.specs.Plain.{plain_statement, plain_method, statements_of};
-ghost use Rattle.ls_refs_expressions.specs.Temporaries.{taken, block_taken, locals_of};
+ghost use Rattle.ls_refs.specs.Temporaries.{taken, block_taken, locals_of};
 
+use crate::expression_counts::{count_expression, more};
 use ls_checked::tree::{Method, Statement};
-use ls_refs_expressions::counts::{count_expression, more};
 
 /// So many locals, and those that a statement takes; none where they are over 128.
 #[cycle(statements)]

@@ -5,7 +5,8 @@ ghost use Rattle.ls_types_judgement.specs.Typing.{IsTypedFile};
 ghost use Rattle.ls_refs.specs.Laws.{AsksAsFile};
 ghost use Rattle.ls_refs.specs.Refused.{AllSlotted};
 
-/// After answers in kind the words of a typed file's calls ask what the calls ask.
+/// After answers in kind the words of a typed file's calls ask what the calls ask. `suited_in_call` of `ls_soundness`
+/// hands this on.
 pub fn asks_as_file()
     ensures { (file : CheckedFile) → IsTypedFile file → AsksAsFile file }
 {}

@@ -11,7 +11,7 @@ use Rattle.ls_meaning.specs.Renamings.{renamed}
 use Rattle.ls_source_pending.specs.Pending.{Frame}
 use Rattle.ls_source_pending.specs.Seen.{frame_of, frames_of}
 use Rattle.ls_source_pending.specs.declared.work.Frame.{Frame as KeptFrame}
-use Rattle.ls_work_laws.specs.Frames.{FramesHaveConstants, renamed_frame, renamed_values}
+use Rattle.ls_works.specs.Frames.{FramesHaveConstants, renamed_frame, renamed_values}
 use Rattle.ls_renaming.specs.declared.names.Names.{Names}
 use Rattle.ls_renaming.specs.Seen.{names_of}
 use Rattle.ls_renaming.specs.Constants.{MethodsHaveConstants}

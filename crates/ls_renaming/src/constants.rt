@@ -7,10 +7,10 @@ ghost use Rattle.ls_meaning.specs.Constants.{CallHasConstants, CallsHaveConstant
 ghost use Rattle.ls_source.specs.SeenThread.{phase_of, thread_of};
 ghost use Rattle.ls_source_pending.specs.Seen.{control_of, ending_of, frame_of, frames_of, operand_of, waiting_of};
 ghost use Rattle.ls_source_pending.specs.SeenPending.{state_of};
-ghost use Rattle.ls_work_laws.specs.Frames.{ControlHasConstants, EndingHasConstants, FrameHasConstants};
-ghost use Rattle.ls_work_laws.specs.Frames.{FramesHaveConstants, OperandHasConstants, PhaseHasConstants};
+ghost use Rattle.ls_works.specs.Frames.{ControlHasConstants, EndingHasConstants, FrameHasConstants};
+ghost use Rattle.ls_works.specs.Frames.{FramesHaveConstants, OperandHasConstants, PhaseHasConstants};
 ghost use Rattle.ls_renaming.specs.Constants.{MethodsHaveConstants};
-ghost use Rattle.ls_work_laws.specs.Frames.{ThreadHasConstants, WaitingHasConstants};
+ghost use Rattle.ls_works.specs.Frames.{ThreadHasConstants, WaitingHasConstants};
 
 use crate::trees::{are_constant, has_constants, have_constants, use_constants, uses_constants};
 use ls_checked::program::ProgramCall;

@@ -1,4 +1,5 @@
-//! Things and what threads still have to do, with other numbers of objects.
+//! Things and what threads still have to do, with other numbers of objects: those of the order in which objects are
+//! reached.
 #![tactic(auto)]
 
 pub mod actions;
@@ -6,6 +7,10 @@ mod arrays;
 pub mod constants;
 pub mod names;
 pub mod phases;
+mod references;
+pub mod renumbering;
+mod stores;
 pub mod things;
 pub mod trees;
+mod walk;
 pub mod work;

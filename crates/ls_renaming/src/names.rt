@@ -2,7 +2,7 @@
 
 ghost use Rattle.std.specs.Prelude.{◌≡◌, IfOk};
 ghost use Rattle.ls_meaning.specs.Renamings.{renamed, renamed_result};
-ghost use Rattle.ls_work_laws.specs.Frames.{renamed_values};
+ghost use Rattle.ls_works.specs.Frames.{renamed_values};
 
 use ls_events::value::Value;
 use std::alloc::{AllocError, Global};

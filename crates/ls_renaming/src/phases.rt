@@ -3,7 +3,7 @@
 ghost use Rattle.std.specs.Prelude.{◌≡◌, IfOk, IfSome};
 ghost use Rattle.ls_source.specs.SeenThread.{bottom_of, phase_of, thread_of};
 ghost use Rattle.ls_source_pending.specs.Pending.{State};
-ghost use Rattle.ls_work_laws.specs.Frames.{renamed_bottom, renamed_phase, renamed_thread, renamed_work};
+ghost use Rattle.ls_works.specs.Frames.{renamed_bottom, renamed_phase, renamed_thread, renamed_work};
 ghost use Rattle.ls_renaming.specs.Seen.{names_of};
 
 use crate::names::Names;

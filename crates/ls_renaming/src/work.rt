@@ -5,8 +5,8 @@ ghost use Rattle.ls_meaning.specs.Renamings.{renamed_action};
 ghost use Rattle.ls_source_pending.specs.Seen.{control_of, ending_of, frame_of, frames_of, operand_of, purpose_of};
 ghost use Rattle.ls_source_pending.specs.Seen.{waiting_of};
 ghost use Rattle.ls_source_pending.specs.SeenPending.{state_of};
-ghost use Rattle.ls_work_laws.specs.Frames.{renamed_completion, renamed_control, renamed_ending, renamed_frame};
-ghost use Rattle.ls_work_laws.specs.Frames.{renamed_operand, renamed_purpose, renamed_waiting, renamed_work};
+ghost use Rattle.ls_works.specs.Frames.{renamed_completion, renamed_control, renamed_ending, renamed_frame};
+ghost use Rattle.ls_works.specs.Frames.{renamed_operand, renamed_purpose, renamed_waiting, renamed_work};
 ghost use Rattle.ls_renaming.specs.Seen.{names_of};
 
 use crate::actions::rename_action;

@@ -6,7 +6,7 @@ mod groups;
 pub mod laws;
 mod pieces;
 mod printing;
-mod reading;
+pub mod reading;
 mod repeating;
 mod replaying;
 mod table;

@@ -2,7 +2,6 @@
 
 ghost use Rattle.ls_events.specs.Limits.{most_steps};
 ghost use Rattle.ls_lexer.specs.Characters.{is_digit};
-ghost use Rattle.ls_lexer.specs.Names.{is_name};
 ghost use Rattle.ls_schedule.specs.Answers.{Gives, Says, capped_schedule, capped_turns, more_steps, so_far};
 ghost use Rattle.ls_schedule.specs.Answers.{threads_of, view};
 ghost use Rattle.ls_items.specs.Items.{items};
@@ -134,7 +133,7 @@ fn thread_at(threads: &[ThreadProgram], name: &[u8]) -> Option<usize>
 
 // The thread of that name.
 #[tactic(auto, using(crate::proofs::Named::position_map))]
-fn thread_named(threads: &[ThreadProgram], name: &[u8]) -> Option<usize>
+pub fn thread_named(threads: &[ThreadProgram], name: &[u8]) -> Option<usize>
     ensures place { result ≡ position (λ n. bytes_eq n name.now) (map thread_name threads.now) }
     ensures within { IfSome result (λ i. i < length threads.now) }
 {

@@ -18,3 +18,6 @@ pub mod Apart
 pub mod Stepping
 pub mod Growing
 pub mod Trying
+pub mod Judging
+pub mod Progressing
+pub mod Numbers

@@ -13,8 +13,8 @@ use Rattle.ls_source.specs.Calls.{Thread}
 use Rattle.ls_source.specs.Kept.{means}
 use Rattle.ls_transitions.specs.Tables.{Table, Grows}
 use Rattle.ls_transitions.proofs.Keeping.{below, there}
-use Rattle.ls_work_laws.proofs.Frames.{threads_rename}
-use Rattle.ls_renumbering.specs.Renumbered.{IsRenumbered}
+use Rattle.ls_works.proofs.Frames.{threads_rename}
+use Rattle.ls_renaming.specs.Renumbered.{IsRenumbered}
 use Rattle.ls_search.specs.Places.{AreThere, configuration_at, goes_with, no_store}
 use Rattle.ls_search.specs.Searched.{IsOther}
 use Rattle.ls_search.proofs.Likeness.{other_same}

@@ -8,3 +8,6 @@ pub mod Listed
 pub mod Watching
 pub mod Grown
 pub mod Tried
+pub mod Verdicts
+pub mod Nameless
+pub mod Runs

@@ -25,9 +25,9 @@ use crate::paths::path_to;
 use crate::places::{Node, NumberedState, Seen};
 use crate::searching::{Ground, Search, place_at};
 use ls_observers::observer::Observer;
-use ls_renumbering::renumbering::Renumbering;
+use ls_renaming::renumbering::Renumbering;
 use ls_transitions::transitions::Transitions;
-use std::alloc::{AllocError, Global};
+use std::alloc::AllocError;
 
 /// Where a search begins: the numbers of the store and of each thread's work, and what is noted.
 #[derive(Drop)]

@@ -6,6 +6,8 @@ pub mod Renaming
 pub mod Renamed
 pub mod Strides
 pub mod Telling
+pub mod AtOnce
+pub mod AtOnceRenamed
 pub mod Search
 pub mod Cells
 pub mod Histories

@@ -8,7 +8,7 @@ use ls_events::event::{Event, Happening};
 use ls_events::same::is_event;
 
 /// Whether a call happened.
-fn is_called(happening: Happening) -> bool
+pub fn is_called(happening: Happening) -> bool
     ensures { result ≡ is_called happening }
 {
     match happening {
@@ -18,7 +18,7 @@ fn is_called(happening: Happening) -> bool
 }
 
 /// Whether the event is one of these.
-fn has(events: &[Event], event: &Event) -> bool
+pub fn has(events: &[Event], event: &Event) -> bool
     ensures { Decides result (Contains events.now event.now) }
 {
     for i in 0..events.len() {

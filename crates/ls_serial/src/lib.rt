@@ -1,7 +1,7 @@
 //! Serial histories, in which calls run one at a time, and which histories they explain.
 #![tactic(auto)]
 
-mod explaining;
+pub mod explaining;
 mod runs;
 
 pub use runs::SerialRuns;

@@ -1,3 +1,4 @@
 pub mod NameLemmas
 pub mod Ordering
 pub mod TellingLemmas
+mod Rising

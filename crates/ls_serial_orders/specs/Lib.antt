@@ -3,3 +3,4 @@ pub mod Calls
 pub mod Known
 pub mod Orders
 pub mod Telling
+pub mod Once

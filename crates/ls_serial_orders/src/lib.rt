@@ -5,6 +5,7 @@ mod calls;
 mod finding;
 pub mod laws;
 mod naming;
+pub mod once_laws;
 mod telling;
 
 pub use finding::{Known, SerialAnswer, find, known_of};

@@ -84,7 +84,7 @@ module _ (file : File) (program : Program) where
 
   -- its events
   pub history_is : (schedule : List ℕ) (r : Playing) → StandsAt r schedule →
-      r.stage.events.items ≡ source_history file program schedule
+      r.store_and_events.events.items ≡ source_history file program schedule
   history_is schedule r at = ap (λ (p : Progress). p.history) at.shows
 
 pub take_none : (ts : List ℕ) → take 0 ts ≡ []

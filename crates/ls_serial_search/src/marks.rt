@@ -50,7 +50,7 @@ impl<'a> Mark<'a> {
     pub(crate) fn of(alloc: Global, run: &Playing<'a>) -> Result<Mark<'a>, AllocError>
         ensures { IfOk result (λ m. IsMarkOf m run.now) }
     {
-        let store = copy_store(alloc, &run.stage.store)?;
+        let store = copy_store(alloc, &run.store_and_events.store)?;
         let threads = copy_threads(alloc, &run.threads)?;
         Ok(Mark { store, threads })
     }
@@ -60,6 +60,6 @@ impl<'a> Mark<'a> {
         ensures { IsTrue result → IsMarkOf self.now run.now }
     {
         are_same_threads(&self.threads, &run.threads)
-            && is_same_store(&self.store, &run.stage.store)
+            && is_same_store(&self.store, &run.store_and_events.store)
     }
 }

@@ -17,10 +17,10 @@ use Rattle.ls_meaning.specs.Methods.{invoke}
 use Rattle.ls_meaning.specs.Threads.{Next, Goes, Ended, Trapped}
 use Rattle.ls_lowered.specs.Course as low
 use Rattle.ls_lowered.specs.Methods as courses
-use Rattle.ls_refs_expressions.specs.ValueWords.{value_word, IsSmall}
+use Rattle.ls_refs.specs.ValueWords.{value_word, IsSmall}
 use Rattle.ls_types_judgement.specs.Sorts.{HasType, HasSort, HaveTypes}
 use Rattle.ls_types_judgement.specs.Typing.{IsTypedFile, answer_sort, parameters_of}
-use Rattle.ls_refs_expressions.specs.Lowered.{lowered_file}
+use Rattle.ls_refs.specs.Lowered.{lowered_file}
 use Rattle.ls_refs.specs.Laws as refs
 use Rattle.ls_refs.specs.Laws.{AsksAsFile, answer_word, answer_words, in_words}
 use Rattle.ls_refs.proofs.Sim as sim

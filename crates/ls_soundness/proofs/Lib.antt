@@ -10,3 +10,8 @@ pub mod Cases
 pub mod Split
 pub mod InCall
 pub mod ThreadCalls
+pub mod Parts
+pub mod Kept
+pub mod Named
+pub mod Leaving
+pub mod Held

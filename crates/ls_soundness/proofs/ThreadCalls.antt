@@ -14,7 +14,7 @@ use Rattle.ls_meaning.specs.Expressions.{constructor_of}
 use Rattle.ls_meaning.specs.Methods.{invoke, depth_limit}
 use Rattle.ls_meaning.specs.Threads.{Next, result_of, class_in, after_call, all_calls}
 use Rattle.ls_types_judgement.specs.Sorts.{HasType, HasSort}
-use Rattle.ls_refs_expressions.specs.ValueWords.{IsSmall}
+use Rattle.ls_refs.specs.ValueWords.{IsSmall}
 use Rattle.ls_types_judgement.specs.Typing.{IsTypedFile}
 use Rattle.ls_soundness.specs.InCall.{then_next, after_making, after_calling, after_throw, InCall, SuitedInMaking}
 use Rattle.ls_soundness.specs.InCall.{SuitedInCalling, NextInMaking, NextInCalling, NextOnNull}

@@ -16,10 +16,10 @@ use Rattle.ls_meaning.specs.Expressions.{constructor_of}
 use Rattle.ls_meaning.specs.Methods.{invoke, depth_limit}
 use Rattle.ls_meaning.specs.Threads.{Next, Goes, Trapped, result_of, event, after_call, all_calls}
 use Rattle.ls_lowered.specs.Methods as courses
-use Rattle.ls_refs_expressions.specs.ValueWords.{value_word, IsSmall}
+use Rattle.ls_refs.specs.ValueWords.{value_word, IsSmall}
 use Rattle.ls_types_judgement.specs.Sorts.{HasType, HasSort, HaveTypes}
 use Rattle.ls_types_judgement.specs.Typing.{answer_sort, parameters_of}
-use Rattle.ls_refs_expressions.specs.Lowered.{lowered_file}
+use Rattle.ls_refs.specs.Lowered.{lowered_file}
 use Rattle.ls_refs.specs.Laws.{answer_words, in_words}
 use Rattle.ls_preservation.specs.Sorts.{Suited}
 use Rattle.ls_types_judgement.specs.Programs.{IsTypedMaking, IsTypedCalling}

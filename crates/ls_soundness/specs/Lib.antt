@@ -1,2 +1,5 @@
 pub mod Cases
 pub mod InCall
+pub mod Laws
+pub mod Meaning
+pub mod Kept

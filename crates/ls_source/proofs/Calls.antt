@@ -20,7 +20,9 @@ use Rattle.ls_meaning.specs.Methods.{invoke, depth_limit}
 use Rattle.ls_meaning.specs.Threads.{Next, Goes, Ended, Trapped, result_of, named, one_call, all_calls}
 use Rattle.ls_source_pending.specs.Pending.{State, Control, Evaluates, Argues, Invokes, Opens, Executes}
 use Rattle.ls_source_pending.specs.Pending.{Loops, Gives, Ends, Asks, Enters, Turns, Frame}
-use Rattle.ls_source_pending.specs.Machine.{Rest, evaluated, at, meaning, is_left, done_now, rest_of}
+use Rattle.ls_source_pending.specs.ExpressionMoves.{at}
+use Rattle.ls_source_pending.specs.Moves.{is_left}
+use Rattle.ls_source_pending.specs.Meaning.{Rest, evaluated, meaning, done_now, rest_of}
 use Rattle.ls_source_moves.proofs.Fusion.{taken_keeps, IsAsking}
 use Rattle.ls_source.specs.declared.thread.Phase.{Phase as Kept}
 use Rattle.ls_source.specs.declared.thread.Phase.TheVariants as phases

@@ -1,4 +1,4 @@
-pub mod Stages
+pub mod StoresAndEvents
 pub mod Starts
 pub mod Histories
 pub mod Lefts

@@ -20,13 +20,13 @@ use Rattle.ls_meaning.specs.Steps.{traced}
 use Rattle.ls_meaning.specs.Threads.{Next, Goes, Ended, Trapped, next}
 use Rattle.ls_meaning.specs.Runs.{State, Step, event_of, history_of, stepped, step, step_of, performed, idle}
 use Rattle.ls_meaning.specs.Runs.{has_started, answers_of}
-use Rattle.ls_source_store.specs.declared.thing.Effect.{Effect as Outcome}
+use Rattle.ls_source_store.specs.declared.thing.Effect.{Effect as StoreEffect}
 use Rattle.ls_source_store.specs.declared.thing.Effect.TheVariants.{Waits as HasToWait, Does as HasDone}
 use Rattle.ls_source_store.specs.SeenStore.{store_of, plain_effect}
 use Rattle.std.specs.declared.vec.Vec.{Vec}
 use Rattle.std.specs.declared.alloc.Global.{Global}
 use Rattle.ls_source.specs.declared.playing.Playing.{Playing}
-use Rattle.ls_source.specs.declared.stage.Stage.{Stage}
+use Rattle.ls_source.specs.declared.store_and_events.StoreAndEvents.{StoreAndEvents}
 use Rattle.ls_source.specs.declared.thread.Thread.{Thread as KeptThread}
 use Rattle.ls_source.specs.Calls.{thread_meaning, answered}
 use Rattle.ls_source.specs.Progress.{Progress, gone_on}
@@ -39,7 +39,7 @@ use Rattle.ls_source.specs.declared.run.SourceRun.{SourceRun}
 use Rattle.ls_source.specs.Shown.{progress_of}
 use Rattle.ls_meaning.specs.declared.sort.Sort.{Sort}
 use Rattle.ls_source.proofs.Kept.{now_is, answers_after, taken, settled}
-use Rattle.ls_source.proofs.Stages.{Kept as AnswersOfThread, stays, grown}
+use Rattle.ls_source.proofs.StoresAndEvents.{Kept as AnswersOfThread, stays, grown}
 use Rattle.ls_source.proofs.Histories.{rest_of, idle_stays}
 
 -- what a thread asks for is what it does next in a run that is stood for
@@ -66,14 +66,14 @@ events_are t did.Waits s = refl
 events_are t did.Idle s = refl
 
 -- what an action did that is performed
-did_is : (st : State) (t : ℕ) (action : Action Value) (e : Effect) (o : Outcome) (s' : Store) →
+did_is : (st : State) (t : ℕ) (action : Action Value) (e : Effect) (o : StoreEffect) (s' : Store) →
     plain_effect s' o ≡ e →
     did_by action o ≡ (performed st t action e).did
 did_is st t action e HasToWait s' h = ap (λ q. (performed st t action q).did) h
 did_is st t action e (HasDone a) s' h = ap (λ q. (performed st t action q).did) h
 
 -- the state after it
-after_is : (st : State) (t : ℕ) (action : Action Value) (e : Effect) (o : Outcome) (s' : Store) →
+after_is : (st : State) (t : ℕ) (action : Action Value) (e : Effect) (o : StoreEffect) (s' : Store) →
     plain_effect s' o ≡ e →
     (o ≡ HasToWait → s' ≡ st.store) →
     record { store = s'; answers = (performed st t action e).after.answers } ≡ (performed st t action e).after
@@ -89,7 +89,7 @@ abbrev shown : Progress → State → List Event → Progress
 shown p state history = record { file = p.file; program = p.program; state = state; history = history }
 
 -- the run after it
-gone : (p : Progress) (t : ℕ) (action : Action Value) (e : Effect) (o : Outcome) (s' : Store) (h' : List Event) →
+gone : (p : Progress) (t : ℕ) (action : Action Value) (e : Effect) (o : StoreEffect) (s' : Store) (h' : List Event) →
     plain_effect s' o ≡ e →
     (o ≡ HasToWait → s' ≡ p.state.store) →
     h' ≡ p.history ++ events_by t (did_by action o) →
@@ -180,15 +180,15 @@ abbrev pub performing : Progress → ℕ → Action Value → Step
 performing p t action = performed p.state t action (effect p.file.classes p.state.store t action)
 
 -- what it did
-pub did_there : (r : Playing) (t : ℕ) (action : Action Value) (o : Outcome) (s' : Store) →
-    plain_effect s' o ≡ effect (plain_file r.file.now).classes (store_of r.stage.store) t action →
+pub did_there : (r : Playing) (t : ℕ) (action : Action Value) (o : StoreEffect) (s' : Store) →
+    plain_effect s' o ≡ effect (plain_file r.file.now).classes (store_of r.store_and_events.store) t action →
     (p : Progress) →
     StandsFor r p →
     did_by action o ≡ (performing p t action).did
 did_there r t action o s' is p s =
     subst (λ q. did_by action o ≡ (performing q t action).did) s.shows
-    (did_is (state_of r.stage p.state.answers) t action
-    (effect (plain_file r.file.now).classes (store_of r.stage.store) t action) o s' is)
+    (did_is (state_of r.store_and_events p.state.answers) t action
+    (effect (plain_file r.file.now).classes (store_of r.store_and_events.store) t action) o s' is)
 
 as_many : (s : State) (t : ℕ) (action : Action Value) (e : Effect) →
     length (performed s t action e).after.answers ≡ length s.answers
@@ -196,15 +196,15 @@ as_many s t action Waits = refl
 as_many s t action (Does store answer) = length-set s.answers t (answers_of s t ++ answer ∷ [])
 
 -- a run whose store, events and threads are others
-abbrev pub with_parts : (r : Playing) → Stage → (ts : Vec KeptThread Global) →
+abbrev pub with_parts : (r : Playing) → StoreAndEvents → (ts : Vec KeptThread Global) →
     length ts.items ≡ length r.program.now.threads.items → Playing
-with_parts r st ts works = record { file = r.file; program = r.program; stage = st; threads = ts; works = works }
+with_parts r st ts works = record { file = r.file; program = r.program; store_and_events = st; threads = ts; works = works }
 
-module _ (r : Playing) (t : ℕ) (action : Action Value) (st : Stage) (ts : Vec KeptThread Global) where
-  after_action : (works : length ts.items ≡ length r.program.now.threads.items) (o : Outcome) →
-      plain_effect (store_of st.store) o ≡ effect (plain_file r.file.now).classes (store_of r.stage.store) t action →
-      (o ≡ HasToWait → store_of st.store ≡ store_of r.stage.store) →
-      st.events.items ≡ r.stage.events.items ++ events_by t (did_by action o) →
+module _ (r : Playing) (t : ℕ) (action : Action Value) (st : StoreAndEvents) (ts : Vec KeptThread Global) where
+  after_action : (works : length ts.items ≡ length r.program.now.threads.items) (o : StoreEffect) →
+      plain_effect (store_of st.store) o ≡ effect (plain_file r.file.now).classes (store_of r.store_and_events.store) t action →
+      (o ≡ HasToWait → store_of st.store ≡ store_of r.store_and_events.store) →
+      st.events.items ≡ r.store_and_events.events.items ++ events_by t (did_by action o) →
       (p : Progress) →
       StandsFor r p →
       IsKept (plain_file r.file.now) (plain_program r.program.now) (map thread_of ts.items)
@@ -214,19 +214,19 @@ module _ (r : Playing) (t : ℕ) (action : Action Value) (st : Stage) (ts : Vec 
     shows = subst (λ q. progress_with (with_parts r st ts works) (performing q t action).after.answers ≡
         gone_by q t (performing q t action)) s.shows
         (gone (progress_with r p.state.answers) t action
-        (effect (plain_file r.file.now).classes (store_of r.stage.store) t action) o (store_of st.store)
+        (effect (plain_file r.file.now).classes (store_of r.store_and_events.store) t action) o (store_of st.store)
         st.events.items is same events);
     lists = as_many p.state t action (effect p.file.classes p.state.store t action) ∙ s.lists;
     kept = kept;
   }
 
 -- after an action that has to wait
-pub has_waited : (r : Playing) (t : ℕ) (action : Action Value) (st : Stage)
-    (works : length r.threads.items ≡ length r.program.now.threads.items) (o : Outcome) →
+pub has_waited : (r : Playing) (t : ℕ) (action : Action Value) (st : StoreAndEvents)
+    (works : length r.threads.items ≡ length r.program.now.threads.items) (o : StoreEffect) →
     o ≡ HasToWait →
-    plain_effect (store_of st.store) o ≡ effect (plain_file r.file.now).classes (store_of r.stage.store) t action →
-    (o ≡ HasToWait → store_of st.store ≡ store_of r.stage.store) →
-    st.events.items ≡ r.stage.events.items ++ events_by t (did_by action o) →
+    plain_effect (store_of st.store) o ≡ effect (plain_file r.file.now).classes (store_of r.store_and_events.store) t action →
+    (o ≡ HasToWait → store_of st.store ≡ store_of r.store_and_events.store) →
+    st.events.items ≡ r.store_and_events.events.items ++ events_by t (did_by action o) →
     (p : Progress) →
     StandsFor r p →
     StandsFor (with_parts r st r.threads works) (gone_by p t (performing p t action))
@@ -243,13 +243,13 @@ has_waited r t action st works o waits is same events p s =
         not_acted h = cc
 
 -- after an action whose answer a thread has taken
-pub has_taken : (r : Playing) (t : ℕ) (action : Action Value) (st : Stage) (ts : Vec KeptThread Global)
-    (works : length ts.items ≡ length r.program.now.threads.items) (o : Outcome) (a : Answer Value)
+pub has_taken : (r : Playing) (t : ℕ) (action : Action Value) (st : StoreAndEvents) (ts : Vec KeptThread Global)
+    (works : length ts.items ≡ length r.program.now.threads.items) (o : StoreEffect) (a : Answer Value)
     (v v' : KeptThread) →
     o ≡ HasDone a →
-    plain_effect (store_of st.store) o ≡ effect (plain_file r.file.now).classes (store_of r.stage.store) t action →
-    (o ≡ HasToWait → store_of st.store ≡ store_of r.stage.store) →
-    st.events.items ≡ r.stage.events.items ++ events_by t (did_by action o) →
+    plain_effect (store_of st.store) o ≡ effect (plain_file r.file.now).classes (store_of r.store_and_events.store) t action →
+    (o ≡ HasToWait → store_of st.store ≡ store_of r.store_and_events.store) →
+    st.events.items ≡ r.store_and_events.events.items ++ events_by t (did_by action o) →
     t < length r.threads.items →
     action_in (asked_at (plain_program r.program.now) (slice_get (map thread_of r.threads.items) t)) ≡ Some action →
     v ≡ get_or r.threads.items t v →
@@ -281,7 +281,7 @@ pub has_settled : (r : Playing) (t : ℕ) (ts : Vec KeptThread Global)
     ts.items ≡ slice_set r.threads.items t v' →
     (p : Progress) →
     StandsFor r p →
-    StandsFor (with_parts r r.stage ts works) p
+    StandsFor (with_parts r r.store_and_events ts works) p
 has_settled r t ts works v v' within was goes_on set p s = record {
   shows = s.shows;
   lists = s.lists;
@@ -291,10 +291,10 @@ has_settled r t ts works v v' within was goes_on set p s = record {
 }
 
 -- where the store and the events are as they were, nothing has changed
-pub has_stayed : (r : Playing) (st : Stage)
+pub has_stayed : (r : Playing) (st : StoreAndEvents)
     (works : length r.threads.items ≡ length r.program.now.threads.items) →
-    store_of st.store ≡ store_of r.stage.store →
-    st.events.items ≡ r.stage.events.items →
+    store_of st.store ≡ store_of r.store_and_events.store →
+    st.events.items ≡ r.store_and_events.events.items →
     (p : Progress) →
     StandsFor r p →
     StandsFor (with_parts r st r.threads works) p
@@ -308,7 +308,7 @@ has_stayed r st works store events p s = record {
       ∙ ap (λ x. record {
         file = plain_file r.file.now;
         program = plain_program r.program.now;
-        state = state_of r.stage p.state.answers;
+        state = state_of r.store_and_events p.state.answers;
         history = x;
       }) events ∙ s.shows;
   lists = s.lists;

@@ -18,7 +18,9 @@ use Rattle.ls_meaning.specs.Expressions.{constructor_of}
 use Rattle.ls_meaning.specs.Methods.{invoke, depth_limit}
 use Rattle.ls_meaning.specs.Threads.{Next, Goes, Ended, Trapped, result_of, named, one_call, after_call, all_calls}
 use Rattle.ls_source_pending.specs.Pending.{State, Control, Invokes, Gives, Ends, Asks, Enters, Turns}
-use Rattle.ls_source_pending.specs.Machine.{OfValue, OfEnd, Rest, at, meaning, is_left, taken}
+use Rattle.ls_source_pending.specs.ExpressionMoves.{at}
+use Rattle.ls_source_pending.specs.Moves.{is_left, taken}
+use Rattle.ls_source_pending.specs.Meaning.{OfValue, OfEnd, Rest, meaning}
 
 -- why a body was entered
 pub data Bottom : Type 0 where

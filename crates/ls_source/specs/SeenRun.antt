@@ -10,8 +10,8 @@ use Rattle.ls_meaning.specs.declared.step.Did.{Did}
 use Rattle.ls_meaning.specs.declared.step.Did.TheVariants as did
 use Rattle.ls_meaning.specs.Course.{Answers}
 use Rattle.ls_meaning.specs.Runs.{State, event_of}
-use Rattle.ls_source.specs.declared.stage.Stage.{Stage}
-use Rattle.ls_source_store.specs.declared.thing.Effect.{Effect as Outcome}
+use Rattle.ls_source.specs.declared.store_and_events.StoreAndEvents.{StoreAndEvents}
+use Rattle.ls_source_store.specs.declared.thing.Effect.{Effect as StoreEffect}
 use Rattle.ls_source_store.specs.declared.thing.Effect.TheVariants.{Waits as HasToWait, Does as HasDone}
 use Rattle.ls_source_store.specs.SeenStore.{store_of}
 
@@ -20,11 +20,11 @@ abbrev pub lists_of : List (Vec (Answer Value) Global) → List Answers
 lists_of answers = map (λ v. v.items) answers
 
 -- a store, with answers that the threads may have had
-abbrev pub state_of : Stage → List Answers → State
+abbrev pub state_of : StoreAndEvents → List Answers → State
 state_of s had = record { store = store_of s.store; answers = had }
 
 -- what a step did that performed an action, by what the action did
-abbrev pub did_by : Action Value → Outcome → Did
+abbrev pub did_by : Action Value → StoreEffect → Did
 did_by action HasToWait = did.Waits
 did_by action (HasDone answer) = did.Acted action answer
 

@@ -4,10 +4,10 @@ use Rattle.ls_checked.specs.PlainProgram.{plain_call}
 use Rattle.ls_meaning.specs.Methods.{depth_limit}
 use Rattle.ls_meaning.specs.Threads.{Next, Goes, Ended, Trapped}
 use Rattle.ls_source_pending.specs.Pending.{State, Invokes}
-use Rattle.ls_source_pending.specs.Machine.{at}
+use Rattle.ls_source_pending.specs.ExpressionMoves.{at}
 use Rattle.ls_source_pending.specs.SeenPending.{state_of}
 use Rattle.ls_source.specs.Calls as calls
-use Rattle.ls_source.specs.declared.next.Next.{Next as Outcome}
+use Rattle.ls_source.specs.declared.next.Next.{Next as SourceNext}
 use Rattle.ls_source.specs.declared.next.Next.TheVariants.{Goes as DoesGo, Ended as HasEnded, Trapped as HasTrapped}
 use Rattle.ls_source.specs.declared.thread.Bottom.{Bottom}
 use Rattle.ls_source.specs.declared.thread.Bottom.TheVariants as bottoms
@@ -15,7 +15,7 @@ use Rattle.ls_source.specs.declared.thread.Phase.{Phase}
 use Rattle.ls_source.specs.declared.thread.Phase.TheVariants as phases
 use Rattle.ls_source.specs.declared.thread.Thread.{Thread}
 
-abbrev pub plain_next : Outcome → Next
+abbrev pub plain_next : SourceNext → Next
 plain_next (DoesGo action sort) = Goes action sort
 plain_next HasEnded = Ended
 plain_next HasTrapped = Trapped

@@ -14,8 +14,8 @@ abbrev pub progress_with : Playing → List Answers → Progress
 progress_with r had = record {
   file = plain_file r.file.now;
   program = plain_program r.program.now;
-  state = state_of r.stage had;
-  history = r.stage.events.items;
+  state = state_of r.store_and_events had;
+  history = r.store_and_events.events.items;
 }
 
 -- It stands for a run so far, if it shows that run. The work of each thread then means what the thread does after the

@@ -4,5 +4,5 @@
 pub mod next;
 pub mod playing;
 pub mod run;
-pub mod stage;
+pub mod store_and_events;
 pub mod thread;

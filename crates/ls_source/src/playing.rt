@@ -8,7 +8,7 @@ ghost use Rattle.ls_source.specs.SeenThread.{thread_of};
 ghost use Rattle.ls_source.specs.SeenRun.{did_by};
 
 use crate::next::Next;
-use crate::stage::Stage;
+use crate::store_and_events::StoreAndEvents;
 use crate::thread::Thread;
 use ls_checked::program::{Program, ThreadProgram};
 use ls_checked::tree::File;
@@ -27,7 +27,7 @@ use std::alloc::{AllocError, Global};
 pub struct Playing<'a> {
     pub file: &'a File,
     pub program: &'a Program,
-    pub stage: Stage,
+    pub store_and_events: StoreAndEvents,
     pub threads: Vec<Thread<'a>>,
     pub ghost works: { length threads.items ≡ length program.now.threads.items },
 }
@@ -80,12 +80,12 @@ impl<'a> Playing<'a> {
     ) -> Result<Playing<'a>, AllocError>
         ensures { IfOk result (λ r. StandsFor r (begun (plain_file file.now) (plain_program program.now))) }
     {
-        let stage = Stage::new(alloc, program)?;
+        let store_and_events = StoreAndEvents::new(alloc, program)?;
         let threads = fresh_threads(alloc, &program.threads)?;
         Ok(Playing {
             file,
             program,
-            stage,
+            store_and_events,
             threads,
         })
     }
@@ -210,7 +210,7 @@ impl<'a> Playing<'a> {
         ensures refused { OnErr result ((p : Progress) → StandsFor self.old p → StandsFor self.new p) }
     {
         match self
-            .stage
+            .store_and_events
             .perform(alloc, &self.file.classes, thread, action)?
         {
             Effect::Waits => Ok(Effect::Waits),
@@ -252,15 +252,15 @@ impl<'a> Playing<'a> {
 
     /// The events of a run that is over.
     pub fn into_history(self) -> Vec<Event>
-        ensures { result.items ≡ self.entry.stage.events.items }
+        ensures { result.items ≡ self.entry.store_and_events.events.items }
     {
         let Playing {
             file: _,
             program: _,
-            stage,
+            store_and_events,
             threads: _,
         } = self;
-        let Stage { store: _, events } = stage;
+        let StoreAndEvents { store: _, events } = store_and_events;
         events
     }
 }

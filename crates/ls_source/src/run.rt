@@ -135,7 +135,7 @@ impl<'a> SourceRun<'a> {
     pub fn things(&self) -> &[Thing]
         ensures { map thing_of result.now ≡ (progress_of self.now).state.store.things }
     {
-        self.playing.stage.store.things.as_slice()
+        self.playing.store_and_events.store.things.as_slice()
     }
 
     /// The thing that a reference names. 0, which is null, and the number of no object name none.
@@ -145,14 +145,18 @@ impl<'a> SourceRun<'a> {
         if number == 0 {
             return None;
         }
-        self.playing.stage.store.things.get((number - 1) as usize)
+        self.playing
+            .store_and_events
+            .store
+            .things
+            .get((number - 1) as usize)
     }
 
     /// The value of a setup name, by its number in text order from 0. If there is no such name, it is null.
     pub fn name_value(&self, number: usize) -> Value
         ensures { result ≡ name_at (progress_of self.now).state.store number }
     {
-        match self.playing.stage.store.names.get(number) {
+        match self.playing.store_and_events.store.names.get(number) {
             None => Value::Reference(0),
             Some(v) => *v,
         }
@@ -190,7 +194,7 @@ impl<'a> SourceRun<'a> {
     pub fn history(&self) -> &[Event]
         ensures { result.now ≡ (progress_of self.now).history }
     {
-        self.playing.stage.events.as_slice()
+        self.playing.store_and_events.events.as_slice()
     }
 }
 

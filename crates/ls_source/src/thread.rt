@@ -20,8 +20,8 @@ use ls_meaning::sort::Sort;
 use ls_source_moves::settling::settle;
 use ls_source_pending::pending::Pending;
 use ls_source_pending::work::Control;
-use ls_source_values::lookups::{constructor_of, method_at};
-use ls_source_values::value::reference_of;
+use ls_source_store::lookups::{constructor_of, method_at};
+use ls_source_store::value::reference_of;
 use std::alloc::{AllocError, Global};
 
 /// Why a body was entered: to make the object of a setup name, or for a method.

@@ -5,15 +5,15 @@ ghost use Rattle.ls_serial_search.specs.Told.{IsDoubt, usual};
 ghost use Rattle.ls_checked.specs.Plain.{plain_file};
 ghost use Rattle.ls_checked.specs.PlainProgram.{plain_program};
 ghost use Rattle.ls_search_laws.specs.Stepping.{SetsUp};
-ghost use Rattle.ls_state_space.specs.Verdicts.{AreReached, LeavesStuck, NeverStuck};
+ghost use Rattle.ls_search.specs.Verdicts.{AreReached, LeavesStuck, NeverStuck};
 ghost use Rattle.ls_source_judge.specs.Judged.{AllLinearizable, IsNotLinearizable};
 
+use crate::laws::bad_stays_bad;
+use crate::watching::serial_observer;
 use ls_checked::program::Program;
 use ls_checked::tree::File;
-use ls_rests_observer::laws::bad_stays_bad;
-use ls_rests_observer::watching::serial_observer;
+use ls_search::verdict::{Finding, verdict};
 use ls_serial_search::telling::{Bounds, Doubt};
-use ls_state_space::verdict::{Finding, verdict};
 use std::alloc::{AllocError, Global};
 
 /// What is told of all schedules of a program. A path is of steps after those of the setup.

@@ -5,14 +5,14 @@ ghost use Rattle.ls_checked.specs.Plain.{plain_file};
 ghost use Rattle.ls_checked.specs.PlainProgram.{plain_program};
 ghost use Rattle.ls_fewest_switches.specs.Switches.{HasFewestOf, IsSought, switches};
 ghost use Rattle.ls_meaning.specs.Runs.{source_history};
-ghost use Rattle.ls_rests_observer.specs.Laws.{BadAreNotLinearizable, GoodAreLinearizable};
+ghost use Rattle.ls_source_judge.specs.Laws.{BadAreNotLinearizable, GoodAreLinearizable};
 ghost use Rattle.ls_source_judge.specs.Judged.{IsNotLinearizable, IsSimplestBad};
 
+use crate::watching::{SerialObserver, serial_observer};
 use ls_checked::program::Program;
 use ls_checked::tree::File;
 use ls_events::schedule::Schedule;
 use ls_fewest_switches::{SimpleRun, Target, simplest, simplest_bad};
-use ls_rests_observer::watching::{SerialObserver, serial_observer};
 use ls_serial_search::telling::Bounds;
 use std::alloc::{AllocError, Global};
 

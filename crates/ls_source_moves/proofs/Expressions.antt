@@ -33,12 +33,12 @@ use Rattle.ls_source_pending.specs.Pending.{InNegate, InNot, InLength, InLeft, I
 use Rattle.ls_source_pending.specs.Pending.{InArgument, InMade, InConstructor, InReference, InMark, InBoth, InWritten}
 use Rattle.ls_source_pending.specs.Pending.{Ending, OfSequence, OfBody, OfTry, OfFinally, Frame, In, On, Up, Leaves}
 use Rattle.ls_source_pending.specs.Pending.{Control, Ends, Enters, Turns}
-use Rattle.ls_source_pending.specs.Machine.{at, known, on_argument, on_right, on_left, on_target, on_called}
-use Rattle.ls_source_pending.specs.Machine.{evaluating, arguing, calling, applying, filling, running, if_normal}
-use Rattle.ls_source_pending.specs.Machine.{after_loop, leaving, closing, ending, OfValue, OfEnd, Rest, evaluated}
-use Rattle.ls_source_pending.specs.Machine.{executed, applied, argued, filled, closed, rest_of, done_now, meaning}
-use Rattle.ls_source_pending.specs.Machine.{at_hand, computed, near, on_read, started, invoking, ready, entering}
-use Rattle.ls_source_pending.specs.Machine.{behind}
+use Rattle.ls_source_pending.specs.ExpressionMoves.{at, known, on_argument, on_right, on_left, on_target, on_called}
+use Rattle.ls_source_pending.specs.ExpressionMoves.{evaluating, arguing, calling, applying, filling, at_hand, computed}
+use Rattle.ls_source_pending.specs.ExpressionMoves.{near, on_read, started, invoking, ready}
+use Rattle.ls_source_pending.specs.Moves.{running, if_normal, after_loop, leaving, closing, ending, entering, behind}
+use Rattle.ls_source_pending.specs.Meaning.{OfValue, OfEnd, Rest, evaluated, executed, applied, argued, filled, closed}
+use Rattle.ls_source_pending.specs.Meaning.{rest_of, done_now, meaning}
 use Rattle.ls_source_moves.proofs.Frames.{in_frame, up_frame, one_more, argument_frame, chosen, both_written}
 
 pub some_left : (n : ℕ) → nat_eq (suc n) 0 ≡ false

@@ -19,8 +19,8 @@ use Rattle.ls_meaning.specs.Methods.{invoke, leave}
 use Rattle.ls_source_pending.specs.Pending.{Purpose, Operand, InArgument, InWritten, Waiting, ToNothing, Ending}
 use Rattle.ls_source_pending.specs.Pending.{OfSequence, OfBody, OfTry, OfFinally, In, On, Up, Leaves, Control}
 use Rattle.ls_source_pending.specs.Pending.{Executes, Ends, Asks}
-use Rattle.ls_source_pending.specs.Machine.{Rest, evaluated, executed, applied, filled, gone_on, closed, around}
-use Rattle.ls_source_pending.specs.Machine.{done_now}
+use Rattle.ls_source_pending.specs.Meaning.{Rest, evaluated, executed, applied, filled, gone_on, closed, around}
+use Rattle.ls_source_pending.specs.Meaning.{done_now}
 use Rattle.ls_meaning.proofs.Shorter.{Within, WithinBy, CallsWithin, evaluate_within, execute_within, turn_eq}
 use Rattle.ls_meaning.proofs.Shorter.{turns_eq}
 

@@ -24,9 +24,10 @@ use Rattle.ls_source_pending.specs.Pending.{Waiting, ToSlot, ToTarget, ToField, 
 use Rattle.ls_source_pending.specs.Pending.{ToIndex, ToItem, ToNothing, ToIf, ToTest, ToReturn, OfBody, OfTry, Frame}
 use Rattle.ls_source_pending.specs.Pending.{In, On, Up, Leaves, Control, Evaluates, Argues, Invokes, Opens, Executes}
 use Rattle.ls_source_pending.specs.Pending.{Loops, Gives, Ends, Asks, Enters, Turns, State}
-use Rattle.ls_source_pending.specs.Machine.{at, known, on_written, opening, going_on, giving, executing, ending, move}
-use Rattle.ls_source_pending.specs.Machine.{moved, answered, taking, taken, OfValue, Rest, evaluated, executed}
-use Rattle.ls_source_pending.specs.Machine.{gone_on, around, rest_of, meaning, entering, waited, going_further}
+use Rattle.ls_source_pending.specs.ExpressionMoves.{at, known}
+use Rattle.ls_source_pending.specs.Moves.{on_written, opening, going_on, giving, executing, ending, move, moved}
+use Rattle.ls_source_pending.specs.Moves.{answered, taking, taken, entering, waited, going_further}
+use Rattle.ls_source_pending.specs.Meaning.{OfValue, Rest, evaluated, executed, gone_on, around, rest_of, meaning}
 use Rattle.ls_meaning.proofs.Shorter.{invoke_within}
 use Rattle.ls_source_moves.proofs.Frames.{while_unrolls, on_frame, normal_frame, up_frame, leaves_frame, written}
 use Rattle.ls_source_moves.proofs.Frames.{read_first, branched}

@@ -28,11 +28,12 @@ use Rattle.ls_source_pending.specs.Pending.{ToIndex, ToItem, ToNothing, ToIf, To
 use Rattle.ls_source_pending.specs.Pending.{OfBody, OfTry, OfFinally, Frame, In, On, Up, Leaves, Control, Evaluates}
 use Rattle.ls_source_pending.specs.Pending.{Argues, Invokes, Opens, Executes, Loops, Gives, Ends, Asks, Enters, Turns}
 use Rattle.ls_source_pending.specs.Pending.{State}
-use Rattle.ls_source_pending.specs.Machine.{at_hand, on_read, started, invoking, ready, entering, known, on_argument}
-use Rattle.ls_source_pending.specs.Machine.{on_right, on_left, on_target, on_called, on_written, waited}
-use Rattle.ls_source_pending.specs.Machine.{going_further, behind, evaluating, arguing, calling, applying, opening}
-use Rattle.ls_source_pending.specs.Machine.{filling, going_on, giving, executing, running, if_normal, after_loop}
-use Rattle.ls_source_pending.specs.Machine.{leaving, closing, ending, move, moved, is_left}
+use Rattle.ls_source_pending.specs.ExpressionMoves.{at_hand, on_read, started, invoking, ready, known, on_argument}
+use Rattle.ls_source_pending.specs.ExpressionMoves.{on_right, on_left, on_target, on_called, evaluating, arguing}
+use Rattle.ls_source_pending.specs.ExpressionMoves.{calling, applying, filling}
+use Rattle.ls_source_pending.specs.Moves.{entering, on_written, waited, going_further, behind, opening, going_on}
+use Rattle.ls_source_pending.specs.Moves.{giving, executing, running, if_normal, after_loop, leaving, closing, ending}
+use Rattle.ls_source_pending.specs.Moves.{move, moved, is_left}
 use Rattle.ls_source_moves.proofs.Weights.{branch_less, weight, weight_all, heaviness, heaviness_all, operand_load}
 use Rattle.ls_source_moves.proofs.Weights.{waiting_load}
 use Rattle.ls_source_moves.proofs.Weights.{ending_load, frame_load, body_load, control_load, load, burden, two}

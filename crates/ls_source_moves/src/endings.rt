@@ -4,8 +4,9 @@ ghost use Rattle.std.specs.Prelude.{◌≡◌, ◌<◌, ◌∷◌, vec_len, vec_
 ghost use Rattle.ls_checked.specs.CheckedTree.{Then};
 ghost use Rattle.ls_checked.specs.Plain.{plain, plain_statement, statements_of};
 ghost use Rattle.ls_source_pending.specs.Pending.{Up, OfFinally, Executes as PlainExecutes, Ends as PlainEnds};
-ghost use Rattle.ls_source_pending.specs.Machine.{at, running, entering, if_normal, after_loop, leaving, behind};
-ghost use Rattle.ls_source_pending.specs.Machine.{closing, ending};
+ghost use Rattle.ls_source_pending.specs.ExpressionMoves.{at};
+ghost use Rattle.ls_source_pending.specs.Moves.{running, entering, if_normal, after_loop, leaving, behind, closing};
+ghost use Rattle.ls_source_pending.specs.Moves.{ending};
 ghost use Rattle.ls_source_pending.specs.Seen.{ending_of, frames_of, control_of};
 ghost use Rattle.ls_source_pending.specs.SeenPending.{state_of};
 

@@ -3,7 +3,8 @@
 ghost use Rattle.std.specs.Prelude.{◌≡◌, ◌<◌, ◌+◌, ◌∷◌, OnOk, OnErr, vec_len, vec_capacity, map, nat_eq, if◌then◌else◌};
 ghost use Rattle.ls_checked.specs.Plain.{plain_file, plain_class};
 ghost use Rattle.ls_source_pending.specs.Pending.{Gives as PlainGives, Opens as PlainOpens};
-ghost use Rattle.ls_source_pending.specs.Machine.{at, giving, move, moved};
+ghost use Rattle.ls_source_pending.specs.ExpressionMoves.{at};
+ghost use Rattle.ls_source_pending.specs.Moves.{giving, move, moved};
 ghost use Rattle.ls_source_pending.specs.Seen.{frames_of};
 ghost use Rattle.ls_source_pending.specs.SeenPending.{state_of};
 
@@ -16,7 +17,7 @@ use ls_source_pending::pending::Pending;
 use ls_source_pending::stack::{pop, push};
 use ls_source_pending::tables::frame;
 use ls_source_pending::work::{Control, Frame};
-use ls_source_values::lookups::method_at;
+use ls_source_store::lookups::method_at;
 use std::alloc::{AllocError, Global};
 use std::mem;
 

@@ -3,7 +3,8 @@
 ghost use Rattle.std.specs.Prelude.{◌≡◌, false, OnOk};
 ghost use Rattle.ls_checked.specs.Plain.{plain_file};
 ghost use Rattle.ls_meaning.specs.Course.{Answers};
-ghost use Rattle.ls_source_pending.specs.Machine.{is_left, meaning, Rest};
+ghost use Rattle.ls_source_pending.specs.Moves.{is_left};
+ghost use Rattle.ls_source_pending.specs.Meaning.{meaning, Rest};
 ghost use Rattle.ls_source_pending.specs.SeenPending.{state_of};
 
 use crate::moves::advance;

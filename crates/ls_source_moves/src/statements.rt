@@ -5,8 +5,9 @@ ghost use Rattle.ls_checked.specs.Plain.{plain, plain_statement, plain_class};
 ghost use Rattle.ls_meaning.specs.Values.{int_of, reference_of, truth_of};
 ghost use Rattle.ls_source_pending.specs.Pending.{On, Up, ToNothing, ToAddend, ToTest, OfBody, OfTry};
 ghost use Rattle.ls_source_pending.specs.Pending.{Asks as PlainAsks, Evaluates as PlainEvaluates};
-ghost use Rattle.ls_source_pending.specs.Machine.{at, known, on_written, thrown_on_null, evaluating, entering};
-ghost use Rattle.ls_source_pending.specs.Machine.{ending, waited, going_on, going_further, executing};
+ghost use Rattle.ls_source_pending.specs.ExpressionMoves.{at, known, thrown_on_null, evaluating};
+ghost use Rattle.ls_source_pending.specs.Moves.{on_written, entering, ending, waited, going_on, going_further};
+ghost use Rattle.ls_source_pending.specs.Moves.{executing};
 ghost use Rattle.ls_source_pending.specs.Seen.{waiting_of, frames_of};
 ghost use Rattle.ls_source_pending.specs.SeenPending.{state_of};
 
@@ -20,7 +21,7 @@ use ls_source_pending::pending::Pending;
 use ls_source_pending::stack::push;
 use ls_source_pending::tables::known;
 use ls_source_pending::work::{Control, Ending, Frame, Waiting};
-use ls_source_values::value::{int_of, operated, reference_of, truth_of};
+use ls_source_store::value::{int_of, operated, reference_of, truth_of};
 use std::alloc::Global;
 
 // The rest of a statement waits for a value, whose evaluation is the next move.

@@ -7,7 +7,7 @@ use Rattle.ls_source_pending.specs.declared.work.Frame.{Frame}
 use Rattle.ls_source_pending.specs.Pending as pending
 use Rattle.ls_source_pending.specs.Seen.{frame_of, frames_of}
 use Rattle.ls_source_pending.specs.Filled.{is_some}
-use Rattle.ls_source_pending.specs.Machine.{is_left}
+use Rattle.ls_source_pending.specs.Moves.{is_left}
 
 -- one frame more
 pub one_more : (fs : List Frame) (f : Frame) → frames_of (fs ++ f ∷ []) ≡ frame_of f ∷ frames_of fs

@@ -1,5 +1,7 @@
 pub mod Pending
-pub mod Machine
+pub mod ExpressionMoves
+pub mod Moves
+pub mod Meaning
 pub mod Seen
 pub mod SeenPending
 pub mod Filled

@@ -5,7 +5,7 @@ ghost use Rattle.ls_checked.specs.Plain.{plain, all_plain, plain_class};
 ghost use Rattle.ls_meaning.specs.Values.{truth_of, reference_of, pair_of};
 ghost use Rattle.ls_meaning.specs.Expressions.{argument, constructor_of};
 ghost use Rattle.ls_source_pending.specs.Pending.{In, InConstructor, Argues as PlainArgues, Asks as PlainAsks};
-ghost use Rattle.ls_source_pending.specs.Machine.{at, started, arguing, invoking, calling, applying, ready};
+ghost use Rattle.ls_source_pending.specs.ExpressionMoves.{at, started, arguing, invoking, calling, applying, ready};
 ghost use Rattle.ls_source_pending.specs.Seen.{purpose_of, operand_of, frame_of, frames_of};
 ghost use Rattle.ls_source_pending.specs.SeenPending.{state_of};
 
@@ -19,8 +19,8 @@ use ls_events::kind::Kind;
 use ls_events::value::{Value, ValueType};
 use ls_meaning::completion::Completion;
 use ls_meaning::sort::Sort;
-use ls_source_values::lookups::constructor_of;
-use ls_source_values::value::{pair_of, reference_of, truth_of, value_at};
+use ls_source_store::lookups::constructor_of;
+use ls_source_store::value::{pair_of, reference_of, truth_of, value_at};
 use std::alloc::AllocError;
 
 // compareAndSet(expectedReference, newReference, expectedMark, newMark)

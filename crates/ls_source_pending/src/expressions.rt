@@ -3,7 +3,8 @@
 ghost use Rattle.std.specs.Prelude.{◌≡◌, ◌<◌, ◌∷◌, [], vec_len, vec_capacity, map};
 ghost use Rattle.ls_checked.specs.Plain.{plain, all_plain, plain_class};
 ghost use Rattle.ls_source_pending.specs.Pending.{In, InItem, InAnd, InOr, InMade, ToMark, Asks as PlainAsks};
-ghost use Rattle.ls_source_pending.specs.Machine.{at, known, started, on_left, on_target, on_called, ready, evaluating};
+ghost use Rattle.ls_source_pending.specs.ExpressionMoves.{at, known, started, on_left, on_target, on_called, ready};
+ghost use Rattle.ls_source_pending.specs.ExpressionMoves.{evaluating};
 ghost use Rattle.ls_source_pending.specs.Seen.{operand_of, frames_of};
 ghost use Rattle.ls_source_pending.specs.SeenPending.{state_of};
 
@@ -15,7 +16,7 @@ use ls_checked::tree::{Called, Class, Expression, Expressions, Operator};
 use ls_events::action::Action;
 use ls_events::value::ValueType;
 use ls_meaning::sort::Sort;
-use ls_source_values::value::value_at;
+use ls_source_store::value::value_at;
 use std::alloc::Global;
 
 // A function of Rattle clears the room of its locals when it begins. So the parts that hold frames are functions of

@@ -2,7 +2,7 @@
 
 ghost use Rattle.std.specs.Prelude.{◌≡◌, ◌<◌, ◌∷◌, vec_len, vec_capacity};
 ghost use Rattle.ls_source_pending.specs.Pending.{Gives as PlainGives, Ends as PlainEnds, Asks as PlainAsks};
-ghost use Rattle.ls_source_pending.specs.Machine.{at, thrown_on_null};
+ghost use Rattle.ls_source_pending.specs.ExpressionMoves.{at, thrown_on_null};
 ghost use Rattle.ls_source_pending.specs.Seen.{frame_of, frames_of, control_of};
 ghost use Rattle.ls_source_pending.specs.SeenPending.{state_of};
 

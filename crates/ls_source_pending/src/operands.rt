@@ -8,7 +8,7 @@ ghost use Rattle.ls_meaning.specs.Expressions.{field_of};
 ghost use Rattle.ls_source_pending.specs.Pending.{In, InIndex, InWritten, InArgument, ToCall, ToMake};
 ghost use Rattle.ls_source_pending.specs.Pending.{Gives as PlainGives, Evaluates as PlainEvaluates};
 ghost use Rattle.ls_source_pending.specs.Pending.{Argues as PlainArgues, Asks as PlainAsks, Ends as PlainEnds};
-ghost use Rattle.ls_source_pending.specs.Machine.{at, known, started, on_right, ready, thrown_on_null, filling};
+ghost use Rattle.ls_source_pending.specs.ExpressionMoves.{at, known, started, on_right, ready, thrown_on_null, filling};
 ghost use Rattle.ls_source_pending.specs.Seen.{purpose_of, operand_of, frames_of};
 ghost use Rattle.ls_source_pending.specs.SeenPending.{state_of};
 
@@ -22,8 +22,8 @@ use ls_events::kind::Kind;
 use ls_events::value::{Value, ValueType};
 use ls_meaning::completion::Completion;
 use ls_meaning::sort::Sort;
-use ls_source_values::lookups::field_of;
-use ls_source_values::value::{
+use ls_source_store::lookups::field_of;
+use ls_source_store::value::{
     divides_by_zero, int_of, mark_of, negated, operated, reference_of, truth_of,
 };
 use std::alloc::{AllocError, Global};

@@ -2,7 +2,7 @@
 
 ghost use Rattle.std.specs.Prelude.{◌≡◌};
 ghost use Rattle.ls_source_pending.specs.Filled.{is_some};
-ghost use Rattle.ls_source_pending.specs.Machine.{answered};
+ghost use Rattle.ls_source_pending.specs.Moves.{answered};
 ghost use Rattle.ls_source_pending.specs.Seen.{control_of};
 
 use crate::work::{Control, Frame};
@@ -44,7 +44,7 @@ fn answered<'a>(answer: Answer<Value>) -> Control<'a>
 }
 
 impl<'a> Pending<'a> {
-    ghost use Rattle.ls_source_pending.specs.Machine.{is_left, taken};
+    ghost use Rattle.ls_source_pending.specs.Moves.{is_left, taken};
     ghost use Rattle.ls_source_pending.specs.SeenPending.{state_of};
 
     /// Whether a move is left.

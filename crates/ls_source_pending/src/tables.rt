@@ -3,11 +3,11 @@
 ghost use Rattle.std.specs.Prelude.{◌≡◌, ◌∷◌, Some, IfOk};
 ghost use Rattle.ls_checked.specs.Plain.{plain};
 ghost use Rattle.ls_meaning.specs.Methods.{frame, answer_without};
-ghost use Rattle.ls_source_pending.specs.Machine.{at_hand, computed, near, known};
+ghost use Rattle.ls_source_pending.specs.ExpressionMoves.{at_hand, computed, near, known};
 
 use ls_checked::tree::{Expression, Operator};
 use ls_events::value::{Value, ValueType};
-use ls_source_values::value::{divides_by_zero, operated, start_of, starts_of, value_at};
+use ls_source_store::value::{divides_by_zero, operated, start_of, starts_of, value_at};
 use std::alloc::{AllocError, Global};
 
 /// The slots of a method when it is entered. The only refusal is that memory ran out.

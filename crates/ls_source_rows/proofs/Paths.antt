@@ -18,7 +18,7 @@ use Rattle.ls_search.specs.declared.places.Seen.{Seen}
 use Rattle.ls_search.specs.Listed.{AreSteps, StandOnce, paths_of}
 use Rattle.ls_search.specs.Searched.{IsSound, pairs_at}
 use Rattle.ls_search.proofs.Tracks.{length-paths, path_there}
-use Rattle.ls_state_space.specs.Nameless.{nameless_next}
+use Rattle.ls_search.specs.Nameless.{nameless_next}
 use Rattle.ls_source_rows.specs.Listed.{IsBegunBy, TellListed}
 use Rattle.ls_source_rows.specs.Rows.{ActAll, IsBegun, TellStates}
 use Rattle.ls_source_rows.specs.declared.rows.Row.{Row}

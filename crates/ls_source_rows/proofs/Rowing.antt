@@ -16,9 +16,9 @@ use Rattle.ls_search.specs.declared.places.Node.{Node}
 use Rattle.ls_search.specs.declared.places.Seen.{Seen}
 use Rattle.ls_search.specs.Listed.{AreSteps, StandOnce, paths_of}
 use Rattle.ls_search.specs.Searched.{AreExpanded, IsSound, pairs_at}
-use Rattle.ls_state_space.specs.Nameless.{nameless_next}
+use Rattle.ls_search.specs.Nameless.{nameless_next}
 use Rattle.ls_source_rows.specs.Listed.{TellListed, ending_by, ending_of}
-use Rattle.ls_source_rows.specs.Rows.{AreTrue, TellAll, TellStates}
+use Rattle.ls_source_rows.specs.Rows.{AreTrue, TellWhole, TellStates}
 use Rattle.ls_source_rows.specs.declared.rows.Ending.TheVariants as ending
 use Rattle.ls_source_rows.specs.declared.rows.Row.{Row}
 use Rattle.ls_source_rows.proofs.Paths.{tell_states}
@@ -75,7 +75,7 @@ module _ (file : File) (program : Program) (k : ℕ) (up : SetsUp file program k
         let o = told.own r c in
         row_is file program k up t histories nodes is_sound are_steps is_root seen are_expanded o.0 r o.1
 
-    pub all_told : length seen ≡ length nodes → TellAll file program rows
+    pub all_told : length seen ≡ length nodes → TellWhole file program rows
     all_told all = record {
       begun = begun file program k up t histories nodes is_sound is_root seen are_expanded all rows told;
       ended = ended file program k up t histories nodes is_sound is_root seen are_expanded all rows told;

@@ -34,8 +34,8 @@ use Rattle.ls_search.specs.Answers.{ClosesAll}
 use Rattle.ls_search.specs.Searched.{AreExpanded, IsExpanded, IsIn, IsSound, noticed_at, pairs_at}
 use Rattle.ls_search.specs.Strides.{at_once}
 use Rattle.ls_search.proofs.Pairs.{map_from, map_there}
-use Rattle.ls_state_space.specs.Nameless.{nameless_bad, nameless_next}
-use Rattle.ls_state_space.proofs.Judging.{noted_is, searched}
+use Rattle.ls_search.specs.Nameless.{nameless_bad, nameless_next}
+use Rattle.ls_search.proofs.Judging.{noted_is, searched}
 use Rattle.ls_source_rows.specs.Listed.{HasEndOf, IsBegunBy, TellListed}
 use Rattle.ls_source_rows.specs.Rows.{HasEnd, IsBegun}
 use Rattle.ls_source_rows.specs.declared.rows.Row.{Row}

@@ -104,7 +104,7 @@ pub record TellStates (file : File) (program : Program) (k : ℕ) (rows : List R
 
 -- Of every schedule of the program, of any length: its history is the beginning of a row's; and where no thread acts
 -- after it, it is that of a row that ends. Of each row it is told how it ends.
-pub record TellAll (file : File) (program : Program) (rows : List Row) : Type 0 where
+pub record TellWhole (file : File) (program : Program) (rows : List Row) : Type 0 where
   pub begun : (schedule : List ℕ) → IsBegun rows (source_history file program schedule)
   pub ended : (schedule : List ℕ) → IsOver file program (source_run file program schedule) →
       HasEnd rows (source_history file program schedule)

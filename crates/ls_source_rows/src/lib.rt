@@ -6,7 +6,7 @@ mod rows;
 mod sorting;
 mod telling;
 
-pub use ls_run_search::listing::Reach;
+pub use ls_search::run_listing::Reach;
 pub use ls_search::watching::{Nobody, Watch};
 pub use rows::{Ending, Row};
 pub use telling::{Telling, tell_rows};

@@ -11,7 +11,7 @@ ghost use Rattle.ls_search_laws.specs.Stepping.{SetsUp};
 ghost use Rattle.ls_search.specs.declared.places.Node.{Node as NodeValue};
 ghost use Rattle.ls_search.specs.declared.places.Seen.{Seen as SeenValue};
 ghost use Rattle.ls_source_rows.specs.Listed.{IsRowOf, TellListed, ending_of};
-ghost use Rattle.ls_source_rows.specs.Rows.{AreApart, AreTrue, StandAlone, TellAll, TellStates, row_order};
+ghost use Rattle.ls_source_rows.specs.Rows.{AreApart, AreTrue, StandAlone, TellWhole, TellStates, row_order};
 
 use crate::observing::Histories;
 use crate::rows::{Ending, Row};
@@ -20,11 +20,11 @@ use ls_checked::program::Program;
 use ls_checked::tree::File;
 use ls_events::event::Event;
 use ls_history_numbers::{choose, none, number_all};
-use ls_run_search::listing::{Reach, RunListing, list_run};
+use ls_search::nameless::Nameless;
 use ls_search::places::{Node, Seen};
+use ls_search::run_listing::{Reach, RunListing, list_run};
 use ls_search::steps::steps_to;
 use ls_search::watching::Watch;
-use ls_state_space::nameless::Nameless;
 use std::alloc::{AllocError, Global};
 
 /// How many steps of the setup act, and the histories of all schedules with paths that lead to them. Also whether they
@@ -275,7 +275,7 @@ pub fn tell_rows<W: Watch>(
     ensures states { IfOk result (λ t.
         TellStates (plain_file file.now) (plain_program program.now) t.setup t.rows.items t.states) }
     ensures all { IfOk result (λ t. IsTrue t.complete →
-        TellAll (plain_file file.now) (plain_program program.now) t.rows.items) }
+        TellWhole (plain_file file.now) (plain_program program.now) t.rows.items) }
     ensures cut { IfOk result (λ t. t.complete ≡ false → t.states ≡ reach.states) }
     ensures few { IfOk result (λ t. t.states ≤ reach.states) }
 {

@@ -11,7 +11,7 @@ use Rattle.ls_events.specs.declared.action.Answer.TheVariants.{Done}
 use Rattle.ls_meaning.specs.Store.{Thing, Store, thing_at}
 use Rattle.ls_meaning.specs.Effect.{Does, change, at_thing, put_back, on_thing}
 use Rattle.ls_source_store.specs.declared.thing.Thing.{Thing as KeptThing}
-use Rattle.ls_source_store.specs.declared.thing.Effect.{Effect as Outcome}
+use Rattle.ls_source_store.specs.declared.thing.Effect.{Effect as StoreEffect}
 use Rattle.ls_source_store.specs.declared.thing.Effect.TheVariants.{Waits as HasToWait, Does as HasDone}
 use Rattle.ls_source_store.specs.declared.store.Store.{Store as KeptStore}
 use Rattle.ls_source_store.specs.SeenThing.{thing_of, plain_change}
@@ -21,7 +21,7 @@ thing_is : (s : Store) (o : ℕ) (x : Option Thing) → o ≢ 0 → slice_get s.
 thing_is s o x h e = let f : nat_eq o 0 ≡ false = grind (arith, nat_tests) in rw f e
 
 -- a changed thing is put back into its place
-put_back_is : (s : KeptStore) (o : ℕ) (t : KeptThing) (r : Outcome) →
+put_back_is : (s : KeptStore) (o : ℕ) (t : KeptThing) (r : StoreEffect) →
     plain_effect (record { things = map thing_of (slice_set s.things.items (o - 1) t); names = s.names.items }) r ≡
     put_back (store_of s) o (plain_change (thing_of t) r)
 put_back_is s o t HasToWait = refl
@@ -30,7 +30,7 @@ put_back_is s o t (HasDone answer) =
     (map-set thing_of s.things.items (o - 1) t)
 
 -- an action on a thing that is there
-pub acted_within : (s : KeptStore) (o thread : ℕ) (a : Action Value) (t t' : KeptThing) (r : Outcome) →
+pub acted_within : (s : KeptStore) (o thread : ℕ) (a : Action Value) (t t' : KeptThing) (r : StoreEffect) →
     o ≢ 0 →
     o - 1 < length s.things.items →
     t ≡ get_or s.things.items (o - 1) t →

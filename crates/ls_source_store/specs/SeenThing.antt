@@ -11,7 +11,7 @@ use Rattle.ls_source_store.specs.declared.thing.Hold.TheVariants.{Free as KeptFr
 use Rattle.ls_source_store.specs.declared.thing.Thing.{Thing as KeptThing}
 use Rattle.ls_source_store.specs.declared.thing.Thing.TheVariants.{Object as KeptObject, Lock as KeptLock}
 use Rattle.ls_source_store.specs.declared.thing.Thing.TheVariants.{Markable as KeptMarkable, Array as KeptArray}
-use Rattle.ls_source_store.specs.declared.thing.Effect.{Effect as Outcome}
+use Rattle.ls_source_store.specs.declared.thing.Effect.{Effect as StoreEffect}
 use Rattle.ls_source_store.specs.declared.thing.Effect.TheVariants.{Waits as HasToWait, Does as HasDone}
 
 -- an item that was never written is false
@@ -30,11 +30,11 @@ thing_of (KeptMarkable p) = Markable p
 thing_of (KeptArray size items) = Array size (items_of items)
 
 -- an outcome, with the hold that it leaves
-abbrev pub plain_holding : Hold → Outcome → Holding
+abbrev pub plain_holding : Hold → StoreEffect → Holding
 plain_holding h HasToWait = Awaits
 plain_holding h (HasDone answer) = Becomes h answer
 
 -- an outcome, with the thing that it leaves
-abbrev pub plain_change : Thing → Outcome → Change
+abbrev pub plain_change : Thing → StoreEffect → Change
 plain_change t HasToWait = Stays
 plain_change t (HasDone answer) = Leaves t answer

@@ -8,10 +8,10 @@ ghost use Rattle.ls_source_store.specs.SeenThing.{thing_of};
 ghost use Rattle.ls_source_store.specs.SeenStore.{store_of, plain_effect};
 
 use crate::thing::{Effect, Hold, Thing, change, done, gives};
+use crate::value::starts_of;
 use ls_checked::tree::Class;
 use ls_events::action::{Action, Answer};
 use ls_events::value::Value;
-use ls_source_values::value::starts_of;
 use std::alloc::{AllocError, Global};
 use std::collections::BTreeMap;
 

@@ -4,10 +4,10 @@ ghost use Rattle.std.specs.Prelude.{◌≡◌, IfOk, OnErr};
 ghost use Rattle.ls_meaning.specs.Effect.{change, in_range, reading_field, writing_field, reading_item, writing_item, locking, trying, unlocking, asking_held, on_lock, on_monitor, reading_pair, setting_pair, swapping, attempting};
 ghost use Rattle.ls_source_store.specs.SeenThing.{items_of, hold_of, thing_of, plain_holding, plain_change};
 
+use crate::value::{reference_of, same_pair};
 use ls_events::action::{Action, Answer};
 use ls_events::kind::Kind;
 use ls_events::value::Value;
-use ls_source_values::value::{reference_of, same_pair};
 use std::alloc::AllocError;
 use std::collections::BTreeMap;
 

@@ -21,8 +21,8 @@ use Rattle.ls_search.specs.Searched.{IsOther}
 use Rattle.ls_search.specs.Strides.{at_once}
 use Rattle.ls_search.proofs.Likeness.{other_same}
 use Rattle.ls_source.specs.Progress.{gone_on}
-use Rattle.ls_run_search.specs.Runs.{progress_at}
-use Rattle.ls_run_search.proofs.Progressing.{gone}
+use Rattle.ls_search.specs.Runs.{progress_at}
+use Rattle.ls_search.proofs.Progressing.{gone}
 use Rattle.ls_transitions.proofs.Keeping.{below, there}
 use Rattle.ls_spinning.specs.declared.graph.Edge.{Edge}
 use Rattle.ls_spinning.specs.declared.graph.Seen.{Seen}

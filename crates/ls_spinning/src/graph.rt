@@ -4,7 +4,7 @@ ghost use Rattle.std.specs.Prelude.{◌≡◌, IfSome};
 
 use crate::spots::Spots;
 use ls_checked::tree::File;
-use ls_renumbering::renumbering::Renumbering;
+use ls_renaming::renumbering::Renumbering;
 use ls_transitions::transitions::Transitions;
 use std::alloc::{AllocError, Global};
 

@@ -20,7 +20,7 @@ use crate::graph::{Edge, Graph, Ground, Sight, edge_of};
 use crate::spots::Spot;
 use ls_events::action::Action;
 use ls_events::value::Value;
-use ls_renumbering::renumbering::Renumbering;
+use ls_renaming::renumbering::Renumbering;
 use ls_search::advancing::{settle, take};
 use ls_search::noting::event_of;
 use ls_search::places::NumberedState;

@@ -5,3 +5,4 @@ pub mod Asking
 pub mod State
 pub mod Each
 pub mod Seen
+pub mod Drawing

@@ -5,7 +5,7 @@ ghost use Rattle.ls_source_store.specs.SeenThing.{items_of};
 ghost use Rattle.ls_state.specs.Parts.{array_text, count_text, places_text, true_places};
 
 use ls_events::value::Value;
-use ls_source_values::value::truth_of;
+use ls_source_store::value::truth_of;
 use std::alloc::AllocError;
 use std::collections::BTreeMap;
 use std::fmt::Write;

@@ -10,7 +10,7 @@ use Rattle.ls_lexer.proofs.FormedLaws.{tokens_are_formed}
 use Rattle.ls_events.specs.declared.value.Value.{Value}
 use Rattle.ls_checked.specs.CheckedProgram.{SetupName, ProgramCall, Making, Calling, ThreadProgram, Program}
 use Rattle.ls_types_elaboration.specs.Trees.{Text}
-use Rattle.ls_types_elaboration.specs.Elaboration.{Outcome}
+use Rattle.ls_types_elaboration.specs.Elaboration.{ElaboratedFile}
 use Rattle.ls_types_programs.specs.Spelled as spelled
 use Rattle.ls_types_programs.specs.Spelled.{Argument, Others, Arguments, Call, Calls, Threads, Spells}
 use Rattle.ls_types_programs.specs.Programs as programs
@@ -49,7 +49,7 @@ once_within (v ∷ ts) h (suc i) zero t u et eu same = absurd (new_at ts v.name 
     (same ∙ sym (ap (λ (z : ThreadProgram). z.name) (same_some v u eu))))
 once_within (v ∷ ts) h (suc i) (suc j) t u et eu same = ap suc (once_within ts h.1 i j t u et eu same)
 
-module _ (o : Outcome) (names : List SetupName) where
+module _ (o : ElaboratedFile) (names : List SetupName) where
   -- the threads after others have other names
   pub apart : {before ts : List ThreadProgram} →
       AreThreadsOf o names before ts →
@@ -208,7 +208,7 @@ pub record AreProgramNames (p : Program) : Type 0 where
       t.name ≡ codes "setup"
 
 -- the names of a program text are so
-pub program_names : (o : Outcome) (text : Text) (p : Program) → IsTextOf o p text → AreProgramNames p
+pub program_names : (o : ElaboratedFile) (text : Text) (p : Program) → IsTextOf o p text → AreProgramNames p
 program_names o text p h =
     let is : IsProgramOf o p = h.program in
     let first : ThreadProgram = record { name = codes "setup"; calls = is.setup } in

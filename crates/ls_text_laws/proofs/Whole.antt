@@ -7,7 +7,7 @@ use Rattle.ls_code.specs.Machine.{machine_history}
 use Rattle.ls_preservation.specs.Same.{IsCells, Same}
 use Rattle.ls_preservation.specs.Translations.{to_source}
 use Rattle.ls_types_elaboration.specs.Trees.{File, Text}
-use Rattle.ls_types_elaboration.specs.Elaboration.{Outcome, elaborated}
+use Rattle.ls_types_elaboration.specs.Elaboration.{ElaboratedFile, elaborated}
 use Rattle.ls_types_programs.specs.Programs.{IsTextOf}
 use Rattle.ls_types_programs.proofs.Whole.{reads_what_is_spelled}
 use Rattle.ls_types_judgement.specs.Programs.{IsTypedProgram}
@@ -27,7 +27,7 @@ source_is_readable f o text p e h =
     readable o.file p typed.typed (is_sound o.file p typed.typed typed.classes calls) calls (program_names o text p h)
 
 -- code that is the same as the file and the program
-same_is_readable : (f : File) (o : Outcome) (text : Text) (p : Program) → elaborated f ≡ Ok o → IsTextOf o p text
+same_is_readable : (f : File) (o : ElaboratedFile) (text : Text) (p : Program) → elaborated f ≡ Ok o → IsTextOf o p text
     → (code : Code) → Same o.file p code → (cells : ℕ) → IsCells code cells → (schedule : List ℕ) →
     IsReadable p (machine_history code cells schedule)
 same_is_readable f o text p e h code same cells within schedule =

@@ -7,7 +7,7 @@ use Rattle.ls_meaning.specs.Runs.{source_history}
 use Rattle.ls_code.specs.Machine.{machine_history}
 use Rattle.ls_preservation.specs.Same.{IsCells}
 use Rattle.ls_types_elaboration.specs.Trees.{File, Text}
-use Rattle.ls_types_elaboration.specs.Elaboration.{Outcome, elaborated}
+use Rattle.ls_types_elaboration.specs.Elaboration.{ElaboratedFile, elaborated}
 use Rattle.ls_types_programs.specs.Programs.{IsTextOf}
 use Rattle.ls_image.specs.declared.image.Image.{Image}
 use Rattle.ls_image.specs.Images.{Compiles, code_of_image, program_of_image}
@@ -24,7 +24,7 @@ pub record IsReadable (p : Program) (history : List RunEvent) : Type 0 where
 -- each source run of a program text, for a class text's tree that keeps every rule
 abbrev pub SourceIsReadable : Type 0
 SourceIsReadable =
-    (f : File) (o : Outcome) (text : Text) (p : Program) → elaborated f ≡ Ok o → IsTextOf o p text
+    (f : File) (o : ElaboratedFile) (text : Text) (p : Program) → elaborated f ≡ Ok o → IsTextOf o p text
     → (schedule : List ℕ) → IsReadable p (source_history o.file p schedule)
 
 -- each run of what two texts are compiled to

@@ -4,7 +4,7 @@ use Rattle.std.specs.Prelude.{◌≡◌, ◌<◌, ◌≤◌, ℕ, List, length, 
 use Rattle.ls_checked.specs.PlainProgram.{plain_program}
 use Rattle.ls_checked.specs.declared.program.Program.{Program}
 use Rattle.ls_types_elaboration.specs.Trees.{Text}
-use Rattle.ls_types_elaboration.specs.Elaboration.{Outcome}
+use Rattle.ls_types_elaboration.specs.Elaboration.{ElaboratedFile}
 use Rattle.ls_types_programs.specs.Programs.{IsTextOf}
 use Rattle.ls_schedule.specs.Printing.{schedule_text}
 use Rattle.ls_schedule.specs.Reading.{schedule_of, thread_names}
@@ -17,12 +17,12 @@ pub record IsScheduleOf (program : Program) (steps : List ℕ) : Type 0 where
 
 -- the names of a program text
 abbrev pub NamesAreRead : Type 0
-NamesAreRead = (o : Outcome) (text : Text) (program : Program) → IsTextOf o (plain_program program) text →
+NamesAreRead = (o : ElaboratedFile) (text : Text) (program : Program) → IsTextOf o (plain_program program) text →
     AreThreadNames (thread_names program)
 
 abbrev pub SchedulesReadBack : Type 0
 SchedulesReadBack =
-    (o : Outcome) (text : Text) (program : Program) (steps : List ℕ) → IsTextOf o (plain_program program) text →
+    (o : ElaboratedFile) (text : Text) (program : Program) (steps : List ℕ) → IsTextOf o (plain_program program) text →
     IsScheduleOf program steps
     → schedule_of (thread_names program) (schedule_text (thread_names program) steps) ≡ Ok steps
 
@@ -35,6 +35,6 @@ WhatIsReadIsASchedule =
 -- what is read is read again from what is printed of it
 abbrev pub IsReadAgain : Type 0
 IsReadAgain =
-    (o : Outcome) (text said : Text) (program : Program) (steps : List ℕ) → IsTextOf o (plain_program program) text
+    (o : ElaboratedFile) (text said : Text) (program : Program) (steps : List ℕ) → IsTextOf o (plain_program program) text
     → schedule_of (thread_names program) said ≡ Ok steps → schedule_of (thread_names program)
     (schedule_text (thread_names program) steps) ≡ Ok steps

@@ -3,7 +3,7 @@ use Rattle.std.proofs.Common.{◌≡◌, ℕ, Option, Result, refl}
 use Rattle.std.specs.Prelude.{String}
 use Rattle.std.specs.Global.{Global}
 use Rattle.ls_report.specs.Events.{Text}
-use Rattle.ls_parts.specs.Parts.{parts_of}
+use Rattle.ls_items.specs.Parts.{parts_of}
 use Rattle.ls_command_line.specs.declared.words.Request.{Request}
 use Rattle.ls_command_line.specs.declared.words.Request.TheVariants as requests
 use Rattle.ls_faults.specs.declared.fault.ToolFault.{ToolFault}

@@ -7,7 +7,7 @@ use Rattle.ls_answers.specs.Answers.{MayRefuse}
 use Rattle.ls_report.specs.Events.{Text}
 use Rattle.ls_orders.specs.Orders.{order_of}
 use Rattle.ls_orders.specs.declared.fault.OrderFault.{OrderFault}
-use Rattle.ls_parts.specs.Parts.{is_text, parts_of}
+use Rattle.ls_items.specs.Parts.{is_text, parts_of}
 use Rattle.ls_commands.specs.Check as check
 use Rattle.ls_commands.specs.Check.{ChecksTo, judged_by, with_feed}
 use Rattle.ls_command_line.specs.declared.words.CommandLine.{CommandLine}

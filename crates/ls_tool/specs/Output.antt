@@ -30,9 +30,9 @@ use Rattle.ls_explanations.specs.Explanations.{note}
 use Rattle.ls_explanations.specs.Named.{named_note}
 use Rattle.ls_faults.specs.Faults.{fault_line}
 use Rattle.ls_files.specs.Files.{unmarked}
-use Rattle.ls_files.specs.Names.{asking, names_in}
+use Rattle.ls_files.specs.Names.{asking, file_names_in}
 use Rattle.ls_outlets.specs.Written.{Begins, IsWritten}
-use Rattle.ls_parts.specs.Parts.{is_text, parts_of}
+use Rattle.ls_items.specs.Parts.{is_text, parts_of}
 use Rattle.ls_command_line.specs.Words.{AsksFor}
 use Rattle.ls_command_line.specs.declared.words.CommandLine.{CommandLine}
 use Rattle.ls_command_line.specs.declared.words.Request.{Request}
@@ -207,13 +207,13 @@ pub data IsEnding (words : List Text) (input : Text) : Ending → Type 0 where
   BadLine : Asks words None → IsEnding words input Usage
   Answered : (l : CommandLine) (text beside : Text) →
       Asks words (Some l) →
-      AnswersText (names_in words) l.request input (Ok text) →
-      NotesAs (names_in words) l input (Ok beside) →
+      AnswersText (file_names_in words) l.request input (Ok text) →
+      NotesAs (file_names_in words) l input (Ok beside) →
       IsEnding words input (Prints (status_for l.request text) text beside)
   Refused : (l : CommandLine) (f : ToolFault) →
       Asks words (Some l) →
-      AnswersText (names_in words) l.request input (Err f) →
-      IsEnding words input (Tells (told (names_in words) l f input))
+      AnswersText (file_names_in words) l.request input (Err f) →
+      IsEnding words input (Tells (told (file_names_in words) l f input))
 
 -- ---- what the code answers
 

@@ -3,8 +3,8 @@
 ghost use Rattle.std.specs.Prelude.{◌≡◌, List, Some, map, string_bytes};
 ghost use Rattle.ls_explore.specs.Watching.{GoesOn};
 ghost use Rattle.ls_faults.specs.Given.{GivesText};
-ghost use Rattle.ls_files.specs.Names.{names_in};
-ghost use Rattle.ls_parts.specs.Cutting.{plain_text};
+ghost use Rattle.ls_files.specs.Names.{file_names_in};
+ghost use Rattle.ls_items.specs.Cutting.{plain_text};
 ghost use Rattle.ls_report.specs.Events.{Text};
 ghost use Rattle.ls_tool.specs.Output.{Answers, AnswersInput, AnswersText, Asks, Decides, IsTaken, names_of, read_as};
 
@@ -23,8 +23,8 @@ use ls_command_line::{CommandLine, Request, read_words};
 use ls_commands::{View, merge};
 use ls_explore::{Nobody, Watch};
 use ls_faults::fault::ToolFault;
-use ls_files::{asking, names_in, unmarked};
-use ls_parts::{parts_of, text_of};
+use ls_files::{asking, file_names_in, unmarked};
+use ls_items::{parts_of, text_of};
 use std::alloc::Global;
 use std::sync::Wait;
 use std::thread::Threads;
@@ -128,7 +128,7 @@ pub(crate) fn answer_line<R: Threads + Wait + Sync, W: Watch>(
     input: &[u8],
     watch: &mut W,
 ) -> Result<Said, Refusal>
-    ensures decides { (words : List Text) → Asks words (Some line) → names_in words ≡ names_of names.entry →
+    ensures decides { (words : List Text) → Asks words (Some line) → file_names_in words ≡ names_of names.entry →
         Decides words input.now result }
     ensures taken { IsTaken result }
     ensures watched { GoesOn W.Since watch.old watch.new }
@@ -150,5 +150,5 @@ pub fn answer<'a, R: Threads + Wait + Sync>(
     ensures { Decides (map string_bytes words.entry.now) input.now result }
 {
     let line = read_words(alloc, asking(words))?;
-    answer_line(rt, alloc, line, names_in(words), input, &mut Nobody)
+    answer_line(rt, alloc, line, file_names_in(words), input, &mut Nobody)
 }

@@ -3,7 +3,7 @@
 ghost use Rattle.std.specs.Prelude.{◌≡◌, map, option_map};
 ghost use Rattle.ls_explore.specs.Watching.{GoesOn};
 ghost use Rattle.ls_faults.specs.Given.{GivesText};
-ghost use Rattle.ls_parts.specs.Cutting.{plain_text};
+ghost use Rattle.ls_items.specs.Cutting.{plain_text};
 ghost use Rattle.ls_tool.specs.Asked.{OnClass, choosing_of, range_of};
 ghost use Rattle.ls_tool.specs.Output.{OnFind};
 

@@ -13,7 +13,7 @@ ghost use Rattle.ls_commands.specs.Viewed.{ViewsTo};
 ghost use Rattle.ls_explore.specs.Watching.{GoesOn};
 ghost use Rattle.ls_explore_commands.specs.Explored.{ExploresTo};
 ghost use Rattle.ls_faults.specs.Given.{GivesText};
-ghost use Rattle.ls_parts.specs.Cutting.{plain_text};
+ghost use Rattle.ls_items.specs.Cutting.{plain_text};
 ghost use Rattle.ls_tool.specs.Output.{Explores, OnOrder, OnThree, OnTwo, Samples, Verdicts};
 
 use ls_command_line::{Request, Side};

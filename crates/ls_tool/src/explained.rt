@@ -3,7 +3,7 @@
 ghost use Rattle.std.specs.Prelude.{◌≡◌, ◌++◌, IfOk, map, string_bytes};
 ghost use Rattle.ls_explanations.specs.Explanations.{note};
 ghost use Rattle.ls_faults.specs.Faults.{fault_line};
-ghost use Rattle.ls_parts.specs.Cutting.{plain_text};
+ghost use Rattle.ls_items.specs.Cutting.{plain_text};
 ghost use Rattle.ls_tool.specs.Output.{RefusesAs, cut_for, is_bare, names_of, noted, read_as, texts_of};
 
 use crate::refusal::Refusal;
@@ -13,7 +13,7 @@ use ls_explanations::{explain, explain_named};
 use ls_faults::fault::ToolFault;
 use ls_faults::line::fault_line;
 use ls_files::unmarked;
-use ls_parts::{parts_of, text_of};
+use ls_items::{parts_of, text_of};
 use std::alloc::{AllocError, Global};
 
 /// The same texts.

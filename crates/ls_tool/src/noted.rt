@@ -2,9 +2,9 @@
 
 ghost use Rattle.std.specs.Prelude.{◌≡◌, List, Ok, Some, map, string_bytes};
 ghost use Rattle.ls_faults.specs.Given.{GivesText};
-ghost use Rattle.ls_files.specs.Names.{names_in};
-ghost use Rattle.ls_parts.specs.Cutting.{plain_text};
-ghost use Rattle.ls_parts.specs.Parts.{parts_of};
+ghost use Rattle.ls_files.specs.Names.{file_names_in};
+ghost use Rattle.ls_items.specs.Cutting.{plain_text};
+ghost use Rattle.ls_items.specs.Parts.{parts_of};
 ghost use Rattle.ls_report.specs.Events.{Text};
 ghost use Rattle.ls_tool.specs.Notes.{NotesCheck, NotesOn, is_noted};
 ghost use Rattle.ls_tool.specs.Output.{AnswersText, Asks, Decides, IsTaken, NotesAs, NotesText, names_of, read_as};
@@ -17,8 +17,8 @@ use ls_commands::with_feed;
 use ls_explanations::order_note;
 use ls_faults::fault::ToolFault;
 use ls_files::unmarked;
+use ls_items::{parts_of, text_of};
 use ls_orders::{check_order, read_order};
-use ls_parts::{parts_of, text_of};
 use ls_report::read_history;
 use std::alloc::Global;
 
@@ -116,7 +116,7 @@ pub(crate) fn said_of(
     text: String,
     input: &[u8],
 ) -> Result<Said, Refusal>
-    ensures decides { (words : List Text) → Asks words (Some line) → names_in words ≡ names_of names.entry →
+    ensures decides { (words : List Text) → Asks words (Some line) → file_names_in words ≡ names_of names.entry →
         AnswersText (names_of names.entry) line.request input.now (Ok (string_bytes text)) →
         Decides words input.now result }
     ensures taken { IsTaken result }

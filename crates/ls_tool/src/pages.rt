@@ -2,7 +2,7 @@
 
 ghost use Rattle.std.specs.Prelude.{◌≡◌, [], map};
 ghost use Rattle.ls_faults.specs.Given.{GivesText};
-ghost use Rattle.ls_parts.specs.Cutting.{plain_text};
+ghost use Rattle.ls_items.specs.Cutting.{plain_text};
 ghost use Rattle.ls_tool.specs.Pages.{PagesOn, PagesOnFour, PagesOnThree, PagesOnTwo, PagesRun, first_of, has_range};
 ghost use Rattle.ls_tool.specs.Pages.{last_of, states_of};
 

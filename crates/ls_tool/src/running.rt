@@ -2,7 +2,7 @@
 
 ghost use Rattle.std.specs.Prelude.{◌≡◌, List, Some, map, string_bytes, true};
 ghost use Rattle.ls_faults.specs.Faults.{fault_line};
-ghost use Rattle.ls_files.specs.Names.{names_in};
+ghost use Rattle.ls_files.specs.Names.{file_names_in};
 ghost use Rattle.ls_outlets.specs.Written.{IsWritten};
 ghost use Rattle.ls_report.specs.Events.{Text};
 ghost use Rattle.ls_tool.specs.Output.{Asks, Decides, Ends, IsTaken, OfInput, Progresses, ReadsAfterWords};
@@ -18,7 +18,7 @@ use ls_command_line::{CommandLine, read_words};
 use ls_explore::Nobody;
 use ls_faults::fault::ToolFault;
 use ls_faults::line::fault_line;
-use ls_files::{asking, names_in};
+use ls_files::{asking, file_names_in};
 use ls_outlets::{Outlet, write_out};
 use std::alloc::{AllocError, Global};
 use std::io::{Read, Write};
@@ -82,7 +82,7 @@ fn answer_telling<H: Threads + Wait + Sync, E: Outlet>(
     input: &[u8],
     err: &mut E,
 ) -> Result<Said, Refusal>
-    ensures decides { (words : List Text) → Asks words (Some line) → names_in words ≡ names_of names.entry →
+    ensures decides { (words : List Text) → Asks words (Some line) → file_names_in words ≡ names_of names.entry →
         Decides words input.now result }
     ensures taken { IsTaken result }
     ensures progress { Progresses line.request (E.contents err.old) (E.contents err.new) (E.has_failed err.new) }
@@ -117,7 +117,7 @@ fn respond<'a, H: Threads + Wait + Sync, R: Read, E: Outlet>(
 {
     let line = read_words(alloc, asking(words))?;
     let input = read_whole(alloc, reader)?;
-    answer_telling(rt, alloc, line, names_in(words), input.as_slice(), err)
+    answer_telling(rt, alloc, line, file_names_in(words), input.as_slice(), err)
 }
 
 /// Does what the words ask for: reads the input, answers it as `answer` does, and writes. Answers the exit status; with

@@ -17,31 +17,31 @@ use Rattle.ls_transitions.specs.declared.moves.Move.TheVariants as moves
 use Rattle.ls_transitions.specs.declared.rows.Row.{Row}
 use Rattle.ls_transitions.specs.Tables.{Table, Grows, goes_on}
 use Rattle.ls_transitions.specs.Moves.{IsMove}
-use Rattle.ls_transitions.specs.Known.{Ends, Traps, Holds, Performs, NoneAfter, effect_outcome}
-use Rattle.ls_transitions.specs.Known.{outcome_of, step_outcome, is_there, IsKnown, AreKnown, row_of}
+use Rattle.ls_transitions.specs.Known.{Ends, Traps, Holds, Performs, NoneAfter, effect_consequence}
+use Rattle.ls_transitions.specs.Known.{consequence_of, step_consequence, is_there, IsKnown, AreKnown, row_of}
 use Rattle.ls_transitions.proofs.Keeping.{still_below, pushed_cases}
 use Rattle.ls_transitions.proofs.Growing.{still_move}
 
 -- What an effect comes to.
 
-no_end : (a : Action Value) (e : Effect) → effect_outcome a e ≡ Ends → ⊥
+no_end : (a : Action Value) (e : Effect) → effect_consequence a e ≡ Ends → ⊥
 no_end a Waits h = cc
 no_end a (Does s b) h = cc
 
-no_trap : (a : Action Value) (e : Effect) → effect_outcome a e ≡ Traps → ⊥
+no_trap : (a : Action Value) (e : Effect) → effect_consequence a e ≡ Traps → ⊥
 no_trap a Waits h = cc
 no_trap a (Does s b) h = cc
 
-no_gap : (a : Action Value) (e : Effect) → effect_outcome a e ≡ NoneAfter → ⊥
+no_gap : (a : Action Value) (e : Effect) → effect_consequence a e ≡ NoneAfter → ⊥
 no_gap a Waits h = cc
 no_gap a (Does s b) h = cc
 
-only_waits : (a : Action Value) (e : Effect) → effect_outcome a e ≡ Holds → e ≡ Waits
+only_waits : (a : Action Value) (e : Effect) → effect_consequence a e ≡ Holds → e ≡ Waits
 only_waits a Waits h = refl
 only_waits a (Does s b) h = cc
 
 only_does : (a : Action Value) (e : Effect) (action : Action Value) (answer : Answer Value) (after : Store) →
-    effect_outcome a e ≡ Performs action answer after →
+    effect_consequence a e ≡ Performs action answer after →
     (a ≡ action) × (e ≡ Does after answer)
 only_does a Waits action answer after h = cc
 only_does a (Does s b) action answer after h = (cc, cc)
@@ -49,13 +49,13 @@ only_does a (Does s b) action answer after h = (cc, cc)
 -- What a step comes to.
 
 module _ (classes : List Class) (thread : ℕ) where
-  ends_by : (n : Next) (s : Option Store) → outcome_of classes thread n s ≡ Ends → n ≡ Ended
+  ends_by : (n : Next) (s : Option Store) → consequence_of classes thread n s ≡ Ends → n ≡ Ended
   ends_by Ended s h = refl
   ends_by Trapped s h = cc
   ends_by (Goes a sort) None h = cc
   ends_by (Goes a sort) (Some x) h = absurd (no_end a (effect classes x thread a) h)
 
-  traps_by : (n : Next) (s : Option Store) → outcome_of classes thread n s ≡ Traps → n ≡ Trapped
+  traps_by : (n : Next) (s : Option Store) → consequence_of classes thread n s ≡ Traps → n ≡ Trapped
   traps_by Ended s h = cc
   traps_by Trapped s h = refl
   traps_by (Goes a sort) None h = cc
@@ -69,7 +69,7 @@ module _ (classes : List Class) (thread : ℕ) where
     asks : n ≡ Goes action sort
     waits : effect classes from thread action ≡ Waits
 
-  held_by : (n : Next) (s : Option Store) → outcome_of classes thread n s ≡ Holds → Held n s
+  held_by : (n : Next) (s : Option Store) → consequence_of classes thread n s ≡ Holds → Held n s
   held_by Ended s h = cc
   held_by Trapped s h = cc
   held_by (Goes a sort) None h = cc
@@ -92,7 +92,7 @@ module _ (classes : List Class) (thread : ℕ) where
     does : effect classes from thread step.action ≡ Does to step.answer
 
   done_by : (n : Next) (s o : Option Store) (step : Step) →
-      outcome_of classes thread n s ≡ step_outcome step o →
+      consequence_of classes thread n s ≡ step_consequence step o →
       Done n s o step
   done_by Ended s None step h = cc
   done_by Ended s (Some to) step h = cc
@@ -154,33 +154,33 @@ pub is_known : (t : Table) (thread store work : ℕ) (m : Move) →
 is_known t thread store work moves.Ended at within h = record {
   store_there = at;
   work_there = within;
-  comes_to = ap (λ n. outcome_of t.file.classes thread n (slice_get t.stores store)) h;
+  comes_to = ap (λ n. consequence_of t.file.classes thread n (slice_get t.stores store)) h;
   rest_there = refl;
   continues = λ later. refl;
 }
 is_known t thread store work moves.Trapped at within h = record {
   store_there = at;
   work_there = within;
-  comes_to = ap (λ n. outcome_of t.file.classes thread n (slice_get t.stores store)) h;
+  comes_to = ap (λ n. consequence_of t.file.classes thread n (slice_get t.stores store)) h;
   rest_there = refl;
   continues = λ later. refl;
 }
 is_known t thread store work moves.Waits at within h = record {
   store_there = at;
   work_there = within;
-  comes_to = ap (λ n. outcome_of t.file.classes thread n (slice_get t.stores store)) h.asks
-      ∙ ap (outcome_of t.file.classes thread (Goes h.action h.sort)) h.from_is
-      ∙ ap (effect_outcome h.action) h.waits;
+  comes_to = ap (λ n. consequence_of t.file.classes thread n (slice_get t.stores store)) h.asks
+      ∙ ap (consequence_of t.file.classes thread (Goes h.action h.sort)) h.from_is
+      ∙ ap (effect_consequence h.action) h.waits;
   rest_there = refl;
   continues = λ later. refl;
 }
 is_known t thread store work (moves.Acts step) at within h = record {
   store_there = at;
   work_there = within;
-  comes_to = ap (λ n. outcome_of t.file.classes thread n (slice_get t.stores store)) h.asks
-      ∙ ap (outcome_of t.file.classes thread (Goes step.action h.sort)) h.from_is
-      ∙ ap (effect_outcome step.action) h.does
-      ∙ sym (ap (step_outcome step) h.to_is);
+  comes_to = ap (λ n. consequence_of t.file.classes thread n (slice_get t.stores store)) h.asks
+      ∙ ap (consequence_of t.file.classes thread (Goes step.action h.sort)) h.from_is
+      ∙ ap (effect_consequence step.action) h.does
+      ∙ sym (ap (step_consequence step) h.to_is);
   rest_there = ap is_there h.rest_is;
   continues = h.continues;
 }

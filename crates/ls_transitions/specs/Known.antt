@@ -16,36 +16,36 @@ use Rattle.ls_transitions.specs.declared.rows.Row.{Row}
 use Rattle.ls_transitions.specs.Tables.{Table, goes_on}
 
 -- what a step comes to
-pub data Outcome : Type 0 where
-  Ends : Outcome
-  Traps : Outcome
-  Holds : Outcome
-  Performs : (action : Action Value) (answer : Answer Value) (after : Store) → Outcome
+pub data Consequence : Type 0 where
+  Ends : Consequence
+  Traps : Consequence
+  Holds : Consequence
+  Performs : (action : Action Value) (answer : Answer Value) (after : Store) → Consequence
   -- there is no store before it, or none after it
-  NoneBefore : Outcome
-  NoneAfter : Outcome
+  NoneBefore : Consequence
+  NoneAfter : Consequence
 
-abbrev pub effect_outcome : Action Value → Effect → Outcome
-effect_outcome action Waits = Holds
-effect_outcome action (Does after answer) = Performs action answer after
+abbrev pub effect_consequence : Action Value → Effect → Consequence
+effect_consequence action Waits = Holds
+effect_consequence action (Does after answer) = Performs action answer after
 
 -- what the step comes to that a thread is to do, at a store
-abbrev pub outcome_of : List Class → ℕ → Next → Option Store → Outcome
-outcome_of classes thread Ended s = Ends
-outcome_of classes thread Trapped s = Traps
-outcome_of classes thread (Goes action sort) None = NoneBefore
-outcome_of classes thread (Goes action sort) (Some s) = effect_outcome action (effect classes s thread action)
+abbrev pub consequence_of : List Class → ℕ → Next → Option Store → Consequence
+consequence_of classes thread Ended s = Ends
+consequence_of classes thread Trapped s = Traps
+consequence_of classes thread (Goes action sort) None = NoneBefore
+consequence_of classes thread (Goes action sort) (Some s) = effect_consequence action (effect classes s thread action)
 
-abbrev pub step_outcome : Step → Option Store → Outcome
-step_outcome step None = NoneAfter
-step_outcome step (Some after) = Performs step.action step.answer after
+abbrev pub step_consequence : Step → Option Store → Consequence
+step_consequence step None = NoneAfter
+step_consequence step (Some after) = Performs step.action step.answer after
 
 -- what a move says that it comes to
-abbrev pub move_outcome : List Store → Move → Outcome
+abbrev pub move_outcome : List Store → Move → Consequence
 move_outcome stores moves.Ended = Ends
 move_outcome stores moves.Trapped = Traps
 move_outcome stores moves.Waits = Holds
-move_outcome stores (moves.Acts step) = step_outcome step (slice_get stores step.store)
+move_outcome stores (moves.Acts step) = step_consequence step (slice_get stores step.store)
 
 -- how the thread goes on after a move that acts: by the work that the move names, and by the work before it
 abbrev pub after_move : Table → Move → Answers → Next
@@ -74,7 +74,7 @@ names_work t (moves.Acts step) = is_there (slice_get t.works step.work)
 pub record IsKnown (t : Table) (thread store work : ℕ) (m : Move) : Type 0 where
   pub store_there : store < length t.stores
   pub work_there : work < length t.works
-  pub comes_to : outcome_of t.file.classes thread (goes_on t work []) (slice_get t.stores store) ≡
+  pub comes_to : consequence_of t.file.classes thread (goes_on t work []) (slice_get t.stores store) ≡
       move_outcome t.stores m
   pub rest_there : names_work t m ≡ true
   pub continues : (later : Answers) → after_move t m later ≡ after_answer t work m later

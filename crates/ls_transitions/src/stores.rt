@@ -4,11 +4,12 @@ ghost use Rattle.std.specs.Prelude.{◌≡◌, IfOk, IsTrue, map};
 ghost use Rattle.ls_source_store.specs.SeenThing.{items_of, hold_of, thing_of};
 ghost use Rattle.ls_source_store.specs.SeenStore.{store_of};
 
+use ls_events::same::is_same_value;
 use ls_events::value::Value;
 use ls_source_store::store::Store;
 use ls_source_store::thing::{Hold, Thing};
 use ls_works::copies::copy_values;
-use ls_works::values::{are_same_values, is_same_value};
+use ls_works::values::are_same_values;
 use std::alloc::{AllocError, Global};
 use std::collections::BTreeMap;
 

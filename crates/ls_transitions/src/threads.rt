@@ -6,12 +6,11 @@ ghost use Rattle.ls_source_pending.specs.SeenPending.{state_of};
 ghost use Rattle.ls_source.specs.SeenThread.{bottom_of, phase_of, thread_of};
 
 use ls_checked::program::ProgramCall;
+use ls_events::same::is_same_value;
 use ls_source::thread::{Bottom, Phase, Thread};
 use ls_source_pending::pending::Pending;
 use ls_works::copies::copy_work;
-use ls_works::values::{
-    are_same_values, is_same_answered, is_same_kind, is_same_result, is_same_value,
-};
+use ls_works::values::{are_same_values, is_same_answered, is_same_kind, is_same_result};
 use ls_works::work::is_same_work;
 use std::alloc::{AllocError, Global};
 

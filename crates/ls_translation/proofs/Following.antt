@@ -6,6 +6,7 @@ use Rattle.std.specs.Prelude.{if◌then◌else◌}
 use Rattle.std.proofs.lemmas.List.{append-nil, drop_all, drop_more}
 use Rattle.ls_checked.specs.CheckedTree.{File}
 use Rattle.ls_checked.specs.CheckedProgram.{Program}
+use Rattle.ls_meaning.specs.Still.{has_acted}
 use Rattle.ls_meaning.specs.Runs.{State, start, stepped, step}
 use Rattle.ls_meaning.specs.declared.step.Did.{Did}
 use Rattle.ls_meaning.specs.declared.step.Did.TheVariants as did
@@ -17,7 +18,7 @@ use Rattle.ls_translation.specs.declared.machine_run.MachineRun.{MachineRun}
 use Rattle.ls_translation.specs.Faults.{CutsShort}
 use Rattle.ls_translation.specs.declared.fault.TranslationFault.TheVariants.{Memory, BadCells, DoesNotFit}
 use Rattle.ls_translation.specs.declared.fault.TranslationFault.TheVariants.{ResultTooLong}
-use Rattle.ls_translation.specs.MachineRuns.{begun as no_steps, gone, has_acted, steps_after, steps_before}
+use Rattle.ls_translation.specs.MachineRuns.{begun as no_steps, gone, steps_after, steps_before}
 use Rattle.ls_translation.specs.MachineRuns.{steps_of_acting, steps_of_one, steps_of_rest}
 use Rattle.ls_translation.proofs.MachineRuns.{cuts_whole, gone_gone, gone_none}
 use Rattle.ls_translation.proofs.SourceSteps.{after_step_is}

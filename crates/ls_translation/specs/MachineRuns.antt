@@ -1,8 +1,8 @@
 -- Runs of the machine that follow the source.
 use Rattle.std.specs.Prelude.{ℕ, Bool, true, false, List, [], ◌∷◌, ◌++◌, if◌then◌else◌}
+use Rattle.ls_meaning.specs.Still.{has_acted}
 use Rattle.ls_meaning.specs.Runs.{source_step}
 use Rattle.ls_meaning.specs.declared.step.Did.{Did as SourceDid}
-use Rattle.ls_meaning.specs.declared.step.Did.TheVariants as source
 use Rattle.ls_source.specs.Progress.{Progress}
 use Rattle.ls_code.specs.Machine.{Machine, machine_step, machine_run}
 use Rattle.ls_code.specs.declared.step.Did.{Did}
@@ -28,12 +28,6 @@ is_loud (did.Acted action answer) = true
 is_loud did.Waits = true
 is_loud did.Idle = true
 is_loud did.Stopped = true
-
--- whether a step of the source changes the state
-abbrev pub has_acted : SourceDid → Bool
-has_acted (source.Acted action answer) = true
-has_acted source.Waits = false
-has_acted source.Idle = false
 
 -- the setup's steps to its end, if its source has ended
 abbrev pub steps_before : Progress → ℕ → Machine → List ℕ

@@ -11,7 +11,7 @@ ghost use Rattle.ls_machine.specs.Room.{AreBadCells};
 ghost use Rattle.ls_meaning.specs.Runs.{source_history, start};
 ghost use Rattle.ls_source.specs.Shown.{progress_of};
 ghost use Rattle.ls_translation.specs.Faults.{CutsShort};
-ghost use Rattle.ls_translation.specs.MachineRuns.{gone, has_acted, steps_after, steps_before, steps_of_acting};
+ghost use Rattle.ls_translation.specs.MachineRuns.{gone, steps_after, steps_before, steps_of_acting};
 ghost use Rattle.ls_translation.specs.Room.{IsFirstUnfit};
 ghost use Rattle.ls_translation.specs.Texts.{file_of, program_of};
 ghost use Rattle.ls_translation.specs.declared.fault.TranslationFault.TheVariants.{BadCells, DoesNotFit, Memory};
@@ -23,19 +23,9 @@ use crate::room::free_after;
 use ls_events::schedule::Schedule;
 use ls_image::image::Image;
 use ls_machine::Machine;
-use ls_meaning::step::Did;
+use ls_meaning::step::{Did, has_acted};
 use ls_source::run::SourceRun;
 use std::alloc::Global;
-
-/// Whether a step of the source changes the state.
-fn has_acted(did: Did) -> bool
-    ensures { result ≡ has_acted did }
-{
-    match did {
-        Did::Acted(_, _) => true,
-        Did::Waits | Did::Idle => false,
-    }
-}
 
 /// Whether the steps are more than a schedule can have. The only other refusal is that memory ran out.
 fn is_too_long(followed: Result<(), TranslationFault>) -> Result<bool, TranslationFault>

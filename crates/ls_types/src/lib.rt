@@ -1,8 +1,8 @@
-//! Checked files, the calls of a thread program of a checked file, and sources.
+//! Typing: the checked file of a class text's tree, and the thread programs of a checked file.
 #![tactic(auto)]
 
-pub mod calls;
-pub mod checked;
-pub mod fault;
-pub mod laws;
-pub mod source;
+pub use ls_types_checked::checked::{CheckFault, Checked};
+pub use ls_types_checked::fault::ProgramFault;
+pub use ls_types_checked::source::Source;
+pub use ls_types_files::check;
+pub use ls_types_reading::program::read_program;

@@ -25,13 +25,13 @@ abbrev pub checked_class : ClassSign → checked.Class
 checked_class s = record { fields = map (λ f. f.type) s.fields; constructor = s.constructor }
 
 -- the names of the classes, what they declare, and the checked file
-pub record Outcome : Type 0 where
+pub record ElaboratedFile : Type 0 where
   pub names : List Text
   pub signs : List ClassSign
   pub file : checked.File
 
 -- the declarations of all classes come first, since a body may use those that come after it (JLS 6.3, 8.3.3)
-abbrev pub elaborated : File → Elaborated Outcome
+abbrev pub elaborated : File → Elaborated ElaboratedFile
 elaborated file =
     with_ok (class_names file.classes) (λ names.
     with_ok (class_signs names file.classes) (λ classes.

@@ -16,4 +16,4 @@ pub mod Elaboration
 pub mod Tables
 pub mod Answers
 pub mod Refused
-pub mod Outcomes
+pub mod ElaboratedFiles

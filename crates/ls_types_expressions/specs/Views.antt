@@ -6,8 +6,8 @@ use Rattle.ls_types_expressions.specs.declared.site.Site.{Site}
 use Rattle.ls_types_expressions.specs.declared.assignments.Place.{Place}
 use Rattle.ls_types_expressions.specs.declared.assignments.Place.TheVariants as places
 use Rattle.ls_types_expressions.specs.declared.assignments.Variable.{Variable}
-use Rattle.ls_types_expressions.specs.declared.simples.Counter.{Counter}
-use Rattle.ls_types_expressions.specs.declared.simples.Counter.TheVariants as counters
+use Rattle.ls_types_expressions.specs.declared.simple_values.Counter.{Counter}
+use Rattle.ls_types_expressions.specs.declared.simple_values.Counter.TheVariants as counters
 use Rattle.ls_types_elaboration.specs.Elaborated.{Elaborated}
 use Rattle.ls_types_elaboration.specs.Known as known
 use Rattle.ls_types_elaboration.specs.TypedStatements as typing

@@ -6,5 +6,5 @@ mod counting;
 pub mod expressions;
 pub mod operators;
 pub mod places;
-pub mod simples;
+pub mod simple_values;
 pub mod site;

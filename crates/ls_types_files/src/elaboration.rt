@@ -4,7 +4,7 @@ ghost use Rattle.std.specs.Prelude.{◌≡◌, IfOk, length, map};
 ghost use Rattle.ls_checked.specs.Plain.{plain_method};
 ghost use Rattle.ls_types_elaboration.specs.Elaboration.{file_methods, checked_class, elaborated};
 ghost use Rattle.ls_types_elaboration.specs.PlacedStatements.{placed_class, placed_file};
-ghost use Rattle.ls_types_elaboration.specs.Outcomes.{outcome_of};
+ghost use Rattle.ls_types_elaboration.specs.ElaboratedFiles.{elaborated_file};
 ghost use Rattle.ls_types_files.specs.FileViews.{bodies_of};
 ghost use Rattle.ls_types_elaboration.specs.Answers.{Gives};
 ghost use Rattle.ls_types_tables.specs.ByName.{keys_of, class_entry_of};
@@ -16,7 +16,7 @@ use indexmap::IndexSet;
 use ls_checked::tree::{File, Method};
 use ls_tree::tree;
 use ls_tree::tree::ClassFile;
-use ls_types_elaboration::outcome::Outcome;
+use ls_types_elaboration::elaborated_file::ElaboratedFile;
 use ls_types_elaboration::rule::CheckFault;
 use ls_types_elaboration::together::also;
 use ls_types_tables::known::Known;
@@ -51,9 +51,9 @@ fn outcome(
     names: IndexSet<String>,
     tables: Vec<ClassTables>,
     methods: Vec<Method>,
-) -> Result<Outcome, AllocError>
+) -> Result<ElaboratedFile, AllocError>
     ensures { IfOk result
-        (λ o. outcome_of o ≡ record {
+        (λ o. elaborated_file o ≡ record {
           names = keys_of names;
           signs = map class_entry_of tables.items;
           file =
@@ -70,7 +70,7 @@ fn outcome(
     let ((names, methods), signs) = also((names, methods), signs)?;
     let classes = checked_classes(alloc, &signs);
     let ((names, signs, methods), classes) = also((names, signs, methods), classes)?;
-    Ok(Outcome {
+    Ok(ElaboratedFile {
         names,
         signs,
         file: File { classes, methods },
@@ -78,8 +78,8 @@ fn outcome(
 }
 
 /// The elaboration of a file, or the first broken rule and its place. Else the only refusal is that memory ran out.
-pub fn elaborate(alloc: Global, parsed: &ClassFile) -> Result<Outcome, CheckFault>
-    ensures { Gives outcome_of result (elaborated (placed_file parsed.now)) }
+pub fn elaborate(alloc: Global, parsed: &ClassFile) -> Result<ElaboratedFile, CheckFault>
+    ensures { Gives elaborated_file result (elaborated (placed_file parsed.now)) }
 {
     let names = class_names(alloc, &parsed.classes)?;
     let classes = class_tables(alloc, &names, &parsed.classes);

@@ -21,7 +21,7 @@ use Rattle.ls_types_elaboration.specs.TypedMethods.{finished, with_unnamed_slot,
 use Rattle.ls_types_elaboration.specs.TypedMethods.{written_constructor, one_method, has_constructor}
 use Rattle.ls_types_elaboration.specs.TypedMethods.{default_constructor, class_methods}
 use Rattle.ls_types_elaboration.specs.Signs.{class_names, class_signs}
-use Rattle.ls_types_elaboration.specs.Elaboration.{Bodies, one_body, file_methods, Outcome, elaborated}
+use Rattle.ls_types_elaboration.specs.Elaboration.{Bodies, one_body, file_methods, ElaboratedFile, elaborated}
 use Rattle.ls_types_judgement.specs.Leaving.{JumpsInLoops}
 use Rattle.ls_types_judgement.specs.Jumps.{HasItsLoops, HasItsEnds}
 use Rattle.ls_types_laws.proofs.Results.{Gives, bind, after, unless, each_keeps, gives_of}
@@ -134,7 +134,7 @@ file_ended names signs cs =
     c.members) _
     (class_ended (record { names = names; classes = signs; own = s.own }) s.methods c.members h) (λ ms k. k))
 
-abbrev WholeEnded : Outcome → Type 0
+abbrev WholeEnded : ElaboratedFile → Type 0
 WholeEnded o = Each Ended o.file.methods
 
 elaborated_ended : (f : File) → Gives WholeEnded (elaborated f)
@@ -144,11 +144,11 @@ elaborated_ended f =
     bind AllEnded WholeEnded (file_methods names classes.signs f.classes) _ (file_ended names classes.signs f.classes)
     (λ bodies h. h)))
 
-all_ended : (f : File) (o : Outcome) → elaborated f ≡ Ok o → Each Ended o.file.methods
+all_ended : (f : File) (o : ElaboratedFile) → elaborated f ≡ Ok o → Each Ended o.file.methods
 all_ended f o e = gives_of WholeEnded (elaborated f) o e (elaborated_ended f)
 
 -- in an elaborated file each jump has its loop
-pub elaborated_loops : (f : File) (o : Outcome) → elaborated f ≡ Ok o → HasItsLoops o.file
+pub elaborated_loops : (f : File) (o : ElaboratedFile) → elaborated f ≡ Ok o → HasItsLoops o.file
 elaborated_loops f o e n m at = (each_at Ended o.file.methods n m (all_ended f o e) at).0
 
 not_both : (a b : Bool) → a ≡ true → (a && b) ≡ false → b ≡ false
@@ -156,6 +156,6 @@ not_both true b h k = k
 not_both false b h k = cc h
 
 -- in an elaborated file each method that answers a value ends with one
-pub elaborated_ends : (f : File) (o : Outcome) → elaborated f ≡ Ok o → HasItsEnds o.file
+pub elaborated_ends : (f : File) (o : ElaboratedFile) → elaborated f ≡ Ok o → HasItsEnds o.file
 elaborated_ends f o e n m at has = not_both (is_some m.result) (can_complete m.body) has
     (each_at Ended o.file.methods n m (all_ended f o e) at).1

@@ -10,7 +10,7 @@ use Rattle.ls_meaning.specs.Methods.{leave}
 use Rattle.ls_types_judgement.specs.Typing.{IsTypedStatement, AreTypedStatements}
 use Rattle.ls_types_elaboration.specs.Trees.{File}
 use Rattle.ls_types_judgement.specs.Completion.{can_complete}
-use Rattle.ls_types_elaboration.specs.Elaboration.{Outcome, elaborated}
+use Rattle.ls_types_elaboration.specs.Elaboration.{ElaboratedFile, elaborated}
 use Rattle.ls_types_laws.proofs.Ends.{elaborated_loops, elaborated_ends}
 use Rattle.ls_types_laws.proofs.Whole.{typed_when}
 use Rattle.ls_types_judgement.specs.Ends.{Ends, Allows, IsIn}
@@ -99,7 +99,7 @@ fits r s h (Returned (Some v)) a i t = t
 fits r s h (Threw kind) a i t = tt
 
 -- the law: the bodies of an elaborated file fit their results
-pub bodies_fit : (f : File) (o : Outcome) → elaborated f ≡ Ok o → BodiesFit o.file
+pub bodies_fit : (f : File) (o : ElaboratedFile) → elaborated f ≡ Ok o → BodiesFit o.file
 bodies_fit f o e n m at classes calls ls answers =
     let x : Executed = execute classes calls m.body ls answers in
     weaker (λ c. Allows m.body c × (IsIn 0 c × Returns m.body c)) (FitsMethod m.result) x
@@ -127,7 +127,7 @@ left_so r t h other (Completes (Returned (Some v)) ls rest) f = refl
 left_so r t h other (Completes (Threw kind) ls rest) f = refl
 
 -- the law: the value for bodies that leave none is never used
-pub none_left : (f : File) (o : Outcome) → elaborated f ≡ Ok o → NoneLeft o.file
+pub none_left : (f : File) (o : ElaboratedFile) → elaborated f ≡ Ok o → NoneLeft o.file
 none_left f o e n m t at has other classes calls ls answers =
     left_so m.result t has other (execute classes calls m.body ls answers)
     (bodies_fit f o e n m at classes calls ls answers)

@@ -5,7 +5,7 @@ use Rattle.ls_checked.specs.CheckedTree.{Class}
 use Rattle.ls_types_elaboration.specs.Trees.{Text, ClassTree, File}
 use Rattle.ls_types_elaboration.specs.Known.{ClassSign}
 use Rattle.ls_types_elaboration.specs.Signs.{Classes, class_names, class_signs}
-use Rattle.ls_types_elaboration.specs.Elaboration.{Bodies, checked_class, file_methods, Outcome, elaborated}
+use Rattle.ls_types_elaboration.specs.Elaboration.{Bodies, checked_class, file_methods, ElaboratedFile, elaborated}
 use Rattle.ls_types_judgement.specs.Limits.{IsRanged}
 use Rattle.ls_types_laws.proofs.Results.{Gives, bind, gives_of, both, total}
 use Rattle.ls_types_laws.proofs.Lists.{Each, each_at}
@@ -21,7 +21,7 @@ few_fields (s ∷ ss) h = (few (length-map s.fields (λ f. f.type)) h.0, few_fie
     few : {m n : ℕ} → m ≡ n → n ≤ 64 → m ≤ 64
     few e l = omega (arith, e, l)
 
-abbrev IsRangedOutcome : Outcome → Type 0
+abbrev IsRangedOutcome : ElaboratedFile → Type 0
 IsRangedOutcome o = IsRanged o.file
 
 outcome_ranged : (names : List Text) (classes : Classes) (trees : List ClassTree) (b : Bodies) →
@@ -57,5 +57,5 @@ elaborated_ranged f =
     outcome_ranged names classes f.classes b h.0 h.1 s.0 s.1.0 s.1.1 k)))
 
 -- an elaborated file keeps the limits
-pub ranged_when : (f : File) (o : Outcome) → elaborated f ≡ Ok o → IsRanged o.file
+pub ranged_when : (f : File) (o : ElaboratedFile) → elaborated f ≡ Ok o → IsRanged o.file
 ranged_when f o e = gives_of IsRangedOutcome (elaborated f) o e (elaborated_ranged f)

@@ -10,7 +10,7 @@ use Rattle.ls_meaning.specs.Expressions.{constructor_of}
 use Rattle.ls_types_judgement.specs.Programs.{AreArguments, IsPlainResult, IsTypedCall}
 use Rattle.ls_types_elaboration.specs.Trees.{Text}
 use Rattle.ls_types_elaboration.specs.Known.{MethodSign, number_of, method_named, methods_in}
-use Rattle.ls_types_elaboration.specs.Elaboration.{Outcome}
+use Rattle.ls_types_elaboration.specs.Elaboration.{ElaboratedFile}
 use Rattle.ls_types_programs.specs.ProgramCalls.{Callee, Maker, Method, Pending, maker, is_plain, callable, called_on}
 use Rattle.ls_types_programs.specs.ProgramCalls.{fits, with_argument, is_full, call_of, names_after}
 use Rattle.ls_types_laws.proofs.Lists.{Grows, grows_same, grows_by, at_grown, at_end}
@@ -71,7 +71,7 @@ abbrev pub IsPending : File → List SetupName → Pending → Type 0
 IsPending F names p = CalleeIs F names p.callee p.types × Front p.types p.values
 
 -- a making that is being read is so
-pub maker_pending : (o : Outcome) →
+pub maker_pending : (o : ElaboratedFile) →
     IsTypedOutcome o →
     (names : List SetupName) (name class_name : Text) (n : Option ℕ) →
     number_of o.names class_name ≡ n →
@@ -101,7 +101,7 @@ callable_pending F names n s name (Some m) at h = answered (is_plain m.result) r
     answered false e = tt
 
 -- a method's call that is being read is so
-pub called_on_pending : (o : Outcome) →
+pub called_on_pending : (o : ElaboratedFile) →
     IsTypedOutcome o →
     (names : List SetupName) (n : ℕ) (s : Option SetupName) (name : Text) →
     slice_get names n ≡ s →

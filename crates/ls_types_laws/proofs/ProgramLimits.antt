@@ -12,7 +12,7 @@ use Rattle.ls_events.specs.declared.value.Value.{Value}
 use Rattle.ls_events.specs.declared.value.Value.TheVariants as values
 use Rattle.ls_checked.specs.CheckedProgram.{SetupName, ProgramCall, ThreadProgram, Program}
 use Rattle.ls_types_elaboration.specs.Trees.{Text}
-use Rattle.ls_types_elaboration.specs.Elaboration.{Outcome}
+use Rattle.ls_types_elaboration.specs.Elaboration.{ElaboratedFile}
 use Rattle.ls_types_elaboration.specs.Known.{number_of}
 use Rattle.ls_types_programs.specs.ProgramCalls.{Callee, Maker, Method, Pending, setup_named, maker, called_on}
 use Rattle.ls_types_programs.specs.ProgramCalls.{with_argument, is_full, plain_number, minus_number, call_of}
@@ -108,14 +108,14 @@ name_room r name k h =
     (either (is_sign signs.Dot k) (used r (setup_named r.names name)) None (used_room r (setup_named r.names name) h)
     tt)
 
-new_room : (o : Outcome) (r : Parts) (name : Text) (class : Option Text) →
+new_room : (o : ElaboratedFile) (r : Parts) (name : Text) (class : Option Text) →
     InRoom most_threads (length r.calls) r →
     Reads Room (after_new o r name class)
 new_room o r name None h = tt
 new_room o r name (Some class) h = with_call_room r ThreadPrograms.AtArguments
     (maker o name class (number_of o.names class)) (λ q. h)
 
-dot_room : (o : Outcome) (r : Parts) (n : ℕ) (method : Option Text) →
+dot_room : (o : ElaboratedFile) (r : Parts) (n : ℕ) (method : Option Text) →
     InRoom most_threads (length r.calls) r →
     Reads Room (after_dot o r n method)
 dot_room o r n None h = tt
@@ -195,7 +195,7 @@ semicolon_room r p k h =
     (at (with_finished r p) ThreadPrograms.AtCall)
     (λ e. finished_room r p (ltb-true (length r.calls) most_calls (second_true (is_sign signs.Semicolon k) _ e)) h)
 
-step_room : (o : Outcome) (r : Parts) (stage : Stage) (k : Lexeme) →
+step_room : (o : ElaboratedFile) (r : Parts) (stage : Stage) (k : Lexeme) →
     Room (at r stage) →
     Reads Room (stepped o r stage k)
 step_room o r ThreadPrograms.AtSetup k h = room_when _ (at r ThreadPrograms.AtBlock) (λ e. h)
@@ -219,7 +219,7 @@ step_room o r (ThreadPrograms.AtSemicolon p) k h = semicolon_room r p k h
 step_room o r ThreadPrograms.AtThread k h = thread_room r k h
 step_room o r ThreadPrograms.AtThreadName k h = named_room r (name_in k) h
 
-after_room : (o : Outcome) (r : Option Reading) (ks : List Lexeme) → Reads Room r → Reads Room (after o r ks)
+after_room : (o : ElaboratedFile) (r : Option Reading) (ks : List Lexeme) → Reads Room r → Reads Room (after o r ks)
 after_room o None ks h = tt
 after_room o (Some r) [] h = h
 after_room o (Some r) (k ∷ ks) h = after_room o (stepped o r.parts r.stage k) ks (step_room o r.parts r.stage k h)
@@ -243,7 +243,7 @@ whole_reads : (r : Option Reading) → Reads Room r → Reads IsRangedProgram (w
 whole_reads None h = tt
 whole_reads (Some r) h = whole_ranged r.stage r.parts h
 
-tokens_read : (o : Outcome) (ks : Option (List Lexeme)) → Reads IsRangedProgram (program_of_tokens o ks)
+tokens_read : (o : ElaboratedFile) (ks : Option (List Lexeme)) → Reads IsRangedProgram (program_of_tokens o ks)
 tokens_read o None = tt
 tokens_read o (Some ks) = whole_reads (after o (Some beginning) ks)
     (after_room o (Some beginning) ks (record {
@@ -254,17 +254,17 @@ tokens_read o (Some ks) = whole_reads (after o (Some beginning) ks)
     }))
 
 -- a program that is read from tokens keeps the limits
-pub tokens_ranged : (o : Outcome) (ks : Option (List Lexeme)) (p : Program) →
+pub tokens_ranged : (o : ElaboratedFile) (ks : Option (List Lexeme)) (p : Program) →
     program_of_tokens o ks ≡ Some p →
     IsRangedProgram p
 tokens_ranged o ks p e = subst (Reads IsRangedProgram) e (tokens_read o ks)
 
-text_reads : (o : Outcome) (b : Bool) (text : Text) →
+text_reads : (o : ElaboratedFile) (b : Bool) (text : Text) →
     Reads IsRangedProgram (if b then program_of_tokens o (tokens_of text) else None)
 text_reads o true text = tokens_read o (tokens_of text)
 text_reads o false text = tt
 
 -- a program that is read keeps the limits
-pub program_ranged : (o : Outcome) (text : Text) (p : Program) → program_of o text ≡ Some p → IsRangedProgram p
+pub program_ranged : (o : ElaboratedFile) (text : Text) (p : Program) → program_of o text ≡ Some p → IsRangedProgram p
 program_ranged o text p e = subst (Reads IsRangedProgram) e (text_reads o
     (nat_le (length text) ThreadPrograms.most_bytes) text)

@@ -13,7 +13,7 @@ use Rattle.ls_checked.specs.CheckedProgram.{SetupName, ProgramCall, ThreadProgra
 use Rattle.ls_checked.specs.Limits.{most_calls}
 use Rattle.ls_types_judgement.specs.Programs.{IsTypedProgram}
 use Rattle.ls_types_elaboration.specs.Trees.{Text}
-use Rattle.ls_types_elaboration.specs.Elaboration.{Outcome}
+use Rattle.ls_types_elaboration.specs.Elaboration.{ElaboratedFile}
 use Rattle.ls_types_elaboration.specs.Known.{number_of}
 use Rattle.ls_types_programs.specs.ProgramCalls.{Pending, setup_named, maker, called_on, with_argument, is_full}
 use Rattle.ls_types_programs.specs.ProgramCalls.{plain_number, minus_number, call_of, names_after}
@@ -96,7 +96,7 @@ name_reads F r name k h =
     (either F (is_sign signs.Dot k) (used r (setup_named r.names name)) None
     (used_reads F r (setup_named r.names name) h) tt)
 
-new_reads : (o : Outcome) →
+new_reads : (o : ElaboratedFile) →
     IsTypedOutcome o →
     (r : Parts) (name : Text) (class : Option Text) →
     IsPart o.file r →
@@ -106,7 +106,7 @@ new_reads o t r name (Some class) h =
     with_call_reads o.file r ThreadPrograms.AtArguments (maker o name class (number_of o.names class)) h
     (maker_pending o t r.names name class (number_of o.names class) refl) (λ q p. p)
 
-dot_reads : (o : Outcome) →
+dot_reads : (o : ElaboratedFile) →
     IsTypedOutcome o →
     (r : Parts) (n : ℕ) (method : Option Text) →
     IsPart o.file r →
@@ -184,7 +184,7 @@ named_reads F r (Some name) h =
     when_reads F (not (bytes_eq name (codes "all")) && not (ThreadPrograms.thread_named r.threads name))
     (at (named r name) ThreadPrograms.AtBlock) (λ e. (record { calls = tt; threads = h.threads }, tt))
 
-step_reads : (o : Outcome) →
+step_reads : (o : ElaboratedFile) →
     IsTypedOutcome o →
     (r : Parts) (stage : Stage) (k : Lexeme) →
     IsPart o.file r →
@@ -214,7 +214,7 @@ step_reads o t r (ThreadPrograms.AtSemicolon p) k h s =
 step_reads o t r ThreadPrograms.AtThread k h s = when_reads o.file _ (at r ThreadPrograms.AtThreadName) (λ e. (h, tt))
 step_reads o t r ThreadPrograms.AtThreadName k h s = named_reads o.file r (name_in k) h
 
-after_reads : (o : Outcome) →
+after_reads : (o : ElaboratedFile) →
     IsTypedOutcome o →
     (r : Option Reading) (ks : List Lexeme) →
     Reads (IsReading o.file) r →
@@ -241,7 +241,7 @@ whole_reads F (Some r) h = at_end (ended r.stage)
     at_end true = program_typed F r.parts h.0
     at_end false = tt
 
-tokens_read : (o : Outcome) →
+tokens_read : (o : ElaboratedFile) →
     IsTypedOutcome o →
     (ks : Option (List Lexeme)) →
     Reads (IsTypedProgram o.file) (program_of_tokens o ks)
@@ -249,7 +249,7 @@ tokens_read o t None = tt
 tokens_read o t (Some ks) = whole_reads o.file (after o (Some beginning) ks)
     (after_reads o t (Some beginning) ks (record { calls = tt; threads = tt }, tt))
 
-text_reads : (o : Outcome) →
+text_reads : (o : ElaboratedFile) →
     IsTypedOutcome o →
     (b : Bool) (text : Text) →
     Reads (IsTypedProgram o.file) (if b then program_of_tokens o (tokens_of text) else None)
@@ -257,7 +257,7 @@ text_reads o t true text = tokens_read o t (tokens_of text)
 text_reads o t false text = tt
 
 -- a program that is read is typed
-pub program_reads : (o : Outcome) →
+pub program_reads : (o : ElaboratedFile) →
     IsTypedOutcome o →
     (text : Text) (p : Program) →
     program_of o text ≡ Some p →

@@ -3,7 +3,7 @@ use Rattle.std.proofs.Common.{◌≡◌, Ok, Some}
 use Rattle.ls_checked.specs.CheckedProgram.{Program}
 use Rattle.ls_types_judgement.specs.WellTyped.{IsWellTyped, IsWellTypedProgram}
 use Rattle.ls_types_elaboration.specs.Trees.{Text, File}
-use Rattle.ls_types_elaboration.specs.Elaboration.{Outcome, elaborated}
+use Rattle.ls_types_elaboration.specs.Elaboration.{ElaboratedFile, elaborated}
 use Rattle.ls_types_programs.specs.ThreadPrograms.{program_of}
 use Rattle.ls_types_laws.proofs.Whole.{IsTypedOutcome, typed_when}
 use Rattle.ls_types_laws.proofs.Constants.{of_file, of_program}
@@ -13,7 +13,7 @@ use Rattle.ls_types_laws.proofs.ProgramSteps.{program_reads}
 use Rattle.ls_types_laws.proofs.ProgramLimits.{program_ranged}
 
 -- the law: an elaborated file is well typed
-pub well_typed : (f : File) (o : Outcome) → elaborated f ≡ Ok o → IsWellTyped o.file
+pub well_typed : (f : File) (o : ElaboratedFile) → elaborated f ≡ Ok o → IsWellTyped o.file
 well_typed f o e =
     let t : IsTypedOutcome o = typed_when f o e in
     record {
@@ -26,7 +26,7 @@ well_typed f o e =
     }
 
 -- the law: a program that is read is well typed
-pub well_typed_program : (f : File) (o : Outcome) (text : Text) (p : Program) →
+pub well_typed_program : (f : File) (o : ElaboratedFile) (text : Text) (p : Program) →
     elaborated f ≡ Ok o →
     program_of o text ≡ Some p →
     IsWellTypedProgram o.file p

@@ -12,7 +12,7 @@ use Rattle.ls_types_elaboration.specs.Trees as parsed
 use Rattle.ls_types_elaboration.specs.Trees.{Text, ClassTree}
 use Rattle.ls_types_elaboration.specs.TypedMethods.{has_constructor}
 use Rattle.ls_types_elaboration.specs.Signs.{Classes, class_names, class_signs}
-use Rattle.ls_types_elaboration.specs.Elaboration.{Bodies, checked_class, file_methods, Outcome, elaborated}
+use Rattle.ls_types_elaboration.specs.Elaboration.{Bodies, checked_class, file_methods, ElaboratedFile, elaborated}
 use Rattle.ls_types_laws.proofs.Results.{Gives, bind, later, gives_of}
 use Rattle.ls_types_laws.proofs.Lists.{Each, each_at}
 use Rattle.ls_types_laws.proofs.Agreement.{Agrees}
@@ -61,7 +61,7 @@ file_classes names own n (c ∷ cs) e =
     (file_classes names (suc own) n cs next)
 
 -- the whole file
-pub record IsTypedOutcome (o : Outcome) : Type 0 where
+pub record IsTypedOutcome (o : ElaboratedFile) : Type 0 where
   pub typed : IsTypedFile o.file
   pub classes : HasItsClasses o.file
   pub no_pairs : HasNoPairs o.file
@@ -117,5 +117,5 @@ elaborated_typed f =
     outcome_typed names classes f.classes b long s built)))
 
 -- an elaborated file is typed, and agrees with what its text declares
-pub typed_when : (f : parsed.File) (o : Outcome) → elaborated f ≡ Ok o → IsTypedOutcome o
+pub typed_when : (f : parsed.File) (o : ElaboratedFile) → elaborated f ≡ Ok o → IsTypedOutcome o
 typed_when f o e = gives_of IsTypedOutcome (elaborated f) o e (elaborated_typed f)

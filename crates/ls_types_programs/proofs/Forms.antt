@@ -15,7 +15,7 @@ use Rattle.ls_checked.specs.CheckedProgram.{SetupName, ProgramCall, ThreadProgra
 use Rattle.ls_types_elaboration.specs.Trees.{Text}
 use Rattle.ls_types_elaboration.specs.TypedExpressions.{digits_value}
 use Rattle.ls_types_elaboration.specs.Known.{MethodSign, number_of}
-use Rattle.ls_types_elaboration.specs.Elaboration.{Outcome}
+use Rattle.ls_types_elaboration.specs.Elaboration.{ElaboratedFile}
 use Rattle.ls_types_programs.specs.ProgramCalls.{Pending, setup_named, maker, method_on, is_plain, callable, fits}
 use Rattle.ls_types_programs.specs.ProgramCalls.{with_argument, is_full, plain_number, minus_number, Method}
 use Rattle.ls_types_programs.specs.ThreadPrograms
@@ -83,12 +83,12 @@ not_first r t = by (nat_lt (length (r.threads ++ t ∷ [])) 1) refl
     by true e = absurd (omega (arith, length-append r.threads (t ∷ []), ltb-true (length (r.threads ++ t ∷ [])) 1 e))
 
 -- after a refusal nothing is read
-pub after_none : (o : Outcome) (ks : List Lexeme) (q : Reading) → after o None ks ≡ Some q → ⊥
+pub after_none : (o : ElaboratedFile) (ks : List Lexeme) (q : Reading) → after o None ks ≡ Some q → ⊥
 after_none o ks q e = some_none q e
 
 -- ---- what the grammar lets come is taken, or refused for another reason than its form
 
-module _ (o : Outcome) (names : List SetupName) where
+module _ (o : ElaboratedFile) (names : List SetupName) where
   abbrev Taken : Why → List Lexeme → Option Reading → Type 0
   Taken w ks None = w ≡ Form → ⊥
   Taken w ks (Some q) = Follows names (gives q.parts) q.stage ks
@@ -275,7 +275,7 @@ module _ (o : Outcome) (names : List SetupName) where
 begins : (p : Program) (ks : List Lexeme) → Spells p ks → Follows p.names true ThreadPrograms.AtSetup ks
 begins p ks (spelled.Whole calls threads) = (refl, By (By (Left calls threads)))
 
-spelled_on : (o : Outcome) (ks more : List Lexeme) (q : Reading) (p : Program) →
+spelled_on : (o : ElaboratedFile) (ks more : List Lexeme) (q : Reading) (p : Program) →
     after o (Some beginning) ks ≡ Some q →
     Spells p (ks ++ more) →
     Follows p.names (gives q.parts) q.stage more
@@ -283,7 +283,7 @@ spelled_on o ks more q p e h = follows_on o p.names ks more beginning.parts Thre
     (begins p (ks ++ more) h)
 
 -- a token that is refused for its form is one with which no program is spelled
-pub form_stands : (o : Outcome) (ks : List Lexeme) (k : Lexeme) (q : Reading) →
+pub form_stands : (o : ElaboratedFile) (ks : List Lexeme) (k : Lexeme) (q : Reading) →
     after o (Some beginning) ks ≡ Some q →
     stepped o q.parts q.stage k ≡ None →
     why o q.parts q.stage k ≡ Form →
@@ -295,7 +295,7 @@ form_stands o ks k q e none form h =
     (step_taken o h.0.names q.parts q.stage k h.1 (spelled_on o ks (k ∷ h.1) q h.0 e s)) form
 
 -- and if the tokens end before a block's end, they spell no program
-pub end_stands : (o : Outcome) (ks : List Lexeme) (q : Reading) →
+pub end_stands : (o : ElaboratedFile) (ks : List Lexeme) (q : Reading) →
     after o (Some beginning) ks ≡ Some q →
     ended q.stage ≡ false →
     (p : Program) →

@@ -18,7 +18,7 @@ use Rattle.ls_checked.specs.CheckedProgram.{SetupName, ProgramCall, Making, Call
 use Rattle.ls_types_elaboration.specs.Trees.{Text}
 use Rattle.ls_types_elaboration.specs.TypedExpressions.{digits_value}
 use Rattle.ls_types_elaboration.specs.Known.{MethodSign, number_of, method_named, methods_in, parameters_in}
-use Rattle.ls_types_elaboration.specs.Elaboration.{Outcome}
+use Rattle.ls_types_elaboration.specs.Elaboration.{ElaboratedFile}
 use Rattle.ls_types_programs.specs.ProgramCalls.{Callee, Maker, Method, Pending, setup_named, maker, is_plain, callable}
 use Rattle.ls_types_programs.specs.ProgramCalls.{called_on, fits, with_argument, is_full, minus_number, negated}
 use Rattle.ls_types_programs.specs.ThreadPrograms
@@ -30,7 +30,8 @@ use Rattle.ls_types_programs.specs.Programs as programs
 use Rattle.ls_types_programs.specs.Programs.{type_of, AreFor, IsPlain, IsNewName, IsNewThread, AreCallsOf, AreThreadsOf}
 use Rattle.ls_types_programs.proofs.Pieces.{some_none, same_some, bytes_same, bytes_other, digits_most, negated_is}
 use Rattle.ls_types_programs.proofs.Pieces.{append_nil, Grows, at_grown, at_end}
-use Rattle.ls_types_programs.proofs.Rest.{with_values, calls_grow, method_pending, maker_pending}
+use Rattle.ls_types_programs.proofs.Rest.{with_values, method_pending, maker_pending}
+use Rattle.ls_types_programs.proofs.RestInCalls.{calls_grow}
 
 room : (calls : List ProgramCall) (c : ProgramCall) (cs : List ProgramCall) →
     length (calls ++ c ∷ cs) ≤ 256 →
@@ -86,7 +87,7 @@ for_length (t ∷ ts) (v ∷ vs) h = ap suc
 full : (ts : List ValueType) (vs : List Value) → AreFor ts vs → (length vs == length ts) ≡ true
 full ts vs h = eq-eqb (length vs) (length ts) (for_length ts vs h)
 
-module _ (o : Outcome) where
+module _ (o : ElaboratedFile) where
   -- the reading from a stage on
   abbrev pub From : Parts → Stage → List Lexeme → Option Reading
   From r stage ks = after o (Some (at r stage)) ks

@@ -5,7 +5,7 @@ use Rattle.ls_events.specs.declared.value.ValueType.TheVariants as types
 use Rattle.ls_checked.specs.CheckedProgram.{Making, Calling, Program}
 use Rattle.ls_lexer.specs.Tokens.{lexed}
 use Rattle.ls_types_elaboration.specs.Known.{MethodSign}
-use Rattle.ls_types_elaboration.specs.Elaboration.{Outcome}
+use Rattle.ls_types_elaboration.specs.Elaboration.{ElaboratedFile}
 use Rattle.ls_types_programs.specs.ThreadPrograms.{program_of}
 use Rattle.ls_types_programs.specs.Spelled as spelled
 use Rattle.ls_types_programs.specs.Programs as programs
@@ -13,7 +13,7 @@ use Rattle.ls_types_programs.specs.Programs as programs
 m : MethodSign
 m = record { name = codes "m"; number = 1; parameters = types.Boolean ∷ types.Int ∷ []; result = Some types.Int }
 
-o : Outcome
+o : ElaboratedFile
 o = record {
   names = codes "C" ∷ [];
   signs = record {

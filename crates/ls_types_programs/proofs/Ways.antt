@@ -1,259 +1,38 @@
 -- Each reading goes on to a program, of whichever file.
-use Rattle.std.proofs.Common.{◌≡◌, ℕ, zero, suc, ◌<◌, ◌≤◌, refl, sym, subst, ap, Bool, true, false, not, ◌&&◌, List, []}
-use Rattle.std.proofs.Common.{◌∷◌, ◌++◌, length, Option, Some, None, nat_lt, nat_le, lit≤, if◌then◌else◌, bytes_eq}
-use Rattle.std.proofs.Common.{codes, pos, ltb-true}
+use Rattle.std.proofs.Common.{◌≡◌, ℕ, suc, refl, sym, subst, ap, Bool, true, false, not, ◌&&◌, List, [], ◌∷◌, ◌++◌}
+use Rattle.std.proofs.Common.{length, Option, Some, None, nat_lt, nat_le, lit≤, if◌then◌else◌, bytes_eq, codes}
 use Rattle.std.specs.Prelude.{slice_get, is_some}
 use Rattle.ls_checked.specs.Limits.{most_threads}
 use Rattle.ls_lexer.specs.declared.sign.Sign.TheVariants as signs
 use Rattle.ls_lexer.specs.declared.word.Word.TheVariants as words
-use Rattle.ls_lexer.specs.Lexemes.{Lexeme, Named, Numeral, Reserved, Marked}
+use Rattle.ls_lexer.specs.Lexemes.{Lexeme, Named, Reserved, Marked}
 use Rattle.ls_lexer.specs.Formed.{IsFormed}
-use Rattle.ls_lexer.specs.Numbers.{value_of}
-use Rattle.ls_events.specs.declared.value.Value.{Value}
-use Rattle.ls_events.specs.declared.value.Value.TheVariants as values
 use Rattle.ls_checked.specs.CheckedProgram.{SetupName, Program}
 use Rattle.ls_types_elaboration.specs.Trees.{Text}
-use Rattle.ls_types_elaboration.specs.TypedExpressions.{digits_value}
 use Rattle.ls_types_elaboration.specs.Known.{MethodSign, number_of}
-use Rattle.ls_types_elaboration.specs.Elaboration.{Outcome}
-use Rattle.ls_types_programs.specs.ProgramCalls.{Pending, setup_named, maker, method_on, is_plain, callable, fits}
-use Rattle.ls_types_programs.specs.ProgramCalls.{with_argument, is_full, plain_number, minus_number, Method}
+use Rattle.ls_types_elaboration.specs.Elaboration.{ElaboratedFile}
+use Rattle.ls_types_programs.specs.ProgramCalls.{Pending, setup_named, maker, method_on, is_plain, callable, Method}
 use Rattle.ls_types_programs.specs.ThreadPrograms
-use Rattle.ls_types_programs.specs.ThreadPrograms.{Stage, Parts, Reading, at, when, with_call, used, numbered, argument}
-use Rattle.ls_types_programs.specs.ThreadPrograms.{arguments_end, at_first, after_argument, after_new, after_dot}
-use Rattle.ls_types_programs.specs.ThreadPrograms.{after_name, after_minus, at_semicolon, at_thread, at_thread_name}
-use Rattle.ls_types_programs.specs.ThreadPrograms.{at_call, name_in, number_in, closed, is_new_name, with_finished}
-use Rattle.ls_types_programs.specs.ThreadPrograms.{named, stepped, after, beginning, thread_named, is_sign, is_word}
-use Rattle.ls_types_programs.specs.ThreadPrograms.{is_text}
+use Rattle.ls_types_programs.specs.ThreadPrograms.{Stage, Parts, Reading, at, when, with_call, used, after_new}
+use Rattle.ls_types_programs.specs.ThreadPrograms.{after_dot, after_name, at_semicolon, at_thread, at_thread_name}
+use Rattle.ls_types_programs.specs.ThreadPrograms.{at_call, name_in, closed, is_new_name, with_finished, named, stepped}
+use Rattle.ls_types_programs.specs.ThreadPrograms.{after, beginning, thread_named, is_sign, is_word, is_text}
 use Rattle.ls_types_programs.specs.Spelled as spelled
-use Rattle.ls_types_programs.specs.Spelled.{Argument, Others, Arguments, Threads, Spells}
+use Rattle.ls_types_programs.specs.Spelled.{Others, Arguments, Spells}
 use Rattle.ls_types_programs.specs.Faults.{GoesOn}
-use Rattle.ls_types_programs.proofs.Pieces.{some_none, same_some, both, sign_is, word_is, name_is, number_is}
-use Rattle.ls_types_programs.proofs.Pieces.{digits_small, number_most}
-use Rattle.ls_types_programs.proofs.Rest.{gives, with_values, Argued, Argues, word_named}
+use Rattle.ls_types_programs.proofs.Pieces.{same_some, both, sign_is, word_is, name_is}
+use Rattle.ls_types_programs.proofs.Rest.{gives}
+use Rattle.ls_types_programs.proofs.RestInBlocks.{word_named}
 use Rattle.ls_types_programs.proofs.Forms.{Begins, By, LeftCalls, Left, LeftValues, Valued, LeftThreads, Ends, Follows}
 use Rattle.ls_types_programs.proofs.Forms.{not_first, after_none}
+use Rattle.ls_types_programs.proofs.WaysInArguments.{IsAmong, Leads, when_leads, renamed, made, dotted, Kept}
+use Rattle.ls_types_programs.proofs.WaysInArguments.{argument_leads, minus_leads, first_leads, others_leads, AreAmong}
+use Rattle.ls_types_programs.proofs.WaysInArguments.{behind, collected, collected_among}
 
--- a setup name that is so named
-abbrev pub IsAmong : List SetupName → Text → Type 0
-IsAmong names name = (n : ℕ) × (s : SetupName) × (slice_get names n ≡ Some s) × (s.name ≡ name)
-
--- each name of the tokens is one
-abbrev pub AreAmong : List SetupName → List Lexeme → Type 0
-AreAmong names ks = (i : ℕ) (name : Text) → slice_get ks i ≡ Some (Named name) → IsAmong names name
-
-abbrev collected : List Lexeme → List SetupName
-collected [] = []
-collected (Named name ∷ ks) = record { name = name; class = 0 } ∷ collected ks
-collected (Numeral text ∷ ks) = collected ks
-collected (Reserved word ∷ ks) = collected ks
-collected (Marked sign ∷ ks) = collected ks
-
-same_name : (a b : Text) → Some (Named a) ≡ Some (Named b) → a ≡ b
-same_name a b e = cc
-
-collected_among : (ks : List Lexeme) → AreAmong (collected ks) ks
-collected_among [] i name e = absurd (some_none (Named name) e)
-collected_among (Named x ∷ ks) zero name e = (0, record { name = x; class = 0 }, refl, same_name x name e)
-collected_among (Named x ∷ ks) (suc i) name e = let h = collected_among ks i name e in (suc h.0, h.1, h.2, h.3)
-collected_among (Numeral text ∷ ks) zero name e = absurd cc
-collected_among (Numeral text ∷ ks) (suc i) name e = collected_among ks i name e
-collected_among (Reserved word ∷ ks) zero name e = absurd cc
-collected_among (Reserved word ∷ ks) (suc i) name e = collected_among ks i name e
-collected_among (Marked sign ∷ ks) zero name e = absurd cc
-collected_among (Marked sign ∷ ks) (suc i) name e = collected_among ks i name e
-
-module _ (o : Outcome) (names : List SetupName) where
-  -- what holds in a stage
-  abbrev Kept : Parts → Stage → Type 0
-  Kept r ThreadPrograms.AtSetup = gives r ≡ true
-  Kept r (ThreadPrograms.AfterName name) = IsAmong names name
-  Kept r (ThreadPrograms.AfterAssign name) = IsAmong names name × (gives r ≡ true)
-  Kept r (ThreadPrograms.AfterNew name) = IsAmong names name × (gives r ≡ true)
-  Kept r (ThreadPrograms.AfterDot n) = (name : Text) × IsAmong names name
-  Kept r ThreadPrograms.AtThread = gives r ≡ false
-  Kept r ThreadPrograms.AtThreadName = gives r ≡ false
-  Kept r _ = Unit {0}
-
-  -- the next stage keeps what holds, and what follows it follows the token
-  abbrev Leads : Parts → Stage → Lexeme → Option Reading → Type 0
-  Leads r stage k None = Unit {0}
-  Leads r stage k (Some q) = Kept q.parts q.stage × ((ks : List Lexeme) → Follows names (gives q.parts) q.stage ks →
-      Follows names (gives r) stage (k ∷ ks))
-
-  when_leads : (r : Parts) (stage : Stage) (k : Lexeme) (b : Bool) (q : Reading) →
-      (b ≡ true → Leads r stage k (Some q)) →
-      Leads r stage k (when b q)
-  when_leads r stage k true q h = h refl
-  when_leads r stage k false q h = tt
-
-  made : {class_name : Text} {ks : List Lexeme} (b : Bool) (name : Text) →
-      b ≡ true →
-      IsAmong names name →
-      LeftValues names Arguments b ks
-      → LeftCalls names b (Named name ∷ Marked signs.Assign ∷ Reserved words.New ∷ Named class_name ∷
-      Marked signs.OpenParen ∷ ks)
-  made {class_name = class_name} {ks = ks} b name e there (Valued a (Left more threads)) =
-      subst (λ x. LeftCalls names b (Named x ∷ Marked signs.Assign ∷ Reserved words.New ∷ Named class_name ∷
-      Marked signs.OpenParen ∷ ks)) there.3
-      (Left (spelled.More (spelled.New {class = 0} there.1 e there.2 a) more) threads)
-
-  dotted : {method : Text} {ks : List Lexeme} (b : Bool) (name : Text) →
-      IsAmong names name →
-      LeftValues names Arguments b ks
-      → LeftCalls names b (Named name ∷ Marked signs.Dot ∷ Named method ∷ Marked signs.OpenParen ∷ ks)
-  dotted {method = method} {ks = ks} b name there (Valued a (Left more threads)) =
-      subst (λ x. LeftCalls names b (Named x ∷ Marked signs.Dot ∷ Named method ∷ Marked signs.OpenParen ∷ ks)) there.3
-      (Left (spelled.More (spelled.On {method = 0} {result = None} there.1 there.2 a) more) threads)
-
-  renamed : (b : Bool) (x name : Text) (ks : List Lexeme) →
-      IsAmong names name →
-      LeftCalls names b (Named x ∷ Marked signs.Dot ∷ ks) →
-      LeftCalls names b (Named name ∷ Marked signs.Dot ∷ ks)
-  renamed b _ name _ there (Left (spelled.More (spelled.On s at a) more) threads) = dotted b name there
-      (Valued a (Left more threads))
-
-  value_leads : (r : Parts) (p : Pending) (v : Value) (stage : Stage) (k : Lexeme)
-      → ((ks : List Lexeme) → LeftValues names Others (gives r) ks → Follows names (gives r) stage (k ∷ ks)) →
-      Leads r stage k (with_call r ThreadPrograms.AfterArgument (with_argument p v))
-  value_leads r p v stage k h = by (fits (slice_get p.types (length p.values)) v)
-    where
-      by : (b : Bool) →
-          Leads r stage k (with_call r ThreadPrograms.AfterArgument
-          (if b then Some (with_values p (p.values ++ v ∷ [])) else None))
-      by true = (tt, h)
-      by false = tt
-
-  -- an argument where one may come
-  abbrev Argues_at : Parts → Stage → Type 0
-  Argues_at r stage = (ks : List Lexeme) → LeftValues names Argued (gives r) ks → Follows names (gives r) stage ks
-
-  behind : {v : Value} {b : Bool} {js ks : List Lexeme} →
-      Argument v js ks →
-      LeftValues names Others b ks →
-      LeftValues names Argued b js
-  behind a (Valued others more) = Valued (Argues a others) more
-
-  argument_leads : (r : Parts) (p : Pending) (stage : Stage) (k : Lexeme) →
-      Argues_at r stage →
-      Leads r stage k (argument r p k (number_in k))
-  argument_leads r p stage k h = by (number_in k) refl
-    where
-      number : (text : Text) →
-          (b : Bool) →
-          nat_lt (digits_value 0 text) 2147483648 ≡ b →
-          Leads r stage (Numeral text) (numbered r p (if b then Some (values.Int (pos (digits_value 0 text))) else
-          None))
-      number text false e = tt
-      number text true e =
-          let small : digits_value 0 text < 2147483648 = ltb-true (digits_value 0 text) 2147483648 e in
-          value_leads r p (values.Int (pos (digits_value 0 text))) stage (Numeral text)
-          (λ ks m. h (Numeral text ∷ ks)
-          (behind (spelled.Number text (subst (λ n. n < 2147483648) (digits_small text small) small)) m))
-
-      signed : Leads r stage k (when (is_sign signs.Minus k) (at r (ThreadPrograms.AfterMinus p)))
-      signed = when_leads r stage k (is_sign signs.Minus k) (at r (ThreadPrograms.AfterMinus p))
-          (λ e. (
-            tt,
-            λ ks m. subst (λ x. Follows names (gives r) stage (x ∷ ks)) (sym (sign_is signs.Minus k e))
-                (h (Marked signs.Minus ∷ ks) m),
-          ))
-
-      is_false : (b : Bool) →
-          is_word words.False k ≡ b →
-          Leads r stage k (if b then with_call r ThreadPrograms.AfterArgument (with_argument p (values.Boolean false))
-          else when (is_sign signs.Minus k) (at r (ThreadPrograms.AfterMinus p)))
-      is_false true e = subst
-          (λ x. Leads r stage x (with_call r ThreadPrograms.AfterArgument (with_argument p (values.Boolean false))))
-          (sym (word_is words.False k e)) (value_leads r p (values.Boolean false) stage (Reserved words.False)
-          (λ ks m. h (Reserved words.False ∷ ks) (behind spelled.False m)))
-      is_false false e = signed
-
-      is_true : (b : Bool) →
-          is_word words.True k ≡ b →
-          Leads r stage k (if b then with_call r ThreadPrograms.AfterArgument (with_argument p (values.Boolean true))
-          else (if is_word words.False k then with_call r ThreadPrograms.AfterArgument
-          (with_argument p (values.Boolean false)) else when (is_sign signs.Minus k)
-          (at r (ThreadPrograms.AfterMinus p))))
-      is_true true e = subst
-          (λ x. Leads r stage x (with_call r ThreadPrograms.AfterArgument (with_argument p (values.Boolean true))))
-          (sym (word_is words.True k e)) (value_leads r p (values.Boolean true) stage (Reserved words.True)
-          (λ ks m. h (Reserved words.True ∷ ks) (behind spelled.True m)))
-      is_true false e = is_false (is_word words.False k) refl
-
-      by : (n : Option Text) → number_in k ≡ n → Leads r stage k (argument r p k n)
-      by None e = is_true (is_word words.True k) refl
-      by (Some text) e = subst (λ x. Leads r stage x (numbered r p (plain_number text))) (sym (number_is k text e))
-          (number text (nat_lt (digits_value 0 text) 2147483648) refl)
-
-  minus_leads : (r : Parts) (p : Pending) (k : Lexeme) →
-      IsFormed k →
-      Leads r (ThreadPrograms.AfterMinus p) k (after_minus r p (number_in k))
-  minus_leads r p k formed = by (number_in k) refl
-    where
-      by : (n : Option Text) → number_in k ≡ n → Leads r (ThreadPrograms.AfterMinus p) k (after_minus r p n)
-      by None e = tt
-      by (Some text) e =
-          let is : k ≡ Numeral text = number_is k text e in
-          let most : value_of 0 text ≤ 2147483648 = number_most text (subst IsFormed is formed) in
-          subst (λ x. Leads r (ThreadPrograms.AfterMinus p) x (after_minus r p (Some text))) (sym is)
-          (value_leads r p (minus_number text) (ThreadPrograms.AfterMinus p) (Numeral text)
-          (λ ks m. behind (spelled.Minus text most) m))
-
-  -- a parenthesis where one may come
-  end_leads : (r : Parts) (p : Pending) (stage : Stage) →
-      ((ks : List Lexeme) → LeftCalls names (gives r) ks → Follows names (gives r) stage
-      (Marked signs.CloseParen ∷ Marked signs.Semicolon ∷ ks)) →
-      Leads r stage (Marked signs.CloseParen) (arguments_end r p)
-  end_leads r p stage h = when_leads r stage (Marked signs.CloseParen) (is_full p) (at r (ThreadPrograms.AtSemicolon p))
-      (λ e. (tt, semicolon))
-    where
-      semicolon : (ks : List Lexeme) →
-          Begins (Marked signs.Semicolon) (LeftCalls names (gives r)) ks →
-          Follows names (gives r) stage (Marked signs.CloseParen ∷ ks)
-      semicolon _ (By {ks = ks} m) = h ks m
-
-  first_leads : (r : Parts) (p : Pending) (k : Lexeme) → Leads r (ThreadPrograms.AtFirst p) k (at_first r p k)
-  first_leads r p k = by (is_sign signs.CloseParen k) refl
-    where
-      turned : (ks : List Lexeme) → LeftValues names Argued (gives r) ks → LeftValues names Arguments (gives r) ks
-      turned ks (Valued (Argues a others) more) = Valued (spelled.First a others) more
-
-      by : (b : Bool) →
-          is_sign signs.CloseParen k ≡ b →
-          Leads r (ThreadPrograms.AtFirst p) k (if b then arguments_end r p else argument r p k (number_in k))
-      by true e = subst (λ x. Leads r (ThreadPrograms.AtFirst p) x (arguments_end r p))
-          (sym (sign_is signs.CloseParen k e)) (end_leads r p (ThreadPrograms.AtFirst p)
-          (λ ks m. Valued spelled.NoArgument m))
-      by false e = argument_leads r p (ThreadPrograms.AtFirst p) k turned
-
-  others_leads : (r : Parts) (p : Pending) (k : Lexeme) →
-      Leads r (ThreadPrograms.AfterArgument p) k (after_argument r p k)
-  others_leads r p k = by (is_sign signs.CloseParen k) refl
-    where
-      turned : (ks : List Lexeme) →
-          LeftValues names Argued (gives r) ks →
-          LeftValues names Others (gives r) (Marked signs.Comma ∷ ks)
-      turned ks (Valued (Argues a others) more) = Valued (spelled.Other a others) more
-
-      by : (b : Bool) →
-          is_sign signs.CloseParen k ≡ b →
-          Leads r (ThreadPrograms.AfterArgument p) k (if b then arguments_end r p else
-          when (is_sign signs.Comma k) (at r (ThreadPrograms.AtArgument p)))
-      by true e = subst (λ x. Leads r (ThreadPrograms.AfterArgument p) x (arguments_end r p))
-          (sym (sign_is signs.CloseParen k e)) (end_leads r p (ThreadPrograms.AfterArgument p)
-          (λ ks m. Valued spelled.NoOther m))
-      by false e = when_leads r (ThreadPrograms.AfterArgument p) k (is_sign signs.Comma k)
-          (at r (ThreadPrograms.AtArgument p))
-          (λ is. (
-            tt,
-            λ ks m. subst (λ x. LeftValues names Others (gives r) (x ∷ ks)) (sym (sign_is signs.Comma k is))
-                (turned ks m),
-          ))
-
+module _ (o : ElaboratedFile) (names : List SetupName) where
   call_leads : (r : Parts) (k : Lexeme) →
       ((name : Text) → k ≡ Named name → IsAmong names name) →
-      Leads r ThreadPrograms.AtCall k (at_call r k (name_in k))
+      Leads o names r ThreadPrograms.AtCall k (at_call r k (name_in k))
   call_leads r k among = by (name_in k) refl
     where
       ended : (ks : List Lexeme) →
@@ -261,8 +40,8 @@ module _ (o : Outcome) (names : List SetupName) where
           LeftCalls names (gives r) (Marked signs.CloseBrace ∷ ks)
       ended ks (e, Ends threads) = Left spelled.NoCall threads
 
-      by : (t : Option Text) → name_in k ≡ t → Leads r ThreadPrograms.AtCall k (at_call r k t)
-      by None e = when_leads r ThreadPrograms.AtCall k (is_sign signs.CloseBrace k)
+      by : (t : Option Text) → name_in k ≡ t → Leads o names r ThreadPrograms.AtCall k (at_call r k t)
+      by None e = when_leads o names r ThreadPrograms.AtCall k (is_sign signs.CloseBrace k)
           (at (closed r) ThreadPrograms.AtThread)
           (λ is. (
             not_first r (record { name = r.name; calls = r.calls }),
@@ -277,26 +56,26 @@ module _ (o : Outcome) (names : List SetupName) where
 
   name_leads : (r : Parts) (name : Text) (k : Lexeme) →
       IsAmong names name →
-      Leads r (ThreadPrograms.AfterName name) k (after_name r name k)
+      Leads o names r (ThreadPrograms.AfterName name) k (after_name r name k)
   name_leads r name k there = by (is_sign signs.Assign k) refl
     where
-      use_dot : (x : Option ℕ) → Leads r (ThreadPrograms.AfterName name) (Marked signs.Dot) (used r x)
+      use_dot : (x : Option ℕ) → Leads o names r (ThreadPrograms.AfterName name) (Marked signs.Dot) (used r x)
       use_dot None = tt
-      use_dot (Some n) = ((name, there), λ ks m. renamed (gives r) m.0 name ks there m.1)
+      use_dot (Some n) = ((name, there), λ ks m. renamed o names (gives r) m.0 name ks there m.1)
 
       is_dot : (b : Bool) →
           is_sign signs.Dot k ≡ b →
-          Leads r (ThreadPrograms.AfterName name) k (if b then used r (setup_named r.names name) else None)
+          Leads o names r (ThreadPrograms.AfterName name) k (if b then used r (setup_named r.names name) else None)
       is_dot false e = tt
-      is_dot true e = subst (λ x. Leads r (ThreadPrograms.AfterName name) x (used r (setup_named r.names name)))
+      is_dot true e = subst (λ x. Leads o names r (ThreadPrograms.AfterName name) x (used r (setup_named r.names name)))
           (sym (sign_is signs.Dot k e)) (use_dot (setup_named r.names name))
 
       by : (b : Bool) →
           is_sign signs.Assign k ≡ b →
-          Leads r (ThreadPrograms.AfterName name) k (if b then
+          Leads o names r (ThreadPrograms.AfterName name) k (if b then
           when (is_new_name r name) (at r (ThreadPrograms.AfterAssign name)) else
           (if is_sign signs.Dot k then used r (setup_named r.names name) else None))
-      by true e = when_leads r (ThreadPrograms.AfterName name) k (is_new_name r name)
+      by true e = when_leads o names r (ThreadPrograms.AfterName name) k (is_new_name r name)
           (at r (ThreadPrograms.AfterAssign name))
           (λ new. (
             (there, (both (gives r) (not (is_some (setup_named r.names name))) new).0),
@@ -306,37 +85,38 @@ module _ (o : Outcome) (names : List SetupName) where
 
   new_leads : (r : Parts) (name : Text) (k : Lexeme) →
       IsAmong names name × (gives r ≡ true) →
-      Leads r (ThreadPrograms.AfterNew name) k (after_new o r name (name_in k))
+      Leads o names r (ThreadPrograms.AfterNew name) k (after_new o r name (name_in k))
   new_leads r name k there = by (name_in k) refl
     where
       front : (class : Text) (ks : List Lexeme) →
           Begins (Marked signs.OpenParen) (LeftValues names Arguments (gives r)) ks →
           LeftCalls names (gives r) (Named name ∷ Marked signs.Assign ∷ Reserved words.New ∷ Named class ∷ ks)
-      front class _ (By m) = made (gives r) name there.1 there.0 m
+      front class _ (By m) = made o names (gives r) name there.1 there.0 m
 
       found : (class : Text) (x : Option ℕ) →
-          Leads r (ThreadPrograms.AfterNew name) (Named class)
+          Leads o names r (ThreadPrograms.AfterNew name) (Named class)
           (with_call r ThreadPrograms.AtArguments (maker o name class x))
       found class None = tt
       found class (Some c) = (tt, front class)
 
-      by : (t : Option Text) → name_in k ≡ t → Leads r (ThreadPrograms.AfterNew name) k (after_new o r name t)
+      by : (t : Option Text) → name_in k ≡ t → Leads o names r (ThreadPrograms.AfterNew name) k (after_new o r name t)
       by None e = tt
-      by (Some class) e = subst (λ x. Leads r (ThreadPrograms.AfterNew name) x (after_new o r name (Some class)))
+      by (Some class) e = subst (λ x. Leads o names r (ThreadPrograms.AfterNew name) x
+          (after_new o r name (Some class)))
           (sym (name_is k class e)) (found class (number_of o.names class))
 
   dot_leads : (r : Parts) (n : ℕ) (k : Lexeme) →
       (name : Text) × IsAmong names name →
-      Leads r (ThreadPrograms.AfterDot n) k (after_dot o r n (name_in k))
+      Leads o names r (ThreadPrograms.AfterDot n) k (after_dot o r n (name_in k))
   dot_leads r n k there = by (name_in k) refl
     where
       front : (method : Text) (ks : List Lexeme) →
           Begins (Marked signs.OpenParen) (LeftValues names Arguments (gives r)) ks →
           (name : Text) × LeftCalls names (gives r) (Named name ∷ Marked signs.Dot ∷ Named method ∷ ks)
-      front method _ (By m) = (there.0, dotted (gives r) there.0 there.1 m)
+      front method _ (By m) = (there.0, dotted o names (gives r) there.0 there.1 m)
 
       plain : (method : Text) (m : MethodSign) (b : Bool) →
-          Leads r (ThreadPrograms.AfterDot n) (Named method)
+          Leads o names r (ThreadPrograms.AfterDot n) (Named method)
           (with_call r ThreadPrograms.AtArguments (if b then
           Some (record { callee = Method n m.number method m.result; types = m.parameters; values = [] }) else
           None))
@@ -344,26 +124,26 @@ module _ (o : Outcome) (names : List SetupName) where
       plain method m true = (tt, front method)
 
       found : (method : Text) (x : Option MethodSign) →
-          Leads r (ThreadPrograms.AfterDot n) (Named method)
+          Leads o names r (ThreadPrograms.AfterDot n) (Named method)
           (with_call r ThreadPrograms.AtArguments (callable n method x))
       found method None = tt
       found method (Some m) = plain method m (is_plain m.result)
 
-      by : (t : Option Text) → name_in k ≡ t → Leads r (ThreadPrograms.AfterDot n) k (after_dot o r n t)
+      by : (t : Option Text) → name_in k ≡ t → Leads o names r (ThreadPrograms.AfterDot n) k (after_dot o r n t)
       by None e = tt
-      by (Some method) e = subst (λ x. Leads r (ThreadPrograms.AfterDot n) x (after_dot o r n (Some method)))
+      by (Some method) e = subst (λ x. Leads o names r (ThreadPrograms.AfterDot n) x (after_dot o r n (Some method)))
           (sym (name_is k method e)) (found method (method_on o (slice_get r.names n) method))
 
   -- the only token that may come
   only_leads : (r : Parts) (stage next : Stage) (k : Lexeme) (b : Bool) →
-      (b ≡ true → Kept r next × ((ks : List Lexeme) → Follows names (gives r) next ks →
+      (b ≡ true → Kept o names r next × ((ks : List Lexeme) → Follows names (gives r) next ks →
       Follows names (gives r) stage (k ∷ ks))) →
-      Leads r stage k (when b (at r next))
-  only_leads r stage next k b h = when_leads r stage k b (at r next) h
+      Leads o names r stage k (when b (at r next))
+  only_leads r stage next k b h = when_leads o names r stage k b (at r next) h
 
   semicolon_leads : (r : Parts) (p : Pending) (k : Lexeme) →
-      Leads r (ThreadPrograms.AtSemicolon p) k (at_semicolon r p k)
-  semicolon_leads r p k = when_leads r (ThreadPrograms.AtSemicolon p) k
+      Leads o names r (ThreadPrograms.AtSemicolon p) k (at_semicolon r p k)
+  semicolon_leads r p k = when_leads o names r (ThreadPrograms.AtSemicolon p) k
       (is_sign signs.Semicolon k && nat_lt (length r.calls) 256) (at (with_finished r p) ThreadPrograms.AtCall)
       (λ e. (
         tt,
@@ -372,8 +152,8 @@ module _ (o : Outcome) (names : List SetupName) where
             (By m),
       ))
 
-  thread_leads : (r : Parts) (k : Lexeme) → gives r ≡ false → Leads r ThreadPrograms.AtThread k (at_thread r k)
-  thread_leads r k later = when_leads r ThreadPrograms.AtThread k
+  thread_leads : (r : Parts) (k : Lexeme) → gives r ≡ false → Leads o names r ThreadPrograms.AtThread k (at_thread r k)
+  thread_leads r k later = when_leads o names r ThreadPrograms.AtThread k
       (is_text (codes "thread") (name_in k) && nat_le (length r.threads) most_threads)
       (at r ThreadPrograms.AtThreadName)
       (λ e. (
@@ -388,7 +168,7 @@ module _ (o : Outcome) (names : List SetupName) where
 
   thread_name_leads : (r : Parts) (k : Lexeme) →
       gives r ≡ false →
-      Leads r ThreadPrograms.AtThreadName k (at_thread_name r (name_in k))
+      Leads o names r ThreadPrograms.AtThreadName k (at_thread_name r (name_in k))
   thread_name_leads r k later = by (name_in k) refl
     where
       front : (name : Text) (ks : List Lexeme) →
@@ -397,9 +177,9 @@ module _ (o : Outcome) (names : List SetupName) where
       front name _ (By (Left {cs = cs} calls threads)) = Ends
           (spelled.Thread {t = record { name = name; calls = cs }} calls threads)
 
-      by : (t : Option Text) → name_in k ≡ t → Leads r ThreadPrograms.AtThreadName k (at_thread_name r t)
+      by : (t : Option Text) → name_in k ≡ t → Leads o names r ThreadPrograms.AtThreadName k (at_thread_name r t)
       by None e = tt
-      by (Some name) e = when_leads r ThreadPrograms.AtThreadName k
+      by (Some name) e = when_leads o names r ThreadPrograms.AtThreadName k
           (not (bytes_eq name (codes "all")) && not (thread_named r.threads name))
           (at (named r name) ThreadPrograms.AtBlock)
           (λ is. (
@@ -415,8 +195,8 @@ module _ (o : Outcome) (names : List SetupName) where
   step_leads : (r : Parts) (stage : Stage) (k : Lexeme) →
       IsFormed k →
       ((name : Text) → k ≡ Named name → IsAmong names name) →
-      Kept r stage →
-      Leads r stage k (stepped o r stage k)
+      Kept o names r stage →
+      Leads o names r stage k (stepped o r stage k)
   step_leads r ThreadPrograms.AtSetup k formed among kept = only_leads r ThreadPrograms.AtSetup ThreadPrograms.AtBlock k
       (is_text (codes "setup") (name_in k))
       (λ e. (
@@ -453,11 +233,12 @@ module _ (o : Outcome) (names : List SetupName) where
         λ ks m. subst (λ x. Begins (Marked signs.OpenParen) (LeftValues names Arguments (gives r)) (x ∷ ks))
             (sym (sign_is signs.OpenParen k e)) (By m),
       ))
-  step_leads r (ThreadPrograms.AtFirst p) k formed among kept = first_leads r p k
-  step_leads r (ThreadPrograms.AtArgument p) k formed among kept = argument_leads r p (ThreadPrograms.AtArgument p) k
+  step_leads r (ThreadPrograms.AtFirst p) k formed among kept = first_leads o names r p k
+  step_leads r (ThreadPrograms.AtArgument p) k formed among kept = argument_leads o names r p
+      (ThreadPrograms.AtArgument p) k
       (λ ks m. m)
-  step_leads r (ThreadPrograms.AfterMinus p) k formed among kept = minus_leads r p k formed
-  step_leads r (ThreadPrograms.AfterArgument p) k formed among kept = others_leads r p k
+  step_leads r (ThreadPrograms.AfterMinus p) k formed among kept = minus_leads o names r p k formed
+  step_leads r (ThreadPrograms.AfterArgument p) k formed among kept = others_leads o names r p k
   step_leads r (ThreadPrograms.AtSemicolon p) k formed among kept = semicolon_leads r p k
   step_leads r ThreadPrograms.AtThread k formed among kept = thread_leads r k kept
   step_leads r ThreadPrograms.AtThreadName k formed among kept = thread_name_leads r k kept
@@ -465,23 +246,23 @@ module _ (o : Outcome) (names : List SetupName) where
   leads_on : (ks : List Lexeme) (r : Parts) (stage : Stage) (q : Reading) →
       ((i : ℕ) (k : Lexeme) → slice_get ks i ≡ Some k → IsFormed k) →
       AreAmong names ks →
-      Kept r stage
-      → after o (Some (at r stage)) ks ≡ Some q → Kept q.parts q.stage ×
+      Kept o names r stage
+      → after o (Some (at r stage)) ks ≡ Some q → Kept o names q.parts q.stage ×
       ((more : List Lexeme) → Follows names (gives q.parts) q.stage more →
       Follows names (gives r) stage (ks ++ more))
   leads_on [] r stage q formed among kept e =
-      subst (λ (x : Reading). Kept x.parts x.stage × ((more : List Lexeme) →
+      subst (λ (x : Reading). Kept o names x.parts x.stage × ((more : List Lexeme) →
       Follows names (gives x.parts) x.stage more → Follows names (gives r) stage more)) (same_some (at r stage) q e)
       (kept, λ more m. m)
   leads_on (k ∷ ks) r stage q formed among kept e =
       by (λ s t next. leads_on ks s t q (λ i. formed (suc i)) (λ i. among (suc i)) next) (stepped o r stage k)
       (step_leads r stage k (formed 0 k refl) (λ name is. among 0 name (ap (λ x. Some x) is)) kept) e
     where
-      by : ((s : Parts) (t : Stage) → Kept s t → after o (Some (at s t)) ks ≡ Some q →
-          Kept q.parts q.stage × ((more : List Lexeme) → Follows names (gives q.parts) q.stage more →
+      by : ((s : Parts) (t : Stage) → Kept o names s t → after o (Some (at s t)) ks ≡ Some q →
+          Kept o names q.parts q.stage × ((more : List Lexeme) → Follows names (gives q.parts) q.stage more →
           Follows names (gives s) t (ks ++ more)))
-          → (x : Option Reading) → Leads r stage k x → after o x ks ≡ Some q →
-          Kept q.parts q.stage × ((more : List Lexeme) → Follows names (gives q.parts) q.stage more →
+          → (x : Option Reading) → Leads o names r stage k x → after o x ks ≡ Some q →
+          Kept o names q.parts q.stage × ((more : List Lexeme) → Follows names (gives q.parts) q.stage more →
           Follows names (gives r) stage (k ∷ ks ++ more))
       by rec None h e = absurd (after_none o ks q e)
       by rec (Some next) h e = let g = rec next.parts next.stage h.0 e in (g.0, λ more m. h.1 (ks ++ more) (g.1 more m))
@@ -499,31 +280,35 @@ module _ (o : Outcome) (names : List SetupName) where
       LeftValues names Others b (Marked signs.CloseParen ∷ Marked signs.Semicolon ∷ Marked signs.CloseBrace ∷ [])
   others_end b = Valued spelled.NoOther (block_ends b)
 
-  ends : (r : Parts) (stage : Stage) → Kept r stage → (more : List Lexeme) × Follows names (gives r) stage more
+  ends : (r : Parts) (stage : Stage) → Kept o names r stage → (more : List Lexeme) × Follows names (gives r) stage more
   ends r ThreadPrograms.AtSetup kept = (_, (kept, By (By (block_ends true))))
   ends r ThreadPrograms.AtBlock kept = (_, By (block_ends (gives r)))
   ends r ThreadPrograms.AtCall kept = (_, block_ends (gives r))
   ends r (ThreadPrograms.AfterName name) kept = (
     _,
-    dotted {method = codes "m"} (gives r) name kept
+    dotted o names {method = codes "m"} (gives r) name kept
         (call_ends (gives r)),
   )
   ends r (ThreadPrograms.AfterAssign name) kept = (
     _,
-    made {class_name = codes "C"} (gives r) name kept.1 kept.0
+    made o names {class_name = codes "C"} (gives r) name kept.1 kept.0
         (call_ends (gives r)),
   )
   ends r (ThreadPrograms.AfterNew name) kept = (
     _,
-    made {class_name = codes "C"} (gives r) name kept.1 kept.0
+    made o names {class_name = codes "C"} (gives r) name kept.1 kept.0
         (call_ends (gives r)),
   )
   ends r (ThreadPrograms.AfterDot n) kept =
-      (_, (kept.0, dotted {method = codes "m"} (gives r) kept.0 kept.1 (call_ends (gives r))))
+      (_, (kept.0, dotted o names {method = codes "m"} (gives r) kept.0 kept.1 (call_ends (gives r))))
   ends r (ThreadPrograms.AtArguments p) kept = (_, By (call_ends (gives r)))
   ends r (ThreadPrograms.AtFirst p) kept = (_, call_ends (gives r))
-  ends r (ThreadPrograms.AtArgument p) kept = (_, behind spelled.True (others_end (gives r)))
-  ends r (ThreadPrograms.AfterMinus p) kept = (_, behind (spelled.Minus (codes "0") (lit≤ tt)) (others_end (gives r)))
+  ends r (ThreadPrograms.AtArgument p) kept = (_, behind o names spelled.True (others_end (gives r)))
+  ends r (ThreadPrograms.AfterMinus p) kept = (
+    _,
+    behind o names (spelled.Minus (codes "0") (lit≤ tt))
+        (others_end (gives r)),
+  )
   ends r (ThreadPrograms.AfterArgument p) kept = (_, others_end (gives r))
   ends r (ThreadPrograms.AtSemicolon p) kept = (_, By (block_ends (gives r)))
   ends r ThreadPrograms.AtThread kept = ([], (kept, Ends spelled.NoThread))
@@ -534,7 +319,7 @@ module _ (o : Outcome) (names : List SetupName) where
   spells _ (e, By (By (Left calls threads))) = (_, spelled.Whole calls threads)
 
 -- what is read goes on to a program
-pub goes_on : (o : Outcome) (ks : List Lexeme) (q : Reading) →
+pub goes_on : (o : ElaboratedFile) (ks : List Lexeme) (q : Reading) →
     ((i : ℕ) (k : Lexeme) → slice_get ks i ≡ Some k → IsFormed k) →
     after o (Some beginning) ks ≡ Some q →
     GoesOn ks

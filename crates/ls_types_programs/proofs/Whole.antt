@@ -11,7 +11,7 @@ use Rattle.ls_lexer.specs.Tokens.{tokens_of}
 use Rattle.ls_lexer.proofs.FormedLaws.{tokens_are_formed}
 use Rattle.ls_checked.specs.CheckedProgram.{SetupName, ProgramCall, ThreadProgram, Program}
 use Rattle.ls_types_elaboration.specs.Trees.{Text}
-use Rattle.ls_types_elaboration.specs.Elaboration.{Outcome}
+use Rattle.ls_types_elaboration.specs.Elaboration.{ElaboratedFile}
 use Rattle.ls_types_programs.specs.ThreadPrograms
 use Rattle.ls_types_programs.specs.ThreadPrograms.{Stage, Parts, Reading, at, after, ended, whole, beginning}
 use Rattle.ls_types_programs.specs.ThreadPrograms.{program_of_tokens, program_of}
@@ -21,7 +21,8 @@ use Rattle.ls_types_programs.specs.Programs.{AreCallsOf, AreThreadsOf, IsProgram
 use Rattle.ls_types_programs.specs.Faults.{AreWhole}
 use Rattle.ls_types_programs.specs.Laws.{ReadsWhatIsSpelled, OneProgram}
 use Rattle.ls_types_programs.proofs.Pieces.{no_truth, some_none, same_some}
-use Rattle.ls_types_programs.proofs.Rest.{RestAfter, RestCalls, rest_is}
+use Rattle.ls_types_programs.proofs.Rest.{RestAfter, RestCalls}
+use Rattle.ls_types_programs.proofs.RestInBlocks.{rest_is}
 use Rattle.ls_types_programs.proofs.Read.{calls_read, threads_read}
 
 -- a stage that may end a program is the one before a thread
@@ -32,7 +33,7 @@ ended_is _ e = absurd (no_truth e)
 -- ---- what is read is spelled
 
 -- what is read is spelled
-pub tokens_spell : (o : Outcome) (f : Parts) (ks : List Lexeme) →
+pub tokens_spell : (o : ElaboratedFile) (f : Parts) (ks : List Lexeme) →
     ((i : ℕ) (k : Lexeme) → slice_get ks i ≡ Some k → IsFormed k)
     → after o (Some beginning) ks ≡ Some (at f ThreadPrograms.AtThread) →
     AreWhole o (record { names = f.names; threads = f.threads }) ks
@@ -68,7 +69,7 @@ tokens_spell o f ks formed e =
         length ts ≤ most_threads
     at_most all ts e h = omega (arith, e, h)
 
-read_spells : (o : Outcome) (text : Text) (f : Parts) (ks : List Lexeme) →
+read_spells : (o : ElaboratedFile) (text : Text) (f : Parts) (ks : List Lexeme) →
     length text ≤ 262144 →
     tokens_of text ≡ Some ks
     → after o (Some beginning) ks ≡ Some (at f ThreadPrograms.AtThread) →
@@ -77,7 +78,7 @@ read_spells o text f ks short lexed e =
     let h = tokens_spell o f ks (tokens_are_formed text ks lexed) e in
     record { short = short; tokens = ks; lexed = lexed; spelled = h.spelled; program = h.program }
 
-reads : (o : Outcome) (text : Text) (p : Program) → program_of o text ≡ Some p → IsTextOf o p text
+reads : (o : ElaboratedFile) (text : Text) (p : Program) → program_of o text ≡ Some p → IsTextOf o p text
 reads o text p e = by_length (nat_le (length text) 262144) refl e
   where
     by_end : (ks : List Lexeme) →
@@ -119,7 +120,7 @@ reads o text p e = by_length (nat_le (length text) 262144) refl e
 
 -- ---- and what is spelled is read
 
-spelled_reads : (o : Outcome) (names : List SetupName) (setup : List ProgramCall) (ts : List ThreadProgram)
+spelled_reads : (o : ElaboratedFile) (names : List SetupName) (setup : List ProgramCall) (ts : List ThreadProgram)
     (ks rest : List Lexeme)
     → AreCallsOf o true [] setup names → length setup ≤ 256 → length ts ≤ most_threads
     → AreThreadsOf o names (record { name = codes "setup"; calls = setup } ∷ []) ts →
@@ -136,7 +137,7 @@ spelled_reads o names setup ts ks rest gives few_calls few are calls threads =
     one_more h = omega (arith, h)
 
 -- what is spelled is read
-pub tokens_read : (o : Outcome) (p : Program) (ks : List Lexeme) →
+pub tokens_read : (o : ElaboratedFile) (p : Program) (ks : List Lexeme) →
     Spells p ks →
     IsProgramOf o p →
     program_of_tokens o (Some ks) ≡ Some p
@@ -166,7 +167,7 @@ tokens_read o p ks (spelled.Whole {names = names} {calls = calls} {ts = ts} {ks 
         (a ≡ b) × (ts ≡ us)
     parts_are a b ts us e = (ap first_calls e, ap all_but_first e)
 
-is_read : (o : Outcome) (text : Text) (p : Program) → IsTextOf o p text → program_of o text ≡ Some p
+is_read : (o : ElaboratedFile) (text : Text) (p : Program) → IsTextOf o p text → program_of o text ≡ Some p
 is_read o text p h =
     ap (λ b. if b then program_of_tokens o (tokens_of text) else None) (le-leb (length text) 262144 h.short)
     ∙ ap (program_of_tokens o) h.lexed

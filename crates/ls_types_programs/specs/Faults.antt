@@ -10,17 +10,17 @@ use Rattle.ls_events.specs.declared.value.ValueType.{ValueType}
 use Rattle.ls_checked.specs.CheckedProgram.{SetupName, ThreadProgram, Program}
 use Rattle.ls_types_elaboration.specs.Trees.{Text}
 use Rattle.ls_types_elaboration.specs.Known.{MethodSign, number_of, method_named, methods_in, parameters_in}
-use Rattle.ls_types_elaboration.specs.Elaboration.{Outcome}
+use Rattle.ls_types_elaboration.specs.Elaboration.{ElaboratedFile}
 use Rattle.ls_types_programs.specs.Spelled.{Argument, Arguments, Spells}
 use Rattle.ls_types_programs.specs.Programs.{AreFor, type_of, IsPlain, IsNewName, IsProgramOf}
 
 -- the tokens, with the end of a block after them, are the program
-pub record IsBefore (o : Outcome) (p : Program) (ks : List Lexeme) : Type 0 where
+pub record IsBefore (o : ElaboratedFile) (p : Program) (ks : List Lexeme) : Type 0 where
   pub spelled : Spells p (ks ++ Marked signs.CloseBrace ∷ [])
   pub program : IsProgramOf o p
 
 -- the tokens are the program
-pub record AreWhole (o : Outcome) (p : Program) (ks : List Lexeme) : Type 0 where
+pub record AreWhole (o : ElaboratedFile) (p : Program) (ks : List Lexeme) : Type 0 where
   pub spelled : Spells p ks
   pub program : IsProgramOf o p
 
@@ -30,7 +30,7 @@ GoesOn ks = (p : Program) × (more : List Lexeme) × Spells p (ks ++ more)
 
 -- The first token with which the tokens begin no program. Or a making in a thread, or of a name that is given already.
 -- Or a thread that is named `all`, or as another thread.
-pub data IsBad (o : Outcome) : List Lexeme → List Lexeme → Type 0 where
+pub data IsBad (o : ElaboratedFile) : List Lexeme → List Lexeme → Type 0 where
   Form : {ks : List Lexeme} (k : Lexeme) → GoesOn ks → (GoesOn (ks ++ k ∷ []) → ⊥) → IsBad o ks (k ∷ [])
   MadeInThread : {ks : List Lexeme} (p : Program) (name : Text) → IsBefore o p ks → 1 < length p.threads
       → IsBad o ks (Named name ∷ Marked signs.Assign ∷ [])
@@ -45,7 +45,7 @@ pub data IsBad (o : Outcome) : List Lexeme → List Lexeme → Type 0 where
       → IsBad o (ks ++ Named (codes "thread") ∷ []) (Named t.name ∷ [])
 
 -- The beginning of a call, up to its class or method, which exists, and the types of its parameters.
-pub data IsCallee (o : Outcome) (p : Program) : List Lexeme → Text → List ValueType → Type 0 where
+pub data IsCallee (o : ElaboratedFile) (p : Program) : List Lexeme → Text → List ValueType → Type 0 where
   Class : (name class : Text) (c : ℕ) → length p.threads ≡ 1 → IsNewName p.names name → number_of o.names class ≡ Some c
       → IsCallee o p (Named name ∷ Marked signs.Assign ∷ Reserved words.New ∷ []) class
       (parameters_in (slice_get o.signs c))
@@ -59,7 +59,7 @@ AreBeforeParen vs ks = Arguments vs (ks ++ Marked signs.CloseParen ∷ []) []
 
 -- A class, setup name or method that doesn't exist. Or too few or too many arguments; the place is then that of the
 -- class or method. Or the first argument of another type than its parameter.
-pub data IsUnknown (o : Outcome) : List Lexeme → List Lexeme → Type 0 where
+pub data IsUnknown (o : ElaboratedFile) : List Lexeme → List Lexeme → Type 0 where
   NoClass : {ks : List Lexeme} (p : Program) (name class : Text) →
       IsBefore o p ks →
       length p.threads ≡ 1 →
@@ -89,7 +89,7 @@ pub data IsUnknown (o : Outcome) : List Lexeme → List Lexeme → Type 0 where
       → IsUnknown o (ks ++ front ++ Named callee ∷ Marked signs.OpenParen ∷ js) ls
 
 -- a method that answers a reference
-pub data IsReference (o : Outcome) : List Lexeme → List Lexeme → Type 0 where
+pub data IsReference (o : ElaboratedFile) : List Lexeme → List Lexeme → Type 0 where
   Answers : {ks : List Lexeme} (p : Program) (n : ℕ) (s : SetupName) (method : Text) (m : MethodSign) →
       IsBefore o p ks →
       slice_get p.names n ≡ Some s
@@ -97,7 +97,7 @@ pub data IsReference (o : Outcome) : List Lexeme → List Lexeme → Type 0 wher
       → IsReference o (ks ++ Named s.name ∷ Marked signs.Dot ∷ []) (Named method ∷ [])
 
 -- a thread, if the others have reached the limit of threads; or a call, if its thread has reached the limit of calls
-pub data IsPast (o : Outcome) : List Lexeme → Type 0 where
+pub data IsPast (o : ElaboratedFile) : List Lexeme → Type 0 where
   Threads : {ks : List Lexeme} (p : Program) →
       AreWhole o p ks →
       most_threads < length p.threads →
@@ -109,11 +109,11 @@ pub data IsPast (o : Outcome) : List Lexeme → Type 0 where
       → IsPast o (ks ++ front ++ Named callee ∷ Marked signs.OpenParen ∷ js ++ Marked signs.Semicolon ∷ [])
 
 -- the tokens are not the beginning of any program of the file
-abbrev pub GoesNowhere : Outcome → List Lexeme → Type 0
+abbrev pub GoesNowhere : ElaboratedFile → List Lexeme → Type 0
 GoesNowhere o ks = (p : Program) (more : List Lexeme) → Spells p (ks ++ more) → IsProgramOf o p → ⊥
 
 abbrev pub FaultsStand : Type 0
 FaultsStand =
-    (o : Outcome) (ks js : List Lexeme) → (IsBad o ks js → GoesNowhere o (ks ++ js)) ×
+    (o : ElaboratedFile) (ks js : List Lexeme) → (IsBad o ks js → GoesNowhere o (ks ++ js)) ×
     (IsUnknown o ks js → GoesNowhere o (ks ++ js))
     × (IsReference o ks js → GoesNowhere o (ks ++ js)) × (IsPast o ks → GoesNowhere o ks)

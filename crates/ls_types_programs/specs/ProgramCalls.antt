@@ -9,7 +9,7 @@ use Rattle.ls_checked.specs.CheckedProgram.{SetupName, ProgramCall, Making, Call
 use Rattle.ls_types_elaboration.specs.Trees.{Text}
 use Rattle.ls_types_elaboration.specs.Known.{MethodSign, method_named, methods_in, parameters_in}
 use Rattle.ls_types_elaboration.specs.TypedExpressions.{digits_value}
-use Rattle.ls_types_elaboration.specs.Elaboration.{Outcome}
+use Rattle.ls_types_elaboration.specs.Elaboration.{ElaboratedFile}
 
 -- what is called: the constructor of a class, for a new setup name; or a method of the object that a setup name holds
 pub data Callee : Type 0 where
@@ -31,7 +31,7 @@ setup_named [] name = None
 setup_named (n ∷ ns) name = if bytes_eq n.name name then Some 0 else option_map (λ i. i + 1) (setup_named ns name)
 
 -- a class of the file
-abbrev pub maker : Outcome → Text → Text → Option ℕ → Option Pending
+abbrev pub maker : ElaboratedFile → Text → Text → Option ℕ → Option Pending
 maker o name class_name None = None
 maker o name class_name (Some c) = Some (pending (Maker name c class_name) (parameters_in (slice_get o.signs c)))
 
@@ -48,11 +48,11 @@ callable n name (Some m) = if is_plain m.result then Some (pending (Method n m.n
     None
 
 -- a method of the class of the object that a setup name holds
-abbrev pub method_on : Outcome → Option SetupName → Text → Option MethodSign
+abbrev pub method_on : ElaboratedFile → Option SetupName → Text → Option MethodSign
 method_on o None name = None
 method_on o (Some s) name = method_named (methods_in (slice_get o.signs s.class)) name
 
-abbrev pub called_on : Outcome → ℕ → Option SetupName → Text → Option Pending
+abbrev pub called_on : ElaboratedFile → ℕ → Option SetupName → Text → Option Pending
 called_on o n s name = callable n name (method_on o s name)
 
 -- an int or a boolean where one is wanted

@@ -11,7 +11,7 @@ use Rattle.ls_events.specs.declared.value.ValueType.TheVariants as types
 use Rattle.ls_checked.specs.CheckedProgram.{SetupName, ProgramCall, Making, Calling, ThreadProgram, Program}
 use Rattle.ls_types_elaboration.specs.Trees.{Text}
 use Rattle.ls_types_elaboration.specs.Known.{MethodSign, number_of, method_named, methods_in, parameters_in}
-use Rattle.ls_types_elaboration.specs.Elaboration.{Outcome}
+use Rattle.ls_types_elaboration.specs.Elaboration.{ElaboratedFile}
 use Rattle.ls_types_programs.specs.Spelled.{Spells}
 
 -- an argument is an int or a boolean
@@ -44,7 +44,7 @@ IsNewThread (t ∷ ts) name = (t.name ≢ name) × IsNewThread ts name
 -- The calls of a block. The first list has the setup names that are given before it, the last list those after it. A
 -- making is in the setup alone. It gives a new name, and makes an object of a class of the file. A call is on a name
 -- that is given. Its method is in the class of that object, and answers an int, a boolean or nothing.
-pub data AreCallsOf (o : Outcome) (in_setup : Bool) : List SetupName → List ProgramCall → List SetupName → Type 0 where
+pub data AreCallsOf (o : ElaboratedFile) (in_setup : Bool) : List SetupName → List ProgramCall → List SetupName → Type 0 where
   End : {names : List SetupName} → AreCallsOf o in_setup names [] names
   Makes : {names all : List SetupName} {cs : List ProgramCall} (s : SetupName) (class_name : Text) (vs : List Value)
       → in_setup ≡ true → IsNewName names s.name
@@ -60,7 +60,7 @@ pub data AreCallsOf (o : Outcome) (in_setup : Bool) : List SetupName → List Pr
 
 -- The threads of the last list come after those of the first list. Each of them has a name of its own, other than
 -- `all`, and at most `most_calls` calls. It gives no setup name.
-pub data AreThreadsOf (o : Outcome) (names : List SetupName) : List ThreadProgram → List ThreadProgram → Type 0 where
+pub data AreThreadsOf (o : ElaboratedFile) (names : List SetupName) : List ThreadProgram → List ThreadProgram → Type 0 where
   End : {before : List ThreadProgram} → AreThreadsOf o names before []
   Thread : {before ts : List ThreadProgram} (t : ThreadProgram)
       → t.name ≢ codes "all" → IsNewThread before t.name
@@ -70,7 +70,7 @@ pub data AreThreadsOf (o : Outcome) (names : List SetupName) : List ThreadProgra
 
 -- The program of a file: thread 0 is named `setup` and gives the setup names. There are at most `most_threads` other
 -- threads.
-pub record IsProgramOf (o : Outcome) (p : Program) : Type 0 where
+pub record IsProgramOf (o : ElaboratedFile) (p : Program) : Type 0 where
   pub setup : List ProgramCall
   pub threads : List ThreadProgram
   pub parts : p.threads ≡ record { name = codes "setup"; calls = setup } ∷ threads
@@ -80,7 +80,7 @@ pub record IsProgramOf (o : Outcome) (p : Program) : Type 0 where
   pub others : AreThreadsOf o p.names (record { name = codes "setup"; calls = setup } ∷ []) threads
 
 -- The text is not too long, its tokens spell the program, and the program is one of the file.
-pub record IsTextOf (o : Outcome) (p : Program) (text : Text) : Type 0 where
+pub record IsTextOf (o : ElaboratedFile) (p : Program) (text : Text) : Type 0 where
   pub short : length text ≤ 262144
   pub tokens : List Lexeme
   pub lexed : tokens_of text ≡ Some tokens

@@ -7,7 +7,7 @@ use Rattle.ls_lexer.specs.Places.{InOrder, StandsAt}
 use Rattle.ls_lexer.specs.Tokens.{tokens_of}
 use Rattle.ls_checked.specs.CheckedProgram.{Program}
 use Rattle.ls_types_elaboration.specs.Trees.{Text}
-use Rattle.ls_types_elaboration.specs.Elaboration.{Outcome}
+use Rattle.ls_types_elaboration.specs.Elaboration.{ElaboratedFile}
 use Rattle.ls_types_programs.specs.Spelled.{Spells}
 use Rattle.ls_types_programs.specs.Faults.{GoesOn, IsBad, IsPast}
 
@@ -36,7 +36,7 @@ pub record ShowsAt (Fault : List Lexeme → List Lexeme → Type 0) (text : Text
 
 -- No gap and no token begins at the place. Or the text ends there, and its tokens aren't a program yet. Or a token or
 -- name there is one that can't come.
-pub data IsBadAt (o : Outcome) (text : Text) (at : ℕ) : Type 0 where
+pub data IsBadAt (o : ElaboratedFile) (text : Text) (at : ℕ) : Type 0 where
   NoToken : (fault : TextFault) → StandsAt text at fault → tokens_of text ≡ None → IsBadAt o text at
   Ends : (ks : List Lexeme) →
       tokens_of text ≡ Some ks →
@@ -47,6 +47,6 @@ pub data IsBadAt (o : Outcome) (text : Text) (at : ℕ) : Type 0 where
   Within : ShowsAt (IsBad o) text at → IsBadAt o text at
 
 -- more than 262,144 bytes, or too many threads or calls
-pub data PassesLimit (o : Outcome) (text : Text) : Type 0 where
+pub data PassesLimit (o : ElaboratedFile) (text : Text) : Type 0 where
   Bytes : 262144 < length text → PassesLimit o text
   Tokens : (ks rest : List Lexeme) → tokens_of text ≡ Some (ks ++ rest) → IsPast o ks → PassesLimit o text

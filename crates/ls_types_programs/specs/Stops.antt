@@ -9,7 +9,7 @@ use Rattle.ls_events.specs.declared.value.Value.{Value}
 use Rattle.ls_events.specs.declared.value.ValueType.{ValueType}
 use Rattle.ls_types_elaboration.specs.Trees.{Text}
 use Rattle.ls_types_elaboration.specs.Known.{MethodSign}
-use Rattle.ls_types_elaboration.specs.Elaboration.{Outcome}
+use Rattle.ls_types_elaboration.specs.Elaboration.{ElaboratedFile}
 use Rattle.ls_types_programs.specs.ProgramCalls.{Pending, method_on, plain_number}
 use Rattle.ls_types_programs.specs.ThreadPrograms.{Stage, AtSetup, AtBlock, AtCall, AfterName, AfterAssign, AfterNew}
 use Rattle.ls_types_programs.specs.ThreadPrograms.{AfterDot, AtArguments, AtFirst, AtArgument, AfterMinus}
@@ -41,7 +41,7 @@ abbrev pub why_method : Option MethodSign → Why
 why_method None = NoMethod
 why_method (Some m) = Reference
 
-abbrev pub why_dot : Outcome → Parts → ℕ → Option Text → Why
+abbrev pub why_dot : ElaboratedFile → Parts → ℕ → Option Text → Why
 why_dot o r n None = Form
 why_dot o r n (Some method) = why_method (method_on o (slice_get r.names n) method)
 
@@ -78,7 +78,7 @@ why_thread_name None = Form
 why_thread_name (Some name) = ThreadTaken
 
 -- why a token can't come at a stage; this is asked only if it can't
-abbrev pub why : Outcome → Parts → Stage → Lexeme → Why
+abbrev pub why : ElaboratedFile → Parts → Stage → Lexeme → Why
 why o r AtSetup k = Form
 why o r AtBlock k = Form
 why o r AtCall k = Form
@@ -162,7 +162,7 @@ goes_on fault on None = Some fault
 goes_on fault on (Some next) = on next
 
 -- the fault of the first token that can't come, or of the end
-abbrev pub stops : Outcome → ℕ → Marks → Reading → List Token → Option Fault
+abbrev pub stops : ElaboratedFile → ℕ → Marks → Reading → List Token → Option Fault
 stops o end m q [] = fault_at_end end (ended q.stage)
 stops o end m q (t ∷ ts) =
     goes_on (fault_for m t.span.start (why o q.parts q.stage (lexeme_of t.kind)))

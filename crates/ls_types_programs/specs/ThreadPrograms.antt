@@ -17,7 +17,7 @@ use Rattle.ls_events.specs.declared.value.Value.TheVariants as values
 use Rattle.ls_checked.specs.CheckedProgram.{SetupName, ProgramCall, ThreadProgram, Program}
 use Rattle.ls_types_elaboration.specs.Trees.{Text}
 use Rattle.ls_types_elaboration.specs.Known.{number_of}
-use Rattle.ls_types_elaboration.specs.Elaboration.{Outcome}
+use Rattle.ls_types_elaboration.specs.Elaboration.{ElaboratedFile}
 use Rattle.ls_types_programs.specs.ProgramCalls.{Pending, setup_named, maker, called_on, with_argument, is_full}
 use Rattle.ls_types_programs.specs.ProgramCalls.{plain_number, minus_number, call_of, names_after}
 
@@ -120,11 +120,11 @@ after_name r name k =
     else if is_sign signs.Dot k then used r (setup_named r.names name)
     else None
 
-abbrev pub after_new : Outcome → Parts → Text → Option Text → Option Reading
+abbrev pub after_new : ElaboratedFile → Parts → Text → Option Text → Option Reading
 after_new o r name None = None
 after_new o r name (Some class) = with_call r AtArguments (maker o name class (number_of o.names class))
 
-abbrev pub after_dot : Outcome → Parts → ℕ → Option Text → Option Reading
+abbrev pub after_dot : ElaboratedFile → Parts → ℕ → Option Text → Option Reading
 after_dot o r n None = None
 after_dot o r n (Some method) = with_call r AtArguments (called_on o n (slice_get r.names n) method)
 
@@ -185,7 +185,7 @@ at_thread_name r None = None
 at_thread_name r (Some name) =
     when (not (bytes_eq name (codes "all")) && not (thread_named r.threads name)) (at (named r name) AtBlock)
 
-abbrev pub stepped : Outcome → Parts → Stage → Lexeme → Option Reading
+abbrev pub stepped : ElaboratedFile → Parts → Stage → Lexeme → Option Reading
 stepped o r AtSetup k = when (is_text (codes "setup") (name_in k)) (at r AtBlock)
 stepped o r AtBlock k = when (is_sign signs.OpenBrace k) (at r AtCall)
 stepped o r AtCall k = at_call r k (name_in k)
@@ -202,7 +202,7 @@ stepped o r (AtSemicolon p) k = at_semicolon r p k
 stepped o r AtThread k = at_thread r k
 stepped o r AtThreadName k = at_thread_name r (name_in k)
 
-abbrev pub after : Outcome → Option Reading → List Lexeme → Option Reading
+abbrev pub after : ElaboratedFile → Option Reading → List Lexeme → Option Reading
 after o None ks = None
 after o (Some r) [] = Some r
 after o (Some r) (k ∷ ks) = after o (stepped o r.parts r.stage k) ks
@@ -219,10 +219,10 @@ whole (Some r) = if ended r.stage then Some (record { names = r.parts.names; thr
 abbrev pub beginning : Reading
 beginning = at (record { names = []; threads = []; name = codes "setup"; calls = [] }) AtSetup
 
-abbrev pub program_of_tokens : Outcome → Option (List Lexeme) → Option Program
+abbrev pub program_of_tokens : ElaboratedFile → Option (List Lexeme) → Option Program
 program_of_tokens o None = None
 program_of_tokens o (Some ks) = whole (after o (Some beginning) ks)
 
 -- the program that a text is for a file, if it is one
-abbrev pub program_of : Outcome → Text → Option Program
+abbrev pub program_of : ElaboratedFile → Text → Option Program
 program_of o text = if nat_le (length text) most_bytes then program_of_tokens o (tokens_of text) else None

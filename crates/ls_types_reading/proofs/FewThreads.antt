@@ -4,7 +4,7 @@ use Rattle.std.proofs.lemmas.List.{length-map}
 use Rattle.ls_checked.specs.CheckedProgram.{Program}
 use Rattle.ls_checked.specs.PlainProgram.{plain_thread}
 use Rattle.ls_lexer.specs.Lexemes.{Lexeme}
-use Rattle.ls_types_elaboration.specs.Elaboration.{Outcome}
+use Rattle.ls_types_elaboration.specs.Elaboration.{ElaboratedFile}
 use Rattle.ls_types_laws.proofs.ProgramLimits.{tokens_ranged}
 use Rattle.ls_types_programs.specs.ThreadPrograms.{after, beginning, program_of_tokens, whole}
 use Rattle.ls_types_reading.specs.ReadingViews.{reading_of}
@@ -12,7 +12,7 @@ use Rattle.ls_types_reading.specs.declared.reading.Parts.{Parts}
 use Rattle.ls_types_reading.specs.declared.reading.Stage.{Stage}
 use Rattle.ls_types_reading.specs.declared.reading.Stage.TheVariants as stages
 
-pub few_threads : (o : Outcome) (ks : List Lexeme) (r : Parts) (s : Stage) →
+pub few_threads : (o : ElaboratedFile) (ks : List Lexeme) (r : Parts) (s : Stage) →
     after o (Some beginning) ks ≡ Some (reading_of r s) →
     s ≡ stages.AtThread
     → length r.threads.items ≤ 65

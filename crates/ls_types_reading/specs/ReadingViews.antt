@@ -1,15 +1,15 @@
 -- What contracts see of a program that is being read.
 use Rattle.std.specs.Prelude.{◌≡◌, ℕ, map, string_bytes, Option, Some, Result, Ok, Err, option_map}
 use Rattle.ls_checked.specs.PlainProgram.{plain_call, plain_thread}
-use Rattle.ls_types.specs.declared.fault.ProgramFault.{ProgramFault}
+use Rattle.ls_types_checked.specs.declared.fault.ProgramFault.{ProgramFault}
 use Rattle.ls_types_reading.specs.declared.reading.Stage.{Stage}
 use Rattle.ls_types_reading.specs.declared.reading.Stage.TheVariants as stages
 use Rattle.ls_types_reading.specs.declared.reading.Parts.{Parts}
 use Rattle.ls_types_programs.specs.ThreadPrograms as programs
-use Rattle.ls_types.specs.ProgramRefusals.{Says}
+use Rattle.ls_types_checked.specs.ProgramRefusals.{Says}
 use Rattle.ls_types_programs.specs.Stops.{Marks, unmarked, name_mark, callee_mark, minus_mark, marked, Why, Fault}
 use Rattle.ls_types_programs.specs.Stops.{fault_for, fault_at_end}
-use Rattle.ls_types.specs.ProgramViews.{pending_of, fault_seen, IsFault}
+use Rattle.ls_types_checked.specs.ProgramViews.{pending_of, fault_seen, IsFault}
 
 abbrev pub stage_of : Stage → programs.Stage
 stage_of stages.AtSetup = programs.AtSetup

@@ -2,7 +2,7 @@
 
 ghost use Rattle.std.specs.Prelude.{◌≡◌, IfOk, map, option_map};
 ghost use Rattle.ls_checked.specs.PlainProgram.{plain_name};
-ghost use Rattle.ls_types.specs.CheckedFile.{outcome_of, signs_of};
+ghost use Rattle.ls_types_checked.specs.CheckedFile.{elaborated_file, signs_of};
 ghost use Rattle.ls_types_elaboration.specs.Known.{method_named};
 ghost use Rattle.ls_types_elaboration.specs.Trees.{Text};
 ghost use Rattle.ls_types_elaboration.specs.Tables.{class_sign_of, method_sign_of};
@@ -12,7 +12,7 @@ ghost use Rattle.ls_types_reading.specs.MethodsByName.{declares, finds, Finds};
 use crate::by_name::{give, value_named};
 use indexmap::IndexMap;
 use ls_checked::program::SetupName;
-use ls_types::checked::Checked;
+use ls_types_checked::checked::Checked;
 use ls_types_elaboration::known::{ClassSign, MethodSign};
 use std::alloc::{AllocError, Global};
 
@@ -63,7 +63,7 @@ impl<'c> Methods<'c> {
     /// The method of a name, in the class of the object that a setup name holds, or none.
     pub fn method_on(&self, setup: Option<&SetupName>, name: &str) -> Option<&'c MethodSign>
         ensures { option_map (λ m. method_sign_of m.now) result ≡
-            method_on (outcome_of self.now.checked.now) (option_map (λ s. plain_name s.now) setup.entry) name.now }
+            method_on (elaborated_file self.now.checked.now) (option_map (λ s. plain_name s.now) setup.entry) name.now }
     {
         match setup {
             None => None,

@@ -4,16 +4,16 @@ ghost use Rattle.std.specs.Prelude.{◌≡◌, ℕ, IfOk, IfErr, Ok, Some};
 ghost use Rattle.ls_lexer.specs.Lexemes.{lexemes};
 ghost use Rattle.ls_lexer.specs.Places.{Refused};
 ghost use Rattle.ls_types_elaboration.specs.Trees.{File, Text};
-ghost use Rattle.ls_types_elaboration.specs.Elaboration.{Outcome, elaborated};
+ghost use Rattle.ls_types_elaboration.specs.Elaboration.{ElaboratedFile, elaborated};
 ghost use Rattle.ls_checked.specs.PlainProgram.{plain_program};
 ghost use Rattle.ls_types_judgement.specs.WellTyped.{IsWellTypedProgram};
-ghost use Rattle.ls_types.specs.CheckedFile.{outcome_of};
+ghost use Rattle.ls_types_checked.specs.CheckedFile.{elaborated_file};
 ghost use Rattle.ls_types_programs.specs.ThreadPrograms.{after, beginning, program_of, program_of_tokens};
 ghost use Rattle.ls_types_programs.specs.Programs.{IsTextOf};
 ghost use Rattle.ls_types_programs.specs.Stops.{stops, unmarked};
-ghost use Rattle.ls_types.specs.ProgramViews.{ReadsAs, Refuses};
+ghost use Rattle.ls_types_checked.specs.ProgramViews.{ReadsAs, Refuses};
 ghost use Rattle.ls_types_reading.specs.ReadingViews.{parts_of, reading_of, StopsAt, StopsWith};
-ghost use Rattle.ls_types.specs.ProgramRefusals.{Stands};
+ghost use Rattle.ls_types_checked.specs.ProgramRefusals.{Stands};
 
 use crate::methods::Methods;
 use crate::reading::{Parts, Stage};
@@ -22,8 +22,8 @@ use ls_checked::program::Program;
 use ls_lexer::fault::TextFault;
 use ls_lexer::lexing::lex;
 use ls_lexer::token::Token;
-use ls_types::checked::Checked;
-use ls_types::fault::ProgramFault;
+use ls_types_checked::checked::Checked;
+use ls_types_checked::fault::ProgramFault;
 use ls_types_laws::reads_well_typed;
 use std::alloc::{AllocError, Global};
 
@@ -47,9 +47,9 @@ fn read_tokens<'a>(
 ) -> Result<Stage<'a>, ProgramFault>
     requires { parts_of parts.old ≡ beginning.parts }
     ensures read { ReadsAs (reading_of parts.new) result
-        (after (outcome_of methods.now.checked.now) (Some beginning) (lexemes tokens.now)) }
+        (after (elaborated_file methods.now.checked.now) (Some beginning) (lexemes tokens.now)) }
     ensures place { (end : ℕ) →
-        StopsAt end (stops (outcome_of methods.now.checked.now) end unmarked beginning tokens.now) result }
+        StopsAt end (stops (elaborated_file methods.now.checked.now) end unmarked beginning tokens.now) result }
 {
     let mut stage = Stage::AtSetup;
     for token in tokens {
@@ -66,9 +66,9 @@ fn whole<'a>(
     end: usize,
 ) -> Result<Program, ProgramFault>
     ensures read { ReadsAs plain_program result
-        (program_of_tokens (outcome_of methods.now.checked.now) (Some (lexemes tokens.now))) }
+        (program_of_tokens (elaborated_file methods.now.checked.now) (Some (lexemes tokens.now))) }
     ensures place { IfErr result
-        (λ e. StopsWith e (stops (outcome_of methods.now.checked.now) end unmarked beginning tokens.now)) }
+        (λ e. StopsWith e (stops (elaborated_file methods.now.checked.now) end unmarked beginning tokens.now)) }
 {
     let mut parts = beginning(alloc)?;
     let stage = read_tokens(alloc, methods, &mut parts, tokens)?;
@@ -83,8 +83,8 @@ fn whole<'a>(
 
 #[tactic(auto, using(crate::proofs::Standing::too_long))]
 fn fault_of(fault: TextFault) -> ProgramFault
-    ensures refused { (text : Text) → Refused text fault → (o : Outcome) → Refuses result (program_of o text) }
-    ensures stands { (text : Text) → Refused text fault → (o : Outcome) → Stands o text result }
+    ensures refused { (text : Text) → Refused text fault → (o : ElaboratedFile) → Refuses result (program_of o text) }
+    ensures stands { (text : Text) → Refused text fault → (o : ElaboratedFile) → Stands o text result }
 {
     match fault {
         TextFault::Memory => ProgramFault::Memory,
@@ -99,10 +99,10 @@ fn fault_of(fault: TextFault) -> ProgramFault
 
 #[tactic(auto, using(crate::proofs::Standing::program_stands, crate::proofs::Standing::program_spelled))]
 fn read(alloc: Global, text: &str, checked: &Checked) -> Result<Program, ProgramFault>
-    ensures read { IfOk result (λ p. program_of (outcome_of checked.now) text.now ≡ Some (plain_program p)) }
-    ensures spelled { IfOk result (λ p. IsTextOf (outcome_of checked.now) (plain_program p) text.now) }
-    ensures refused { IfErr result (λ e. Refuses e (program_of (outcome_of checked.now) text.now)) }
-    ensures stands { IfErr result (λ e. Stands (outcome_of checked.now) text.now e) }
+    ensures read { IfOk result (λ p. program_of (elaborated_file checked.now) text.now ≡ Some (plain_program p)) }
+    ensures spelled { IfOk result (λ p. IsTextOf (elaborated_file checked.now) (plain_program p) text.now) }
+    ensures refused { IfErr result (λ e. Refuses e (program_of (elaborated_file checked.now) text.now)) }
+    ensures stands { IfErr result (λ e. Stands (elaborated_file checked.now) text.now e) }
 {
     match lex(alloc, text) {
         Ok(tokens) => {
@@ -125,13 +125,13 @@ fn read(alloc: Global, text: &str, checked: &Checked) -> Result<Program, Program
 ///   - `ReferenceResult`: a method that answers a reference;
 ///   - `ProgramLimit`: over 262,144 bytes, over 64 threads beside the setup, or over 256 calls of a thread.
 pub fn read_program(alloc: Global, text: &str, checked: &Checked) -> Result<Program, ProgramFault>
-    ensures read { IfOk result (λ p. program_of (outcome_of checked.now) text.now ≡ Some (plain_program p)) }
-    ensures typed { IfOk result (λ p. (f : File) → elaborated f ≡ Ok (outcome_of checked.now) →
-        IsWellTypedProgram (outcome_of checked.now).file (plain_program p)) }
-    ensures kept { IfOk result (λ p. ∥ IsWellTypedProgram (outcome_of checked.now).file (plain_program p) ∥₁) }
-    ensures spelled { IfOk result (λ p. IsTextOf (outcome_of checked.now) (plain_program p) text.now) }
-    ensures refused { IfErr result (λ e. Refuses e (program_of (outcome_of checked.now) text.now)) }
-    ensures stands { IfErr result (λ e. Stands (outcome_of checked.now) text.now e) }
+    ensures read { IfOk result (λ p. program_of (elaborated_file checked.now) text.now ≡ Some (plain_program p)) }
+    ensures typed { IfOk result (λ p. (f : File) → elaborated f ≡ Ok (elaborated_file checked.now) →
+        IsWellTypedProgram (elaborated_file checked.now).file (plain_program p)) }
+    ensures kept { IfOk result (λ p. ∥ IsWellTypedProgram (elaborated_file checked.now).file (plain_program p) ∥₁) }
+    ensures spelled { IfOk result (λ p. IsTextOf (elaborated_file checked.now) (plain_program p) text.now) }
+    ensures refused { IfErr result (λ e. Refuses e (program_of (elaborated_file checked.now) text.now)) }
+    ensures stands { IfErr result (λ e. Stands (elaborated_file checked.now) text.now e) }
 {
     reads_well_typed();
     let program = read(alloc, text, checked)?;

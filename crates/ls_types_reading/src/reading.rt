@@ -2,7 +2,7 @@
 
 use crate::setup_names::SetupNames;
 use ls_checked::program::{ProgramCall, ThreadProgram};
-use ls_types::calls::Pending;
+use ls_types_checked::calls::Pending;
 
 /// What comes next.
 #[derive(Drop)]

@@ -3,7 +3,7 @@
 ghost use Rattle.std.specs.Prelude.{◌≡◌, ◌++◌, ◌∷◌, [], IfOk, List, length, map, option_map, slice_get};
 ghost use Rattle.ls_checked.specs.CheckedProgram.{SetupName as Named};
 ghost use Rattle.ls_checked.specs.PlainProgram.{plain_name};
-ghost use Rattle.ls_types.specs.ProgramViews.{callee_of};
+ghost use Rattle.ls_types_checked.specs.ProgramViews.{callee_of};
 ghost use Rattle.ls_types_elaboration.specs.Trees.{Text};
 ghost use Rattle.ls_types_programs.specs.ProgramCalls.{setup_named, names_after};
 ghost use Rattle.ls_types_reading.specs.ByName.{entries_of, value_named};
@@ -11,7 +11,7 @@ ghost use Rattle.ls_types_reading.specs.ByName.{entries_of, value_named};
 use crate::by_name::{give, value_named};
 use indexmap::IndexMap;
 use ls_checked::program::SetupName;
-use ls_types::calls::Callee;
+use ls_types_checked::calls::Callee;
 use std::alloc::{AllocError, Global};
 use std::marker::Model;
 

@@ -3,7 +3,7 @@
 ghost use Rattle.std.specs.Prelude.{◌≡◌, IfErr, IfOk, map, option_copied};
 ghost use Rattle.ls_lexer.specs.Lexemes.{lexeme_of};
 ghost use Rattle.ls_checked.specs.PlainProgram.{plain_thread};
-ghost use Rattle.ls_types.specs.CheckedFile.{outcome_of};
+ghost use Rattle.ls_types_checked.specs.CheckedFile.{elaborated_file};
 ghost use Rattle.ls_types_programs.specs.ThreadPrograms.{is_sign, is_word, name_in, number_in, stepped, at_call};
 ghost use Rattle.ls_types_programs.specs.ThreadPrograms.{after_name, after_new, after_dot, argument, after_minus};
 ghost use Rattle.ls_types_programs.specs.ThreadPrograms.{at_first, after_argument, at_semicolon, at_thread_name};
@@ -15,7 +15,7 @@ ghost use Rattle.ls_types_programs.specs.Stops.{fault_for, Form, TooFew, unmarke
 ghost use Rattle.ls_types_programs.specs.Stops.{minus_mark, why, why_name, why_new, why_dot, why_value, why_argument};
 ghost use Rattle.ls_types_programs.specs.Stops.{why_minus, why_first, why_after, why_semicolon, why_thread};
 ghost use Rattle.ls_types_programs.specs.Stops.{why_thread_name};
-ghost use Rattle.ls_types.specs.ProgramViews.{pending_of, fault_seen, ReadsAs};
+ghost use Rattle.ls_types_checked.specs.ProgramViews.{pending_of, fault_seen, ReadsAs};
 ghost use Rattle.ls_types_reading.specs.ReadingViews.{parts_of, stage_of, reading_of, marks_of, Goes};
 ghost use Rattle.ls_types_reading.specs.declared.reading.Stage.TheVariants.{AtSemicolon as at_semicolon_stage};
 
@@ -28,10 +28,10 @@ use ls_events::value::Value;
 use ls_lexer::sign::Sign;
 use ls_lexer::token::{Token, TokenKind};
 use ls_lexer::word::Word;
-use ls_types::calls::{
+use ls_types_checked::calls::{
     Pending, call_of, called_on, is_full, maker, minus_number, plain_number, with_argument,
 };
-use ls_types::fault::ProgramFault;
+use ls_types_checked::fault::ProgramFault;
 use std::alloc::{AllocError, Global};
 use std::mem;
 
@@ -114,10 +114,10 @@ impl Parts {
         token: Token<'a>,
     ) -> Result<Stage<'a>, ProgramFault>
         ensures read { ReadsAs (reading_of self.new) result
-            (stepped (outcome_of methods.now.checked.now) (parts_of self.old) (stage_of stage.entry)
+            (stepped (elaborated_file methods.now.checked.now) (parts_of self.old) (stage_of stage.entry)
             (lexeme_of token.entry.kind)) }
         ensures place { Goes (marks_of stage.entry) token.entry.span.start
-            (why (outcome_of methods.now.checked.now) (parts_of self.old) (stage_of stage.entry)
+            (why (elaborated_file methods.now.checked.now) (parts_of self.old) (stage_of stage.entry)
             (lexeme_of token.entry.kind)) result }
     {
         let kind = token.kind;
@@ -211,7 +211,7 @@ impl Parts {
         token: Token<'a>,
     ) -> Result<Stage<'a>, ProgramFault>
         ensures read { ReadsAs (reading_of self.now) result
-            (after_new (outcome_of methods.now.checked.now) (parts_of self.now) name.entry.now
+            (after_new (elaborated_file methods.now.checked.now) (parts_of self.now) name.entry.now
             (name_in (lexeme_of token.entry.kind))) }
         ensures place { Goes unmarked token.entry.span.start (why_new (name_in (lexeme_of token.entry.kind))) result }
     {
@@ -230,10 +230,10 @@ impl Parts {
         token: Token<'a>,
     ) -> Result<Stage<'a>, ProgramFault>
         ensures read { ReadsAs (reading_of self.now) result
-            (after_dot (outcome_of methods.now.checked.now) (parts_of self.now) n
+            (after_dot (elaborated_file methods.now.checked.now) (parts_of self.now) n
             (name_in (lexeme_of token.entry.kind))) }
         ensures place { Goes unmarked token.entry.span.start
-            (why_dot (outcome_of methods.now.checked.now) (parts_of self.now) n (name_in (lexeme_of token.entry.kind)))
+            (why_dot (elaborated_file methods.now.checked.now) (parts_of self.now) n (name_in (lexeme_of token.entry.kind)))
             result }
     {
         let at = token.span.start;

@@ -2,7 +2,7 @@
 
 ghost use Rattle.std.specs.Prelude.{◌≡◌, Err, Ok, if◌then◌else◌};
 
-use ls_types::fault::ProgramFault;
+use ls_types_checked::fault::ProgramFault;
 
 /// `x`, if it passes. Else it is refused with `fault`.
 pub fn passing<T: Drop>(x: T, passes: bool, fault: ProgramFault) -> Result<T, ProgramFault>

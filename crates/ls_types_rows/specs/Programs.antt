@@ -10,13 +10,13 @@ use Rattle.ls_events.specs.declared.value.Value.TheVariants as values
 use Rattle.ls_events.specs.declared.value.ValueType.TheVariants as types
 use Rattle.ls_checked.specs.CheckedProgram.{SetupName, ProgramCall, Making, Calling, ThreadProgram, Program}
 use Rattle.ls_types_elaboration.specs.Trees.{Text}
-use Rattle.ls_types_elaboration.specs.Elaboration.{Outcome}
+use Rattle.ls_types_elaboration.specs.Elaboration.{ElaboratedFile}
 use Rattle.ls_types_programs.specs.ProgramCalls.{Method, pending}
 use Rattle.ls_types_programs.specs.ThreadPrograms.{at_semicolon, program_of, program_of_tokens}
 use Rattle.ls_types_rows.specs.Written.{first, second}
 
 -- class A { A(int x) int f(int x, boolean y) void v() }, class B { B() A g() }
-abbrev pub outcome : Outcome
+abbrev pub outcome : ElaboratedFile
 outcome = record {
   names = codes "A" ∷ codes "B" ∷ [];
   signs = first ∷ second ∷ [];

@@ -35,7 +35,7 @@ use ls_types_elaboration::static_types::Static;
 use ls_types_elaboration::together::also;
 use ls_types_expressions::expressions::{fitting, typed};
 use ls_types_expressions::places::span_of;
-use ls_types_expressions::simples::simples;
+use ls_types_expressions::simple_values::simples;
 use ls_types_expressions::site::Site;
 use std::alloc::{AllocError, Global};
 

@@ -35,7 +35,7 @@ use ls_types_elaboration::loops::LoopPart;
 use ls_types_elaboration::rule::CheckFault;
 use ls_types_elaboration::together::also;
 use ls_types_expressions::expressions::fitting;
-use ls_types_expressions::simples::{simple, simples};
+use ls_types_expressions::simple_values::{simple, simples};
 
 /// A statement. Refused only by a broken rule, or if memory runs out.
 #[cycle(statements)]

@@ -1,3 +1,4 @@
 pub mod Verdicts
 pub mod Outcomes
 pub mod Hopeless
+pub mod Cuts

@@ -19,9 +19,8 @@ use Rattle.ls_labels.specs.declared.label.Label.TheVariants as labels
 use Rattle.ls_labels.specs.Names.{Names}
 use Rattle.ls_state.specs.Scene.{Scene, scene_of}
 use Rattle.ls_state.specs.State.{things_text, names_text, state_text, threads_text}
-use Rattle.ls_state.specs.Each.{states_text}
-use Rattle.ls_drawing.specs.Drawing.{graph_of}
-use Rattle.ls_drawing.specs.Each.{drawings_text}
+use Rattle.ls_state.specs.Each.{drawings_text, states_text}
+use Rattle.ls_state.specs.Drawing.{graph_of}
 
 -- a class with these fields
 abbrev pub sign : List Text → ClassSign

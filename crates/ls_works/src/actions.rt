@@ -2,8 +2,9 @@
 
 ghost use Rattle.std.specs.Prelude.{◌≡◌, IsTrue};
 
-use crate::values::{is_same_kind, is_same_result, is_same_value};
+use crate::values::{is_same_kind, is_same_result};
 use ls_events::action::Action;
+use ls_events::same::is_same_value;
 use ls_events::value::Value;
 
 // Whether an action on a field or an item is the other.

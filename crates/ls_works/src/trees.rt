@@ -3,8 +3,8 @@
 ghost use Rattle.std.specs.Prelude.{◌≡◌, IsTrue};
 ghost use Rattle.ls_checked.specs.Plain.{plain, all_plain};
 
-use crate::values::is_same_value;
 use ls_checked::tree::{Called, Expression, Expressions, Operator};
+use ls_events::same::is_same_value;
 
 // Whether an operator on ints is the other.
 fn is_same_arithmetic(op: Operator, other: Operator) -> bool

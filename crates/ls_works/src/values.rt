@@ -3,31 +3,10 @@
 ghost use Rattle.std.specs.Prelude.{◌≡◌, IsTrue};
 
 use ls_events::kind::Kind;
+use ls_events::same::is_same_value;
 use ls_events::value::{Value, ValueType};
 use ls_meaning::completion::Completion;
 use ls_meaning::sort::Sort;
-
-/// Whether a value is the other. True only where it is.
-pub fn is_same_value(value: Value, other: Value) -> bool
-    ensures { IsTrue result → value ≡ other }
-{
-    match (value, other) {
-        (Value::Int(a), Value::Int(b)) => a == b,
-        (Value::Boolean(a), Value::Boolean(b)) => a == b,
-        (Value::Reference(a), Value::Reference(b)) => a == b,
-        (
-            Value::Pair {
-                reference: a,
-                mark: m,
-            },
-            Value::Pair {
-                reference: b,
-                mark: n,
-            },
-        ) => a == b && m == n,
-        _ => false,
-    }
-}
 
 /// Whether values are the same, one by one. True only where they are.
 pub fn are_same_values(values: &[Value], others: &[Value]) -> bool

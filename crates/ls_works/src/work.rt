@@ -8,9 +8,8 @@ ghost use Rattle.ls_source_pending.specs.SeenPending.{state_of};
 use crate::actions::is_same_action;
 use crate::statements::{are_same_statements, is_same_statement};
 use crate::trees::{are_same_expressions, is_same_called, is_same_expression, is_same_operator};
-use crate::values::{
-    are_same_values, is_same_answered, is_same_completion, is_same_sort, is_same_value,
-};
+use crate::values::{are_same_values, is_same_answered, is_same_completion, is_same_sort};
+use ls_events::same::is_same_value;
 use ls_source_pending::pending::Pending;
 use ls_source_pending::work::{Control, Ending, Frame, Operand, Purpose, Waiting};
 

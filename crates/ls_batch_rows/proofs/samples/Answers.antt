@@ -1,3 +1,5 @@
+-- Why `samples` in src/lib.rt keeps its contract.
+
 use Rattle.std.proofs.Common.{refl}
 use Rattle.ls_batch.specs.Samples.{draws}
 use Rattle.ls_batch_rows.proofs.samples.Goals as goal

@@ -1,3 +1,5 @@
+-- Why `threads` in src/lib.rt keeps its clauses `drawn_first`, `drawn_by_chance` and `goes_on`.
+
 use Rattle.std.proofs.Common.{refl}
 use Rattle.ls_batch_rows.proofs.threads.Goals as goal
 

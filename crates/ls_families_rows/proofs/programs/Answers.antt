@@ -1,3 +1,5 @@
+-- Why `programs` in src/lib.rt keeps its contract.
+
 use Rattle.std.proofs.Common.{refl}
 use Rattle.ls_families_rows.proofs.programs.Goals as goal
 

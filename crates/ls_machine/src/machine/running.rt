@@ -5,6 +5,7 @@ ghost use Rattle.ls_machine.specs.Staying.{turns};
 
 use super::{Machine, is_due};
 use crate::{staying, steps};
+use ls_code::step::Did;
 use ls_events::schedule::Schedule;
 
 /// Where the steps of a thread end that follow one another from a place on.
@@ -64,8 +65,9 @@ impl Machine {
 
     /// Takes a step of a thread that is silent. Else it does nothing and answers false.
     #[inline(always)]
-    fn moves_silently(&mut self, number: usize) -> bool
+    pub(crate) fn moves_silently(&mut self, number: usize) -> bool
         ensures silent { IsTrue result → self.new ≡ (machine_step self.old number).machine }
+        ensures did { IsTrue result → (machine_step self.old number).did ≡ Did.Silent }
         ensures left { result ≡ false → self.new ≡ self.old }
     {
         if number >= self.threads.len() {

@@ -1,3 +1,5 @@
+-- Why `acting` in src/lib.rt keeps its contract.
+
 use Rattle.std.proofs.Common.{refl}
 use Rattle.ls_machine_rows.proofs.acting.Goals as goal
 

@@ -1,3 +1,5 @@
+-- Why `frames` in src/lib.rt keeps its contract.
+
 use Rattle.std.proofs.Common.{refl}
 use Rattle.ls_machine_rows.proofs.frames.Goals as goal
 

@@ -1,3 +1,5 @@
+-- Why `locks` in src/lib.rt keeps its contract.
+
 use Rattle.std.proofs.Common.{refl}
 use Rattle.ls_machine_rows.proofs.locks.Goals as goal
 

@@ -1,3 +1,5 @@
+-- Why `silent` in src/lib.rt keeps its contract.
+
 use Rattle.std.proofs.Common.{refl}
 use Rattle.ls_machine_rows.proofs.silent.Goals as goal
 

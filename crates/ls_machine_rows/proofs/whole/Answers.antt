@@ -1,3 +1,5 @@
+-- Why `whole` in src/lib.rt keeps its clauses `due`, `waits_for_a_lock`, `stops_all` and `states`.
+
 use Rattle.std.proofs.Common.{refl}
 use Rattle.ls_machine_rows.proofs.whole.Goals as goal
 

@@ -1,3 +1,5 @@
+-- Why `words` in src/lib.rt keeps its contract.
+
 use Rattle.std.proofs.Common.{refl}
 use Rattle.ls_code.specs.Instructions.{table}
 use Rattle.ls_machine_rows.proofs.words.Goals as goal

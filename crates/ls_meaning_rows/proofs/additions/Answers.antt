@@ -1,3 +1,5 @@
+-- Why `additions` in src/lib.rt keeps its clauses `null_before_value`, `read_before_value` and `sums_wrap`.
+
 use Rattle.std.proofs.Common.{refl}
 use Rattle.std.specs.Int.{int_wrap}
 use Rattle.ls_meaning.specs.Methods.{invoke, depth_limit}

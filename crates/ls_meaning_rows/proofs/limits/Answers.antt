@@ -1,3 +1,5 @@
+-- Why `limits` in src/lib.rt keeps its contract.
+
 use Rattle.std.proofs.Common.{refl}
 use Rattle.ls_meaning.specs.Methods.{invoke, depth_limit}
 use Rattle.ls_meaning_rows.proofs.limits.Goals as goal

@@ -1,3 +1,5 @@
+-- Why `starts` in src/lib.rt keeps its clauses `products_of_zero` and `fields_start`.
+
 use Rattle.std.proofs.Common.{refl}
 use Rattle.std.specs.Int.{int_wrap}
 use Rattle.ls_meaning.specs.Methods.{invoke, depth_limit}

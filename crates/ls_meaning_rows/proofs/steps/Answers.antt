@@ -1,3 +1,5 @@
+-- Why `steps` in src/lib.rt keeps its contract.
+
 use Rattle.std.proofs.Common.{refl}
 use Rattle.std.specs.Int.{int_wrap}
 use Rattle.ls_meaning.specs.Methods.{invoke, depth_limit}

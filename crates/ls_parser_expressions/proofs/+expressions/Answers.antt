@@ -1,3 +1,5 @@
+-- Why the functions of the cycle `expressions` in src/lib.rt keep their contracts.
+
 use Rattle.std.proofs.Common.{◌≡◌, true, false, refl, arith}
 use Rattle.std.proofs.lemmas.Result.{err_from_is_err_and}
 use Rattle.ls_lexer.specs.Lexemes.{lexemes}

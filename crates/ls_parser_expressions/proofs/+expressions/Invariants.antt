@@ -1,3 +1,5 @@
+-- What the loops `rank` and `context` of the cycle `expressions` in src/lib.rt keep, and why the loops end.
+
 use Rattle.std.proofs.Common.{◌≡◌, ◌+◌, ◌-◌, ◌*◌, ◌<◌, ◌≤◌, false, Some, length, map}
 use Rattle.ls_lexer.specs.Lexemes.{lexemes}
 use Rattle.ls_tree.specs.WellFormed.{expression_height, expressions_height}

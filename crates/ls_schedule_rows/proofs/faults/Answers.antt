@@ -1,3 +1,5 @@
+-- Why `faults` in src/lib.rt keeps its contract.
+
 use Rattle.std.proofs.Common.{refl}
 use Rattle.ls_lexer.specs.Names.{is_name}
 use Rattle.ls_schedule_rows.proofs.faults.Goals as goal

@@ -1,3 +1,5 @@
+-- Why `limits` in src/lib.rt keeps its contract.
+
 use Rattle.ls_events.specs.Limits.{most_steps}
 use Rattle.std.proofs.Common.{◌≡◌, ◌∙◌, ◌*◌, ◌<◌, ℕ, zero, suc, List, length, refl, sym, ap, subst, arith, cond}
 use Rattle.std.proofs.Common.{replicate, Ok, Err}

@@ -1,3 +1,5 @@
+-- Why `printed` in src/lib.rt keeps its clauses `no_steps`, `steps_in_a_row` and `names_by_number`.
+
 use Rattle.std.proofs.Common.{refl}
 use Rattle.std.specs.Fmt.{digits}
 use Rattle.ls_schedule_rows.proofs.printed.Goals as goal

@@ -1,3 +1,5 @@
+-- Why `texts` in src/lib.rt keeps its contract.
+
 use Rattle.std.proofs.Common.{refl}
 use Rattle.ls_lexer.specs.Names.{is_name}
 use Rattle.ls_schedule_rows.proofs.texts.Goals as goal

@@ -1,3 +1,5 @@
+-- Why `rows` in src/lib.rt keeps its clauses `readable` and `unreadable`.
+
 use Rattle.std.proofs.Common.{refl}
 use Rattle.std.specs.Fmt.{digits}
 use Rattle.ls_lexer.specs.Names.{is_name}

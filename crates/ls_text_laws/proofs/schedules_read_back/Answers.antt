@@ -1,3 +1,5 @@
+-- Why `schedules_read_back` in src/lib.rt keeps its clauses `names`, `printed`, `read` and `again`.
+
 use Rattle.ls_text_laws.proofs.Schedules as schedules
 use Rattle.ls_text_laws.proofs.schedules_read_back.Goals as goal
 

@@ -1,3 +1,5 @@
+-- Why `reads_well_typed` in src/lib.rt keeps its contract.
+
 use Rattle.ls_types_laws.proofs.WellTyped.{well_typed_program}
 use Rattle.ls_types_laws.proofs.reads_well_typed.Goals as goal
 

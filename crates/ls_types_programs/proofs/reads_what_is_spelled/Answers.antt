@@ -1,3 +1,5 @@
+-- Why `reads_what_is_spelled` in src/lib.rt keeps its clauses `law`, `one` and `named`.
+
 use Rattle.ls_types_programs.proofs.Names as names
 use Rattle.ls_types_programs.proofs.Whole as whole
 use Rattle.ls_types_programs.proofs.reads_what_is_spelled.Goals as goal

@@ -1,3 +1,5 @@
+-- Why `monitors` in src/lib.rt keeps its contract.
+
 use Rattle.std.proofs.Common.{refl}
 use Rattle.ls_types_rows.proofs.monitors.Goals as goal
 

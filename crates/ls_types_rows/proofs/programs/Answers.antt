@@ -1,3 +1,5 @@
+-- Why `programs` in src/lib.rt keeps its contract.
+
 use Rattle.std.proofs.Common.{refl, ap, cond, None, nat_le}
 use Rattle.ls_lexer.specs.Tokens.{lexed, tokens_of}
 use Rattle.ls_types_programs.specs.ThreadPrograms.{program_of_tokens}

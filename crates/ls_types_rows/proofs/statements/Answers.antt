@@ -1,3 +1,5 @@
+-- Why `statements` in src/lib.rt keeps its contract.
+
 use Rattle.std.proofs.Common.{refl}
 use Rattle.ls_types_rows.proofs.statements.Goals as goal
 

@@ -1,3 +1,5 @@
+-- Why `aim` in src/aiming.rt keeps its contract.
+
 use Rattle.std.proofs.Common.{◌∙◌, ◌+◌, ap, sym, arith}
 use Rattle.ls_items.specs.Items.{Item}
 use Rattle.ls_labels.specs.Names.{names_of}

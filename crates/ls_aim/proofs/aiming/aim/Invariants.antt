@@ -1,3 +1,5 @@
+-- What `aim` in src/aiming.rt keeps, and why it ends.
+
 use Rattle.std.proofs.Common.{◌≡◌, ◌+◌, length}
 use Rattle.ls_labels.specs.Names.{names_of}
 use Rattle.ls_aim.specs.Aims.{aimed, all_taken}

@@ -1,3 +1,5 @@
+-- What the loop `thread` of `follow` in src/aiming.rt keeps.
+
 use Rattle.ls_events.specs.Limits.{most_steps}
 use Rattle.std.proofs.Common.{◌≡◌, ◌++◌, ◌≤◌, length, take}
 use Rattle.ls_aim.proofs.aiming.follow.Given as goal

@@ -1,3 +1,5 @@
+-- Why `go_to` in src/aiming.rt keeps its contract.
+
 use Rattle.ls_events.specs.Limits.{most_steps}
 use Rattle.std.proofs.Common.{◌≡◌, ◌∙◌, ◌<◌, ◌++◌, ◌∷◌, [], length, sym, ap, arith}
 use Rattle.std.proofs.lemmas.Grind.{common_steps}

@@ -1,3 +1,5 @@
+-- What `go_to` in src/aiming.rt keeps, and why it ends.
+
 use Rattle.ls_events.specs.Limits.{most_steps}
 use Rattle.std.proofs.Common.{◌≡◌, ◌≤◌, ◌-◌, length}
 use Rattle.ls_aim.specs.Aims.{gone_to, room_after}

@@ -1,3 +1,5 @@
+-- Why `text_of` in src/items.rt keeps its clause `some`.
+
 use Rattle.std.proofs.Common.{eq-eqb}
 use Rattle.std.proofs.lemmas.Str.{utf8_valid_len-IsUtf8}
 use Rattle.ls_aim.proofs.items.text_of.Goals as goal

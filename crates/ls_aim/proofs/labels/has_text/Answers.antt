@@ -1,3 +1,5 @@
+-- Why `has_text` in src/labels.rt keeps its contract.
+
 use Rattle.std.proofs.Common.{◌∙◌, sym}
 use Rattle.ls_aim.proofs.Finding.{here}
 use Rattle.ls_aim.proofs.labels.has_text.Goals as goal

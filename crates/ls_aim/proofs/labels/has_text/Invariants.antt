@@ -1,3 +1,5 @@
+-- What `has_text` in src/labels.rt keeps, and why it ends.
+
 use Rattle.std.proofs.Common.{◌≡◌, length}
 use Rattle.ls_aim.specs.Labels.{has_text}
 use Rattle.ls_aim.proofs.labels.has_text.Given as goal

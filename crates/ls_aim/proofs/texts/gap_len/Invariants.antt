@@ -1,3 +1,5 @@
+-- What the loop `b` of `gap_len` in src/texts.rt keeps.
+
 use Rattle.std.proofs.Common.{◌≡◌, ◌+◌, drop}
 use Rattle.std.specs.List.{prefix_len}
 use Rattle.ls_items.specs.Items.{is_gap}

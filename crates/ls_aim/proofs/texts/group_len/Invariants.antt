@@ -1,3 +1,5 @@
+-- What the loop `b` of `group_len` in src/texts.rt keeps.
+
 use Rattle.std.proofs.Common.{◌≡◌, ◌+◌, ◌≤◌, drop}
 use Rattle.ls_aim.specs.Texts.{group_len}
 use Rattle.ls_aim.proofs.texts.group_len.Given as goal

@@ -1,3 +1,5 @@
+-- Why `start_of` in src/texts.rt keeps its clause `items`.
+
 use Rattle.std.proofs.Common.{◌∙◌, sym}
 use Rattle.ls_aim.proofs.Dividing.{after_version, no_version}
 use Rattle.ls_aim.proofs.texts.start_of.Goals as goal

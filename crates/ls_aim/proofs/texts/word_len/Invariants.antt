@@ -1,3 +1,5 @@
+-- What the loop `b` of `word_len` in src/texts.rt keeps.
+
 use Rattle.std.proofs.Common.{◌≡◌, ◌+◌, false, drop}
 use Rattle.ls_aim.specs.Texts.{word_len}
 use Rattle.ls_aim.proofs.texts.word_len.Given as goal

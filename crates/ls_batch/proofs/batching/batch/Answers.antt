@@ -1,7 +1,9 @@
+-- Why `batch` in src/batching.rt keeps its clause `tally`.
+
 use Rattle.std.proofs.Common.{ℕ, ◌∙◌, subst, arith}
 use Rattle.ls_batch.specs.Samples.{history_of, histories_of}
-use Rattle.ls_batch_tally.specs.Counted.{AreCounts}
-use Rattle.ls_batch_tally.specs.Tallies.{History}
+use Rattle.ls_batch.specs.Counted.{AreCounts}
+use Rattle.ls_batch.specs.Tallies.{History}
 use Rattle.ls_batch.proofs.Batched.{from_first, histories_len, within}
 use Rattle.ls_batch.proofs.batching.batch.Goals as goal
 

@@ -1,3 +1,5 @@
+-- Why `seeds_from` in src/batching.rt keeps its loop `i`.
+
 use Rattle.std.proofs.Common.{◌+◌, ℕ, List, [], ◌∷◌, ◌++◌, ap, ◌∙◌, sym, arith}
 use Rattle.std.proofs.lemmas.List.FromFn.{map-range_with_len_more}
 use Rattle.ls_batch.proofs.batching.seeds_from.Goals as goal

@@ -1,3 +1,5 @@
+-- What the loop `i` of `seeds_from` in src/batching.rt keeps.
+
 use Rattle.std.proofs.Common.{◌≡◌, ◌+◌, map}
 use Rattle.std.specs.List.{range_with_len}
 use Rattle.ls_batch.proofs.batching.seeds_from.Given as goal

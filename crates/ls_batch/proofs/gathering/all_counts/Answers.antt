@@ -1,3 +1,5 @@
+-- Why `all_counts` in src/gathering.rt keeps its contract and its loop `part`.
+
 use Rattle.std.proofs.Common.{◌∙◌, map-id, subst, sym}
 use Rattle.std.proofs.lemmas.Iterator.Adapters.{YieldsList-from_vec}
 use Rattle.std.proofs.lemmas.Iterator.Consumers.{YieldsList-end}

@@ -1,3 +1,5 @@
+-- What the loop `part` of `all_counts` in src/gathering.rt keeps.
+
 use Rattle.ls_batch.proofs.Batched.{AreSoFar}
 use Rattle.ls_batch.proofs.gathering.all_counts.Given as goal
 

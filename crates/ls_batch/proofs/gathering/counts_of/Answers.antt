@@ -1,9 +1,11 @@
+-- Why `counts_of` in src/gathering.rt keeps its contract.
+
 use Rattle.std.proofs.Common.{ℕ, ap, ◌∙◌, map, subst}
 use Rattle.rayon.proofs.ToStd.{chunks_of-concat}
 use Rattle.rayon.specs.Lists.{chunks_of}
 use Rattle.ls_batch.specs.Samples.{history_of}
-use Rattle.ls_batch_tally.specs.Counted.{AreCounts, run}
-use Rattle.ls_batch_tally.specs.Tallies.{History}
+use Rattle.ls_batch.specs.Counted.{AreCounts, run}
+use Rattle.ls_batch.specs.Tallies.{History}
 use Rattle.ls_batch.proofs.Batched.{all_runs, zip_runs}
 use Rattle.ls_batch.proofs.gathering.counts_of.Goals as goal
 

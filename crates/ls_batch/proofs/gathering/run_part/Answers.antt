@@ -1,8 +1,10 @@
+-- Why `run_part` in src/gathering.rt keeps its contract and its loop `seed`.
+
 use Rattle.std.proofs.Common.{◌≡◌, ℕ, ◌∙◌, ap, cond, get_or, None}
 use Rattle.ls_batch.specs.Samples.{history_of}
-use Rattle.ls_batch_tally.specs.Counted.{are_same, both, count_at, one_of}
-use Rattle.ls_batch_tally.specs.Numbers.{key_of}
-use Rattle.ls_batch_tally.specs.Tallies.{History}
+use Rattle.ls_batch.specs.Counted.{are_same, both, count_at, one_of}
+use Rattle.ls_batch.specs.Numbers.{key_of}
+use Rattle.ls_batch.specs.Tallies.{History}
 use Rattle.ls_batch.proofs.Batched.{seed_counted, seeds_counted}
 use Rattle.ls_batch.proofs.gathering.run_part.Goals as goal
 

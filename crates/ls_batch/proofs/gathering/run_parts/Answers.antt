@@ -1,9 +1,11 @@
+-- Why `run_parts` in src/gathering.rt keeps its contract.
+
 use Rattle.std.proofs.Common.{◌≡◌, ◌∙◌, refl, IfOk, max, arith}
 use Rattle.rayon.proofs.ListFacts.{IfOk-then}
 use Rattle.rayon.proofs.ToStd.{slice-AllZip}
 use Rattle.rayon.specs.Lists.{chunks_of, chunks_size, chunks_slice}
 use Rattle.ls_batch.specs.Gathered.{runs_of}
-use Rattle.ls_batch_tally.specs.Counted.{AreCounts}
+use Rattle.ls_batch.specs.Counted.{AreCounts}
 use Rattle.ls_batch.proofs.gathering.run_parts.Goals as goal
 
 pub returns : goal.returns

@@ -1,3 +1,5 @@
+-- Why `all_text` in src/printing.rt keeps its contract and its loop `part`.
+
 use Rattle.std.proofs.Common.{◌∙◌, ◌++◌, ap, map-id, string_bytes, subst, sym}
 use Rattle.std.proofs.lemmas.Iterator.Adapters.{YieldsList-from_vec}
 use Rattle.std.proofs.lemmas.Iterator.Consumers.{YieldsList-end}

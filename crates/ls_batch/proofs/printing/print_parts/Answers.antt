@@ -1,10 +1,12 @@
+-- Why `print_parts` in src/printing.rt keeps its contract.
+
 use Rattle.std.proofs.Common.{◌≡◌, ◌∙◌, refl, IfOk, map, max, arith, string_bytes}
 use Rattle.rayon.proofs.ListFacts.{IfOk-then}
 use Rattle.rayon.proofs.ToStd.{slice-AllZip}
 use Rattle.rayon.specs.Lists.{chunks_of, chunks_size, chunks_slice}
 use Rattle.ls_checked.specs.PlainProgram.{plain_program}
 use Rattle.ls_batch.specs.Printing.{tally_text}
-use Rattle.ls_batch_tally.specs.Rows.{entry_row}
+use Rattle.ls_batch.specs.Rows.{entry_row}
 use Rattle.ls_batch.proofs.printing.print_parts.Goals as goal
 
 pub returns : goal.returns

@@ -1,9 +1,11 @@
+-- Why `print_tally` in src/printing.rt keeps its contract.
+
 use Rattle.std.proofs.Common.{ap, ◌∙◌, map, string_bytes}
 use Rattle.rayon.proofs.ToStd.{chunks_of-concat}
 use Rattle.rayon.specs.Lists.{chunks_of}
 use Rattle.ls_checked.specs.PlainProgram.{plain_program}
 use Rattle.ls_batch.specs.Printing.{tally_text}
-use Rattle.ls_batch_tally.specs.Rows.{entry_row}
+use Rattle.ls_batch.specs.Rows.{entry_row}
 use Rattle.ls_batch.proofs.Printed.{whole_text, zip_texts}
 use Rattle.ls_batch.proofs.printing.print_tally.Goals as goal
 

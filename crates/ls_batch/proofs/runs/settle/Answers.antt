@@ -1,3 +1,5 @@
+-- Why `settle` in src/runs.rt keeps its clauses `steps` and `machine` and its loop `taken`.
+
 use Rattle.std.proofs.Common.{◌≡◌, ◌+◌, ◌-◌, ◌∙◌, ℕ, ap, arith, sym, true, false}
 use Rattle.ls_code.specs.Machine.{machine_state}
 use Rattle.ls_batch.specs.Samples.{goes_on, settled, settling}

@@ -1,3 +1,5 @@
+-- What the loop `taken` of `settle` in src/runs.rt keeps.
+
 use Rattle.std.proofs.Common.{◌≡◌, ◌+◌, ◌-◌}
 use Rattle.ls_batch.specs.Samples.{settled, settling}
 use Rattle.ls_batch.proofs.runs.settle.Given as goal

@@ -1,3 +1,5 @@
+-- Why `run_sample` in src/samples.rt keeps its contract and its loop `taken`.
+
 use Rattle.std.proofs.Common.{◌∙◌, ◌≤◌, ◌+◌, ◌-◌, ap, arith, subst, sym}
 use Rattle.ls_code.specs.Machine.{machine_run}
 use Rattle.ls_batch.proofs.Drawn.{run_step}

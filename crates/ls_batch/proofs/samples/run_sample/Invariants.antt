@@ -1,3 +1,5 @@
+-- What the loop `taken` of `run_sample` in src/samples.rt keeps.
+
 use Rattle.std.proofs.Common.{◌≡◌, ◌≤◌, ◌-◌}
 use Rattle.ls_code.specs.Machine.{machine_run}
 use Rattle.ls_batch.specs.Samples.{draws}

@@ -1,3 +1,5 @@
+-- Why `sample` in src/samples.rt keeps its loop `preserved`.
+
 use Rattle.std.proofs.Common.{◌+◌, ◌-◌, ℕ, List, ◌++◌, ap, ◌∙◌, arith, rules}
 use Rattle.ls_batch.specs.Samples.{draws}
 use Rattle.ls_batch.proofs.Drawn.{drawn_step}

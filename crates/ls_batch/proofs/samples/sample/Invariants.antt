@@ -1,3 +1,5 @@
+-- What `sample` in src/samples.rt keeps.
+
 use Rattle.std.proofs.Common.{◌≡◌, ◌-◌, ◌≤◌, ◌++◌, vec_len, vec_capacity}
 use Rattle.ls_batch.specs.Samples.{draws}
 use Rattle.ls_batch.proofs.samples.sample.Given as goal

@@ -1,3 +1,5 @@
+-- Why `all_choices` in src/graph.rt keeps its clauses `graph`, `few`, `cut` and `closed` and its loop `turn`.
+
 use Rattle.std.proofs.Common.{◌≡◌, ◌≤◌, ◌+◌, [], ◌∷◌, ◌∙◌, ap, arith, length, rules, subst, sym}
 use Rattle.std.specs.Prelude.{map, slice_get}
 use Rattle.std.proofs.lemmas.List.{length-map, map-append}

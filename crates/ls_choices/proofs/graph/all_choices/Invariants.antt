@@ -1,3 +1,5 @@
+-- What the loop `turn` of `all_choices` in src/graph.rt keeps.
+
 use Rattle.std.specs.Prelude.{map}
 use Rattle.ls_labels.specs.Names.{names_of}
 use Rattle.ls_choices.specs.Seen.{row_of}

@@ -1,3 +1,5 @@
+-- Why `first_point` in src/graph.rt keeps its clause `seen`.
+
 use Rattle.std.proofs.Common.{◌≡◌, [], ◌∷◌, ◌++◌, ◌∙◌, ap, rules, subst, sym}
 use Rattle.ls_labels.specs.Names.{names_of}
 use Rattle.ls_choices.specs.Schedules.{told_after}

@@ -1,3 +1,5 @@
+-- Why `next_rows` in src/graph.rt keeps its clause `rows`.
+
 use Rattle.std.proofs.Common.{◌≡◌, ◌∙◌, subst, Some}
 use Rattle.std.specs.Prelude.{map, slice_get}
 use Rattle.ls_labels.specs.Names.{names_of}

@@ -1,3 +1,5 @@
+-- Why `path_at` in src/graph.rt keeps its contract.
+
 use Rattle.std.proofs.Common.{◌++◌, ◌∙◌, ap, sym, Some}
 use Rattle.std.proofs.lemmas.Option.{slice_get-get_or}
 use Rattle.ls_transitions.proofs.Keeping.{stands}

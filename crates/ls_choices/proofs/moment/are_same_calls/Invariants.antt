@@ -1,3 +1,5 @@
+-- What the loop `i` of `are_same_calls` in src/moment.rt keeps.
+
 use Rattle.std.proofs.Common.{◌≡◌, take}
 use Rattle.ls_choices.proofs.moment.are_same_calls.Given as goal
 

@@ -1,3 +1,5 @@
+-- What the loop `i` of `are_same_labels` in src/moment.rt keeps.
+
 use Rattle.std.proofs.Common.{◌≡◌, take}
 use Rattle.ls_choices.proofs.moment.are_same_labels.Given as goal
 

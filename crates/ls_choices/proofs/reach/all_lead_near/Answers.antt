@@ -1,3 +1,5 @@
+-- Why `all_lead_near` in src/reach.rt keeps its contract and its loop `row`.
+
 use Rattle.std.proofs.Common.{◌<◌, ◌∙◌, length, arith, ap, refl, sym, Some}
 use Rattle.std.specs.Prelude.{map, slice_index_or}
 use Rattle.std.proofs.lemmas.List.{length-map}

@@ -1,3 +1,5 @@
+-- What the loop `row` of `all_lead_near` in src/reach.rt keeps.
+
 use Rattle.std.proofs.Common.{◌≡◌, ℕ, ◌<◌, Some}
 use Rattle.std.specs.Prelude.{map, slice_get, slice_index_or}
 use Rattle.ls_choices.specs.Rows.{Row}

@@ -1,3 +1,5 @@
+-- Why `are_kept` in src/reach.rt keeps its contract and its loop `number`.
+
 use Rattle.std.proofs.Common.{◌≡◌, ◌∙◌, length, arith, ap, refl, rules, subst, sym, Some}
 use Rattle.std.specs.Prelude.{map, slice_get, slice_index_or}
 use Rattle.std.proofs.lemmas.List.{length-map}

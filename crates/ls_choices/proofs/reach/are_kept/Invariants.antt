@@ -1,3 +1,5 @@
+-- What the loop `number` of `are_kept` in src/reach.rt keeps.
+
 use Rattle.std.proofs.Common.{◌≡◌, ℕ, ◌<◌, List, Some}
 use Rattle.std.specs.Prelude.{slice_get, slice_index_or}
 use Rattle.ls_choices.specs.Rows.{Row}

@@ -1,3 +1,5 @@
+-- Why `is_cut_off` in src/reach.rt keeps its loop `thread`.
+
 use Rattle.std.proofs.Common.{◌<◌, ◌≢◌, ◌∙◌, ap, arith, length, refl, sym, None, Some}
 use Rattle.std.specs.Prelude.{is_some, map}
 use Rattle.std.proofs.lemmas.Option.{slice_get-get_or}

@@ -1,3 +1,5 @@
+-- What the loop `thread` of `is_cut_off` in src/reach.rt keeps.
+
 use Rattle.std.proofs.Common.{◌≢◌, ℕ, ◌<◌, None}
 use Rattle.std.specs.Prelude.{map}
 use Rattle.ls_choices.specs.Reaching.{target_in}

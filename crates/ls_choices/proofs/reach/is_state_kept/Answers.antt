@@ -1,3 +1,5 @@
+-- Why `is_state_kept` in src/reach.rt keeps its contract.
+
 use Rattle.std.proofs.Common.{arith}
 use Rattle.std.proofs.lemmas.List.{length-map}
 use Rattle.ls_choices.specs.Seen.{row_of}

@@ -1,3 +1,5 @@
+-- Why `leaves_out` in src/reach.rt keeps its contract and its loop `rows`.
+
 use Rattle.std.proofs.Common.{◌∙◌, ap, arith, length, refl, sym, subst, Some}
 use Rattle.std.specs.Prelude.{map, slice_get}
 use Rattle.std.proofs.lemmas.List.{length-map}

@@ -1,3 +1,5 @@
+-- What the loop `rows` of `leaves_out` in src/reach.rt keeps.
+
 use Rattle.std.proofs.Common.{◌≡◌, ℕ, ◌<◌, List, Some}
 use Rattle.std.specs.Prelude.{slice_get}
 use Rattle.ls_choices.specs.Rows.{Row}

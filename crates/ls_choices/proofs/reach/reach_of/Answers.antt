@@ -1,3 +1,5 @@
+-- Why `reach_of` in src/reach.rt keeps its clause `reach`.
+
 use Rattle.std.proofs.Common.{refl}
 use Rattle.std.specs.Prelude.{slice_index_or}
 use Rattle.ls_choices.specs.Seen.{graph_of}

@@ -1,3 +1,5 @@
+-- Why `lead` in src/rows.rt keeps its clauses `leads` and `seen`.
+
 use Rattle.std.proofs.Common.{◌∙◌, ap, subst}
 use Rattle.std.specs.Prelude.{IfSome, map}
 use Rattle.ls_labels.specs.Names.{names_of}

@@ -1,3 +1,5 @@
+-- Why `rows_after` in src/rows.rt keeps its clause `threads` and its loop `thread`.
+
 use Rattle.std.proofs.Common.{◌≡◌, [], ◌∷◌, ◌++◌, ◌+◌, ◌∙◌, ap, arith, length, length-append, rules, sym}
 use Rattle.std.specs.Prelude.{map, min}
 use Rattle.std.proofs.lemmas.List.{length-map}

@@ -1,3 +1,5 @@
+-- What the loop `thread` of `rows_after` in src/rows.rt keeps.
+
 use Rattle.std.proofs.Common.{◌≡◌, ◌≤◌, length}
 use Rattle.std.specs.Prelude.{map}
 use Rattle.ls_labels.specs.Names.{names_of}

@@ -1,3 +1,5 @@
+-- Why `teller_after` in src/rows.rt keeps its loop `thread`.
+
 use Rattle.std.proofs.Common.{rules, ◌<◌, ◌∙◌, length, ap, sym, get_or}
 use Rattle.ls_labels.specs.Names.{names_of}
 use Rattle.ls_trace.specs.SeenTeller.{told_of}

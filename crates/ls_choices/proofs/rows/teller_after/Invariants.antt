@@ -1,3 +1,5 @@
+-- What the loop `thread` of `teller_after` in src/rows.rt keeps.
+
 use Rattle.std.proofs.Common.{◌≡◌, take}
 use Rattle.ls_labels.specs.Names.{names_of}
 use Rattle.ls_trace.specs.SeenTeller.{RunsNamed, names_in, told_of}

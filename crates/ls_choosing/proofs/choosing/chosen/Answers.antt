@@ -1,5 +1,7 @@
+-- Why `chosen` in src/choosing.rt keeps its contract.
+
 use Rattle.std.proofs.lemmas.Result.{err_from_is_err_and}
-use Rattle.ls_types.specs.CheckedFile.{outcome_of}
+use Rattle.ls_types_checked.specs.CheckedFile.{elaborated_file}
 use Rattle.ls_types_elaboration.specs.PlacedStatements.{placed_file}
 use Rattle.ls_faults.specs.Faults.{lifted_check, lifted_text}
 use Rattle.ls_faults.proofs.Answering.{fails, wider}
@@ -24,7 +26,7 @@ returns-in_err-checked c =
 pub returns : goal.returns
 returns c =
     let w = wanted_of c.args.wanted in
-    let o = outcome_of c.in_ok-checked.checked in
+    let o = elaborated_file c.in_ok-checked.checked in
     wider (RunsTo w o) (Chooses w) c.run.result
     (λ a h. Checks (placed_file c.in_ok-parsed.parsed) o a c.in_ok-parsed.ensures.file c.in_ok-checked.ensures.checked
     h) c.run.ensures

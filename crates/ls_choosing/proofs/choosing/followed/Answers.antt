@@ -1,3 +1,5 @@
+-- Why `followed` in src/choosing.rt keeps its contract.
+
 use Rattle.std.proofs.Common.{refl}
 use Rattle.std.proofs.lemmas.Result.{err_from_is_err_and}
 use Rattle.ls_labels.specs.Names.{names_of}

@@ -1,7 +1,9 @@
+-- Why `run` in src/choosing.rt keeps its contract.
+
 use Rattle.std.proofs.Common.{subst}
 use Rattle.std.proofs.lemmas.Result.{err_from_is_err_and}
 use Rattle.ls_checked.specs.PlainProgram.{plain_program}
-use Rattle.ls_types.specs.CheckedFile.{outcome_of}
+use Rattle.ls_types_checked.specs.CheckedFile.{elaborated_file}
 use Rattle.ls_types_reading.proofs.Standing.{no_program}
 use Rattle.ls_faults.specs.Faults.{lifted_program}
 use Rattle.ls_faults.specs.Given.{GivesText}
@@ -13,7 +15,7 @@ use Rattle.ls_choosing.proofs.choosing.run.Goals as goal
 pub returns-in_err-program : goal.returns-in_err-program
 returns-in_err-program c =
     let p = err_from_is_err_and c.from_residual.result c.from_residual.ensures.1 in
-    let o = outcome_of c.args.checked.now in
+    let o = elaborated_file c.args.checked.now in
     rw (p.1, p.2) (fails (RunsTo (wanted_of c.args.wanted) o) (lifted_program c.in_err-program.field-0.0)
     (NoProgram c.in_err-program.field-0.0
     (no_program o c.args.wanted.texts.program.now c.in_err-program.field-0.0 c.in_err-program.ensures.refused
@@ -22,7 +24,7 @@ returns-in_err-program c =
 pub returns : goal.returns
 returns c =
     let w = wanted_of c.args.wanted in
-    let o = outcome_of c.args.checked.now in
+    let o = elaborated_file c.args.checked.now in
     let q = plain_program c.in_ok-program.program in
     wider (FollowsTo w (names_in o q)) (RunsTo w o) c.followed.result (λ a h. Ran q a c.in_ok-program.ensures.spelled h)
     (subst (λ names. GivesText (FollowsTo w names) c.followed.result) c.names_in.ensures c.followed.ensures)

@@ -1,8 +1,10 @@
+-- Why `shown` in src/choosing.rt keeps its contract.
+
 use Rattle.std.proofs.Common.{subst}
 use Rattle.std.specs.Prelude.{IfSome, string_bytes}
 use Rattle.ls_labels.specs.Names.{names_of}
-use Rattle.ls_choices_page.specs.Data.{IsData}
-use Rattle.ls_choices_page.specs.Setup.{IsSetup}
+use Rattle.ls_page.specs.ChoicesData.{IsData}
+use Rattle.ls_page.specs.Setup.{IsSetup}
 use Rattle.ls_choosing.specs.Chosen.{AreBadStates, Endless, NoStates, Shown, wanted_of}
 use Rattle.ls_choosing.proofs.ChosenLemmas.{above_none, not_both}
 use Rattle.ls_choosing.proofs.choosing.shown.Goals as goal

@@ -1,7 +1,9 @@
+-- Why `of_class` in src/programs.rt keeps its clause `refused`.
+
 use Rattle.std.proofs.Common.{◌≡◌, arith, length}
 use Rattle.std.specs.Prelude.{option_map}
 use Rattle.std.proofs.lemmas.Result.{err_from_is_err_and}
-use Rattle.ls_parts.specs.Cutting.{plain_text}
+use Rattle.ls_items.specs.Cutting.{plain_text}
 use Rattle.ls_tree.specs.Views.{bare_class}
 use Rattle.ls_class_programs.proofs.Refused.{family_fails}
 use Rattle.ls_class_programs.proofs.programs.of_class.Goals as goal

@@ -1,8 +1,10 @@
+-- Why `programs_of` in src/programs.rt keeps its clauses `refused` and `programs`.
+
 use Rattle.std.proofs.Common.{◌∙◌, ap, map, sym}
 use Rattle.std.specs.Prelude.{option_map}
 use Rattle.std.proofs.lemmas.Result.{IfOk-weaker, err_from_is_err_and}
 use Rattle.ls_lexer.specs.Lexemes.{lexemes}
-use Rattle.ls_parts.specs.Cutting.{plain_text}
+use Rattle.ls_items.specs.Cutting.{plain_text}
 use Rattle.ls_tree.specs.FileView.{bare_file}
 use Rattle.ls_tree.specs.Views.{bare_class}
 use Rattle.ls_parser_spelling.specs.Spelling.{spell}

@@ -1,5 +1,7 @@
+-- What the loop `entry` of `written_calls` in src/programs.rt keeps.
+
 use Rattle.std.proofs.Common.{◌≡◌, ◌++◌, drop, map, string_bytes}
-use Rattle.ls_menus.specs.Written.{entries}
+use Rattle.ls_class_programs.specs.Written.{entries}
 use Rattle.ls_class_programs.specs.ClassPrograms.{calls_in}
 use Rattle.ls_class_programs.proofs.programs.written_calls.Given as goal
 

@@ -1,3 +1,5 @@
+-- What the loop `start` of `copied_starts` in src/code.rt keeps.
+
 use Rattle.std.proofs.Common.{◌≡◌, take}
 use Rattle.ls_code.proofs.code.copied_starts.Given as goal
 

@@ -1,3 +1,5 @@
+-- Why `batch_command` in src/line.rt keeps its clause `shape`.
+
 use Rattle.ls_command_line.proofs.line.batch_command.Goals as goal
 
 pub returns-clause-shape : goal.returns-clause-shape

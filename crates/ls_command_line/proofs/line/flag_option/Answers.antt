@@ -1,3 +1,5 @@
+-- Why `flag_option` in src/line.rt keeps its clause `rule`.
+
 use Rattle.std.proofs.Common.{◌∙◌, ap, Some}
 use Rattle.clap.specs.Words.{Rule, rule_of}
 use Rattle.clap.specs.declared.builder.action.ArgAction.TheVariants.{SetTrue}

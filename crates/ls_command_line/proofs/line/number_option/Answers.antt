@@ -1,3 +1,5 @@
+-- Why `number_option` in src/line.rt keeps its clause `rule`.
+
 use Rattle.std.proofs.Common.{◌∙◌, ap, Some}
 use Rattle.clap.specs.Words.{Rule, rule_of}
 use Rattle.ls_command_line.specs.Words.{u64_parser}

@@ -1,3 +1,5 @@
+-- Why `program` in src/line.rt keeps its contract.
+
 use Rattle.std.proofs.lemmas.Result.{IfOk-weaker}
 use Rattle.ls_command_line.proofs.line.program.Goals as goal
 

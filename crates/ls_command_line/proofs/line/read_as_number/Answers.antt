@@ -1,3 +1,5 @@
+-- Why `read_as_number` in src/line.rt keeps its contract.
+
 use Rattle.std.proofs.Common.{◌∙◌, ap, Some}
 use Rattle.ls_command_line.proofs.line.read_as_number.Goals as goal
 

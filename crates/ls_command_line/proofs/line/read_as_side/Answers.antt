@@ -1,3 +1,5 @@
+-- Why `read_as_side` in src/line.rt keeps its contract.
+
 use Rattle.std.proofs.Common.{◌≡◌, ◌∙◌, ap, rules, subst, sym, map, codes, ◌∷◌, []}
 use Rattle.ls_command_line.specs.Words.{NamesSides}
 use Rattle.ls_command_line.proofs.line.read_as_side.Goals as goal

@@ -1,3 +1,5 @@
+-- Why `side_option` in src/line.rt keeps its clause `rule`.
+
 use Rattle.std.proofs.Common.{◌∙◌, ap, Some, true, codes}
 use Rattle.clap.specs.Words.{Rule, rule_of}
 use Rattle.ls_command_line.proofs.line.side_option.Goals as goal

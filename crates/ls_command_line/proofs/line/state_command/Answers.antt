@@ -1,3 +1,5 @@
+-- Why `state_command` in src/line.rt keeps its clause `shape`.
+
 use Rattle.ls_command_line.proofs.line.state_command.Goals as goal
 
 pub returns-clause-shape : goal.returns-clause-shape

@@ -1,3 +1,5 @@
+-- Why `trace_command` in src/line.rt keeps its clause `shape`.
+
 use Rattle.ls_command_line.proofs.line.trace_command.Goals as goal
 
 pub returns-clause-shape : goal.returns-clause-shape

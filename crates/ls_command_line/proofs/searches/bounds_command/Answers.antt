@@ -1,3 +1,5 @@
+-- Why `bounds_command` in src/searches.rt keeps its clause `shape`.
+
 use Rattle.ls_command_line.proofs.searches.bounds_command.Goals as goal
 
 pub returns-clause-shape : goal.returns-clause-shape

@@ -1,11 +1,12 @@
+-- Why `explore_command` in src/searches.rt keeps its clause `shape`.
+
 use Rattle.ls_command_line.proofs.searches.explore_command.Goals as goal
 
 pub returns-clause-shape : goal.returns-clause-shape
 returns-clause-shape c =
-    let celled = c.with_option.ensures.shape _ _ c.plain_command-command.ensures.shape c.machine_option.ensures.rule in
-    let counted = c.with_option-command.ensures.shape _ _ celled c.number_option-states.ensures.rule in
-    let sorted = c.with_option-command-2.ensures.shape _ _ counted c.flag_option-illegal.ensures.rule in
-    let first = c.with_option-command-3.ensures.shape _ _ sorted c.flag_option-first.ensures.rule in
-    let order = c.with_option-command-4.ensures.shape _ _ first c.flag_option-order.ensures.rule in
-    let progress = c.with_option-command-5.ensures.shape _ _ order c.flag_option-progress.ensures.rule in
-    c.with_option-2.ensures.shape _ _ progress c.flag_option-verdict.ensures.rule
+    let sorted = c.with_option-command.ensures.shape _ _ c.states_command-command.ensures.shape
+    c.flag_option-illegal.ensures.rule in
+    let first = c.with_option-command-2.ensures.shape _ _ sorted c.flag_option-first.ensures.rule in
+    let order = c.with_option-command-3.ensures.shape _ _ first c.flag_option-order.ensures.rule in
+    let progress = c.with_option-command-4.ensures.shape _ _ order c.flag_option-progress.ensures.rule in
+    c.with_option.ensures.shape _ _ progress c.flag_option-verdict.ensures.rule

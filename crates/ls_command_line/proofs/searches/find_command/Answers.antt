@@ -1,3 +1,5 @@
+-- Why `find_command` in src/searches.rt keeps its clause `shape`.
+
 use Rattle.ls_command_line.proofs.searches.find_command.Goals as goal
 
 pub returns-clause-shape : goal.returns-clause-shape

@@ -1,3 +1,5 @@
+-- Why `numbers_command` in src/searches.rt keeps its clause `shape`.
+
 use Rattle.ls_command_line.proofs.searches.numbers_command.Goals as goal
 
 pub returns-clause-shape : goal.returns-clause-shape

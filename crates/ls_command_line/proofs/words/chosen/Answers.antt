@@ -1,3 +1,5 @@
+-- Why `chosen` in src/words.rt keeps its contract.
+
 use Rattle.ls_command_line.proofs.Chosen.{asked_so}
 use Rattle.ls_command_line.proofs.words.chosen.Goals as goal
 

@@ -1,3 +1,5 @@
+-- Why `flag` in src/words.rt keeps its contract.
+
 use Rattle.std.proofs.Common.{◌∙◌, ap, codes, Bool, false}
 use Rattle.std.specs.Option.{option_map_or}
 use Rattle.std.specs.Prelude.{Option, bytes_eq}

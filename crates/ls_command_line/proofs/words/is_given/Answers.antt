@@ -1,3 +1,5 @@
+-- Why `is_given` in src/words.rt keeps its contract.
+
 use Rattle.std.proofs.Common.{◌∙◌, ap, Bool}
 use Rattle.std.specs.Prelude.{Option, is_some}
 use Rattle.clap.specs.Words.{Text, found_of}

@@ -1,3 +1,5 @@
+-- Why `check` in src/checking.rt keeps its contract.
+
 use Rattle.std.proofs.Common.{◌∙◌, ap}
 use Rattle.std.proofs.lemmas.Result.{err_from_is_err_and}
 use Rattle.ls_commands.specs.Check.{judgement_text}

@@ -1,3 +1,5 @@
+-- Why `count` in src/compiling.rt keeps its contract.
+
 use Rattle.std.proofs.Common.{ap, Ok}
 use Rattle.std.proofs.lemmas.Result.{err_from_is_err_and}
 use Rattle.ls_commands.specs.Compiled.{Counted, OnImage}

@@ -1,3 +1,5 @@
+-- Why `judge_batch` in src/judged_batch.rt keeps its contract and what `judged` requires.
+
 use Rattle.std.proofs.Common.{ℕ}
 use Rattle.std.proofs.lemmas.Result.{err_from_is_err_and}
 use Rattle.std.specs.Prelude.{Result}

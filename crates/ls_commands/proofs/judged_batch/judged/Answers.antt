@@ -1,7 +1,9 @@
+-- Why `judged` in src/judged_batch.rt keeps its contract and what `print_judged` requires.
+
 use Rattle.std.proofs.Common.{ap, subst, sym}
 use Rattle.std.proofs.lemmas.Result.{err_from_is_err_and}
 use Rattle.ls_checked.specs.PlainProgram.{plain_program}
-use Rattle.ls_judged_tallies.specs.Judged.{AreHistoriesOf}
+use Rattle.ls_batch.specs.Judged.{AreHistoriesOf}
 use Rattle.ls_commands.proofs.JudgedLemmas.{judging_fails, judging_tells, rows_named}
 use Rattle.ls_commands.proofs.judged_batch.judged.Goals as goal
 

@@ -1,3 +1,5 @@
+-- Why `replay_live` in src/live_runs.rt keeps its contract.
+
 use Rattle.std.proofs.lemmas.Result.{err_from_is_err_and}
 use Rattle.ls_commands.specs.Lived.{ReplayedLiveOf}
 use Rattle.ls_commands.proofs.Answering.{not_compiled, on_image}

@@ -1,3 +1,5 @@
+-- Why `is_of_ranges` in src/merging.rt keeps its contract.
+
 use Rattle.std.proofs.Common.{codes}
 use Rattle.std.proofs.lemmas.Str.Pattern.{starts_text}
 use Rattle.ls_commands.proofs.merging.is_of_ranges.Goals as goal

@@ -1,3 +1,5 @@
+-- Why `merge` in src/merging.rt keeps its contract.
+
 use Rattle.std.proofs.Common.{◌∙◌, subst, sym}
 use Rattle.std.specs.Prelude.{MatchBool}
 use Rattle.ls_faults.proofs.Answering.{wider}

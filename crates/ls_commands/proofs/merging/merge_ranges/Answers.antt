@@ -1,3 +1,5 @@
+-- Why `merge_ranges` in src/merging.rt keeps its contract.
+
 use Rattle.std.proofs.Common.{Err, Ok, refl, string_bytes, subst, sym}
 use Rattle.ls_faults.proofs.Answering.{Failed, fails}
 use Rattle.ls_faults.specs.Given.{GivesText}

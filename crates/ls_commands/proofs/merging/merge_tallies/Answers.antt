@@ -1,3 +1,5 @@
+-- Why `merge_tallies` in src/merging.rt keeps its contract.
+
 use Rattle.std.proofs.Common.{◌≡◌, ◌∙◌, ◌<◌, ◌≤◌, ◌^◌, ap, map, subst, sym, true≢false, string_bytes}
 use Rattle.std.proofs.lemmas.Result.{err_from_is_err_and}
 use Rattle.ls_tallies.specs.Plain.{plain_row}

@@ -1,3 +1,5 @@
+-- Why `order` in src/ordering.rt keeps its contract.
+
 use Rattle.std.proofs.Common.{◌∙◌, string_bytes}
 use Rattle.std.proofs.lemmas.Result.{err_from_is_err_and}
 use Rattle.ls_commands.proofs.OrderLemmas.{told_fails, told_given}

@@ -1,3 +1,5 @@
+-- Why `judged` in src/paging.rt keeps its contract and what `judge` requires.
+
 use Rattle.std.proofs.Common.{◌∙◌, ap, string_bytes, sym, subst, take}
 use Rattle.std.proofs.lemmas.Result.{err_from_is_err_and}
 use Rattle.ls_labels.specs.Names.{names_of}

@@ -1,3 +1,5 @@
+-- Why `told` in src/paging.rt keeps its contract.
+
 use Rattle.std.proofs.Common.{ap, option_map}
 use Rattle.ls_labels.specs.Names.{names_of}
 use Rattle.ls_commands.specs.Paged.{wanted_of}

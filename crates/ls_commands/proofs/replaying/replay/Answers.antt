@@ -1,3 +1,5 @@
+-- Why `replay` in src/replaying.rt keeps its contract.
+
 use Rattle.std.proofs.lemmas.Result.{err_from_is_err_and}
 use Rattle.ls_commands.specs.Compiled.{ReplayedOf}
 use Rattle.ls_commands.proofs.Answering.{not_compiled, on_image}

@@ -1,3 +1,5 @@
+-- Why `replayed` in src/replaying.rt keeps its contract.
+
 use Rattle.std.proofs.Common.{◌≡◌, ◌∙◌, ap₂, subst, Ok}
 use Rattle.std.proofs.lemmas.Result.{err_from_is_err_and}
 use Rattle.ls_checked.specs.PlainProgram.{plain_program}

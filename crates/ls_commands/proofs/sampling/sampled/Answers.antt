@@ -1,3 +1,5 @@
+-- Why `sampled` in src/sampling.rt keeps its contract.
+
 use Rattle.std.proofs.Common.{◌∙◌, ap}
 use Rattle.std.proofs.lemmas.Result.{err_from_is_err_and}
 use Rattle.ls_schedule.specs.Printing.{schedule_text}

@@ -1,5 +1,7 @@
+-- Why `serial_order` in src/serial_ordering.rt keeps its contract.
+
 use Rattle.std.proofs.lemmas.Result.{err_from_is_err_and}
-use Rattle.ls_types.specs.CheckedFile.{outcome_of}
+use Rattle.ls_types_checked.specs.CheckedFile.{elaborated_file}
 use Rattle.ls_types_elaboration.specs.PlacedStatements.{placed_file}
 use Rattle.ls_commands.proofs.SerialLemmas.{check_orders, checked_orders, text_orders}
 use Rattle.ls_commands.proofs.ViewedLemmas.{err_of}
@@ -26,5 +28,5 @@ returns-in_err-checked c =
 pub returns : goal.returns
 returns c =
     checked_orders c.args.classes.now c.args.program.now c.args.history.now (placed_file c.in_ok-parsed.parsed)
-    (outcome_of c.in_ok-checked.checked) c.run.result
+    (elaborated_file c.in_ok-checked.checked) c.run.result
     c.in_ok-parsed.ensures.file c.in_ok-checked.ensures.checked c.run.ensures

@@ -1,5 +1,7 @@
+-- Why `show` in src/showing.rt keeps its contract.
+
 use Rattle.std.proofs.lemmas.Result.{err_from_is_err_and}
-use Rattle.ls_types.specs.CheckedFile.{outcome_of}
+use Rattle.ls_types_checked.specs.CheckedFile.{elaborated_file}
 use Rattle.ls_types_elaboration.specs.PlacedStatements.{placed_file}
 use Rattle.ls_commands.proofs.ViewedLemmas.{check_fails, checked_runs, text_fails, err_of}
 use Rattle.ls_commands.proofs.showing.show.Goals as goal
@@ -25,5 +27,5 @@ returns-in_err-checked c =
 pub returns : goal.returns
 returns c =
     checked_runs c.source_is_readable.ensures c.args.view c.args.classes.now c.args.program.now c.args.schedule.now
-    (placed_file c.in_ok-parsed.parsed) (outcome_of c.in_ok-checked.checked) c.run.result
+    (placed_file c.in_ok-parsed.parsed) (elaborated_file c.in_ok-checked.checked) c.run.result
     c.in_ok-parsed.ensures.file c.in_ok-checked.ensures.checked c.run.ensures

@@ -1,3 +1,5 @@
+-- Why `viewed` in src/showing.rt keeps its contract.
+
 use Rattle.std.proofs.Common.{◌∙◌, ap, refl}
 use Rattle.std.proofs.lemmas.Result.{err_from_is_err_and}
 use Rattle.ls_labels.specs.Names.{names_of}

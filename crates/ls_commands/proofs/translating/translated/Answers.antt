@@ -1,3 +1,5 @@
+-- Why `translated` in src/translating.rt keeps its contract.
+
 use Rattle.std.proofs.Common.{◌≡◌, ◌∙◌, ap, subst, Ok}
 use Rattle.std.proofs.lemmas.Result.{err_from_is_err_and}
 use Rattle.ls_schedule.specs.Answers.{Fails}

@@ -1,3 +1,5 @@
+-- Why `turned` in src/translating.rt keeps its contract.
+
 use Rattle.std.proofs.lemmas.Result.{err_from_is_err_and}
 use Rattle.ls_commands.proofs.TranslatedLemmas.{machine_fails, machine_turns, source_fails, source_turns}
 use Rattle.ls_commands.proofs.translating.turned.Goals as goal

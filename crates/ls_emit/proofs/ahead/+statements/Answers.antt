@@ -1,3 +1,5 @@
+-- Why the functions of the cycle `statements` in src/ahead.rt keep their contracts.
+
 use Rattle.ls_code.specs.Limits.{most_instructions}
 use Rattle.std.proofs.Common.{rules, ◌≡◌, ◌+◌, ◌-◌, ◌<◌, ◌≤◌, length, ap, sym, subst, arith}
 use Rattle.std.specs.Prelude.{IfOk, OnOk, reverse}

@@ -1,3 +1,5 @@
+-- What the loop `i` of the cycle `statements` in src/ahead.rt keeps, and why the cycle ends.
+
 use Rattle.std.proofs.Common.{◌≡◌, ◌+◌, ◌*◌, ◌≤◌, ◌++◌, drop}
 use Rattle.std.specs.Prelude.{reverse}
 use Rattle.ls_lowered.specs.Plain.{plain_statement, statements_of}

@@ -1,3 +1,5 @@
+-- Why `rows` in src/laws.rt keeps its contract.
+
 use Rattle.std.proofs.Common.{refl}
 use Rattle.ls_lowered.specs.Methods.{invoke}
 use Rattle.ls_emit.proofs.Reader.{is_there}

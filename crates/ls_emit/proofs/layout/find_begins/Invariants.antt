@@ -1,3 +1,5 @@
+-- What the loop `size` of `find_begins` in src/layout.rt keeps.
+
 use Rattle.std.proofs.Common.{◌≡◌, ◌+◌, ◌++◌, drop}
 use Rattle.ls_emit.specs.Places.{room, places_by}
 use Rattle.ls_emit.proofs.layout.find_begins.Given as goal

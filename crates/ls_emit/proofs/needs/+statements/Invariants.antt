@@ -1,3 +1,5 @@
+-- What the loop `s` of the cycle `statements` in src/needs.rt keeps, and why the cycle ends.
+
 use Rattle.std.proofs.Common.{◌≡◌, ◌+◌, ◌*◌, ◌≤◌, drop}
 use Rattle.std.specs.Prelude.{max}
 use Rattle.ls_lowered.specs.Plain.{plain_statement, statements_of}

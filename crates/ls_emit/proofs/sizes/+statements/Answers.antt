@@ -1,3 +1,5 @@
+-- Why the functions of the cycle `statements` in src/sizes.rt keep their contracts.
+
 use Rattle.std.proofs.Common.{◌≡◌, ap, arith}
 use Rattle.ls_lowered.specs.LoweredTree.{Leavable}
 use Rattle.ls_lowered.specs.Plain.{plain_statement, statements_of}

@@ -1,3 +1,5 @@
+-- What the loops `s` and `x` of the cycle `statements` in src/sizes.rt keep.
+
 use Rattle.std.proofs.Common.{◌≡◌, ◌+◌, ◌≤◌, drop}
 use Rattle.std.specs.Prelude.{min}
 use Rattle.ls_lowered.specs.Plain.{statements_of}

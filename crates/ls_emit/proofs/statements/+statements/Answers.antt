@@ -1,3 +1,5 @@
+-- Why the functions of the cycle `statements` in src/statements.rt keep their contracts.
+
 use Rattle.ls_code.specs.Limits.{most_instructions}
 use Rattle.std.proofs.Common.{◌≡◌, ◌+◌, ◌≤◌, ◌++◌, ap, sym, arith, subst}
 use Rattle.std.specs.Prelude.{OnOk}

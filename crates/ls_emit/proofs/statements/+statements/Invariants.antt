@@ -1,3 +1,5 @@
+-- What the loops `s` and `x` of the cycle `statements` in src/statements.rt keep, and why the cycle ends.
+
 use Rattle.std.proofs.Common.{◌≡◌, ◌+◌, ◌*◌, ◌≤◌, ◌++◌, drop}
 use Rattle.ls_lowered.specs.Plain.{plain_statement, statements_of}
 use Rattle.ls_emit.specs.Statements.{statements_size, exits_size, statements_code, exits_code, statements_rows}

@@ -1,3 +1,5 @@
+-- Why `comes_to_break` in src/breaking.rt keeps its clause `breaks` and its loops `init` and `preserved`.
+
 use Rattle.std.proofs.Common.{◌∙◌, sym}
 use Rattle.ls_transitions.specs.Seen.{table_of}
 use Rattle.ls_endless_calls.proofs.Ahead.{at_start, breaks_ahead, further, later}

@@ -1,3 +1,5 @@
+-- What `comes_to_break` in src/breaking.rt keeps.
+
 use Rattle.ls_transitions.specs.Seen.{table_of}
 use Rattle.ls_endless_calls.specs.Breaking.{IsAhead}
 use Rattle.ls_endless_calls.proofs.breaking.comes_to_break.Given as goal

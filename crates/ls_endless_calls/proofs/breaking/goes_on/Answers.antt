@@ -1,3 +1,5 @@
+-- Why `goes_on` in src/breaking.rt keeps its clauses `breaks` and `ahead` and its loop `thread`.
+
 use Rattle.std.proofs.Common.{refl}
 use Rattle.ls_transitions.specs.Seen.{table_of}
 use Rattle.ls_endless_calls.proofs.Ahead.{at_start, breaks_ahead, further, later, rests_ahead}

@@ -1,3 +1,5 @@
+-- What the loop `thread` of `goes_on` in src/breaking.rt keeps.
+
 use Rattle.ls_transitions.specs.Seen.{table_of}
 use Rattle.ls_endless_calls.specs.Breaking.{IsAhead}
 use Rattle.ls_endless_calls.proofs.breaking.goes_on.Given as goal

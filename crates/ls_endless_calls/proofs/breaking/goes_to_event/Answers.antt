@@ -1,3 +1,5 @@
+-- Why `goes_to_event` in src/breaking.rt keeps its contract, its loops and what it calls with.
+
 use Rattle.std.proofs.Common.{false, refl, subst}
 use Rattle.std.specs.Bool.{IsTrue}
 use Rattle.ls_search_laws.specs.Configuration.{stride}

@@ -1,3 +1,5 @@
+-- What `goes_to_event` in src/breaking.rt keeps.
+
 use Rattle.std.proofs.Common.{ℕ}
 use Rattle.ls_transitions.specs.Seen.{table_of}
 use Rattle.ls_endless_calls.specs.Breaking.{IsAhead}

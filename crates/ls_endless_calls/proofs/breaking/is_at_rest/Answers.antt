@@ -1,3 +1,5 @@
+-- Why `is_at_rest` in src/breaking.rt keeps its loop `thread` and what `step_from` requires.
+
 use Rattle.std.proofs.Common.{sym, subst}
 use Rattle.ls_transitions.specs.Seen.{table_of}
 use Rattle.ls_transitions.proofs.Growing.{grows_on}

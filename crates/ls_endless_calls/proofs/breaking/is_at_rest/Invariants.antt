@@ -1,3 +1,5 @@
+-- What the loop `thread` of `is_at_rest` in src/breaking.rt keeps.
+
 use Rattle.std.proofs.Common.{ℕ, ◌<◌}
 use Rattle.ls_meaning.specs.Still.{IsStill}
 use Rattle.ls_search_laws.specs.Configuration.{stride}

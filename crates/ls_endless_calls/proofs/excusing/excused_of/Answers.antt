@@ -1,7 +1,9 @@
+-- Why `excused_of` in src/excusing.rt keeps its loop `at`.
+
 use Rattle.std.proofs.Common.{◌∙◌, ◌+◌, Some, ap, arith, slice_get, subst, sym}
 use Rattle.ls_serial.proofs.Lists.{is_get}
 use Rattle.ls_serial_search.specs.Histories.{lists_of}
-use Rattle.ls_waiting.specs.Waits.{AreExcused}
+use Rattle.ls_endless_calls.specs.Waits.{AreExcused}
 use Rattle.ls_endless_calls.proofs.Excused.{marked_more, push_length}
 use Rattle.ls_endless_calls.proofs.excusing.excused_of.Goals as goal
 

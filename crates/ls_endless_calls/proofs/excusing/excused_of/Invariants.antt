@@ -1,3 +1,5 @@
+-- What the loop `at` of `excused_of` in src/excusing.rt keeps.
+
 use Rattle.std.proofs.Common.{◌≡◌, length}
 use Rattle.ls_serial_search.specs.Histories.{lists_of}
 use Rattle.ls_endless_calls.proofs.Excused.{AreMarked}

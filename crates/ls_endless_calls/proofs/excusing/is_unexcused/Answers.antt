@@ -1,3 +1,5 @@
+-- Why `is_unexcused` in src/excusing.rt keeps its contract.
+
 use Rattle.std.proofs.Common.{◌∙◌, ap}
 use Rattle.ls_checked.specs.CheckedTree.{File}
 use Rattle.ls_checked.specs.CheckedProgram.{Program}

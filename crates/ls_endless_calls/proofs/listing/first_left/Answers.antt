@@ -1,3 +1,5 @@
+-- Why `first_left` in src/listing.rt keeps its loop `at` and what `is_fine` requires.
+
 use Rattle.ls_transitions.proofs.Growing.{grows_not, grows_on}
 use Rattle.ls_transitions.specs.Seen.{table_of}
 use Rattle.ls_endless_calls.proofs.Fine.{fine_more, none_fine, there_later}

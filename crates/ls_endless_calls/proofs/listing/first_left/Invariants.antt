@@ -1,3 +1,5 @@
+-- What the loop `at` of `first_left` in src/listing.rt keeps.
+
 use Rattle.ls_transitions.specs.Tables.{Grows}
 use Rattle.ls_transitions.specs.Seen.{table_of}
 use Rattle.ls_endless_calls.specs.Breaking.{AreFine}

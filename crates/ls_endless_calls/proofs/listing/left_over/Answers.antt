@@ -1,3 +1,5 @@
+-- Why `left_over` in src/listing.rt keeps its contract and what `first_left` requires.
+
 use Rattle.std.proofs.Common.{◌≡◌, ◌∙◌, Bool, List, Option, ℕ, length, rules, subst, sym}
 use Rattle.std.proofs.lemmas.List.{length-map}
 use Rattle.std.specs.Prelude.{IfNone}

@@ -1,3 +1,5 @@
+-- What the loop `i` of `are_same_events` in src/same.rt keeps.
+
 use Rattle.std.proofs.Common.{◌≡◌, take}
 use Rattle.ls_events.proofs.same.are_same_events.Given as goal
 

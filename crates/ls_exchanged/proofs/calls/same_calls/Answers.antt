@@ -1,3 +1,5 @@
+-- Why `same_calls` in src/calls.rt keeps its contract and its loop `i`.
+
 use Rattle.ls_checked.specs.PlainProgram.{plain_call}
 use Rattle.ls_exchanged.proofs.Same.{apart_at, one_more}
 use Rattle.ls_exchanged.proofs.calls.same_calls.Goals as goal

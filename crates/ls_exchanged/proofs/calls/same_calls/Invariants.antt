@@ -1,3 +1,5 @@
+-- What the loop `i` of `same_calls` in src/calls.rt keeps.
+
 use Rattle.std.proofs.Common.{◌≡◌, map, take}
 use Rattle.ls_checked.specs.PlainProgram.{plain_call}
 use Rattle.ls_exchanged.proofs.calls.same_calls.Given as goal

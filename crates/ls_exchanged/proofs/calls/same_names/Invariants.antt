@@ -1,3 +1,5 @@
+-- What the loop `i` of `same_names` in src/calls.rt keeps.
+
 use Rattle.std.proofs.Common.{◌≡◌, map, take}
 use Rattle.ls_checked.specs.PlainProgram.{plain_name}
 use Rattle.ls_exchanged.proofs.calls.same_names.Given as goal

@@ -1,3 +1,5 @@
+-- Why `same_values` in src/calls.rt keeps its contract.
+
 use Rattle.std.proofs.Common.{rules}
 use Rattle.std.proofs.lemmas.Slice.Eq.{slice_eq-Decides}
 use Rattle.ls_exchanged.proofs.calls.same_values.Goals as goal

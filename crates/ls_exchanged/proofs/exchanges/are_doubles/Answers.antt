@@ -1,3 +1,5 @@
+-- Why `are_doubles` in src/exchanges.rt keeps its contract.
+
 use Rattle.std.proofs.Common.{◌∙◌, ap, map, subst, sym}
 use Rattle.std.specs.Bool.{Decides}
 use Rattle.ls_checked.specs.PlainProgram.{plain_name, plain_thread}

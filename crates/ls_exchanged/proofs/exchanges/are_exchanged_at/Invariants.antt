@@ -1,3 +1,5 @@
+-- What the loop `at` of `are_exchanged_at` in src/exchanges.rt keeps.
+
 use Rattle.std.proofs.Common.{◌<◌, ℕ, map}
 use Rattle.ls_checked.specs.PlainProgram.{plain_thread}
 use Rattle.ls_exchanged.specs.Doubles.{IsExchangedAt}

@@ -1,3 +1,5 @@
+-- Why `have_exchanged` in src/exchanges.rt keeps its contract and its loop `place`.
+
 use Rattle.std.proofs.Common.{◌-◌, arith, map, refl}
 use Rattle.std.proofs.lemmas.List.{length-map}
 use Rattle.ls_checked.specs.PlainProgram.{plain_thread}

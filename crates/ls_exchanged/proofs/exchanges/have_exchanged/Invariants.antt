@@ -1,3 +1,5 @@
+-- What the loop `place` of `have_exchanged` in src/exchanges.rt keeps.
+
 use Rattle.std.proofs.Common.{◌+◌, ◌<◌, ℕ, map}
 use Rattle.ls_checked.specs.PlainProgram.{plain_thread}
 use Rattle.ls_exchanged.specs.Doubles.{AreExchangedAt}

@@ -1,3 +1,5 @@
+-- Why `same_thread_names` in src/exchanges.rt keeps its contract and its loop `i`.
+
 use Rattle.std.proofs.Common.{refl, true, false}
 use Rattle.ls_exchanged.proofs.Named.{by_names, name_in}
 use Rattle.ls_exchanged.proofs.Same.{apart_at, one_more, same_all}

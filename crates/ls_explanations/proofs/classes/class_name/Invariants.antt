@@ -1,3 +1,5 @@
+-- What the loop `token` of `class_name` in src/classes.rt keeps.
+
 use Rattle.std.proofs.Common.{◌≡◌, drop}
 use Rattle.ls_lexer.specs.Lexemes.{lexemes}
 use Rattle.ls_explanations.specs.Mismatches.{class_name, name_from}

@@ -1,3 +1,5 @@
+-- Why `count_of` in src/explaining.rt keeps its contract.
+
 use Rattle.std.proofs.Common.{sym}
 use Rattle.std.specs.Prelude.{string_bytes}
 use Rattle.std.proofs.lemmas.List.{length-map}

@@ -1,3 +1,5 @@
+-- Why `have_returns` in src/explaining.rt keeps its contract.
+
 use Rattle.std.proofs.Common.{◌≡◌, sym, refl, true, get_or, map, rules}
 use Rattle.std.specs.Prelude.{string_bytes}
 use Rattle.std.specs.List.{list_any}

@@ -1,3 +1,5 @@
+-- What the loop `text` of `have_returns` in src/explaining.rt keeps.
+
 use Rattle.std.proofs.Common.{◌≡◌, false, map, take}
 use Rattle.std.specs.Prelude.{string_bytes}
 use Rattle.std.specs.List.{list_any}

@@ -1,3 +1,5 @@
+-- What `push_marks` in src/explaining.rt keeps.
+
 use Rattle.std.proofs.Common.{◌≡◌, ◌++◌, replicate}
 use Rattle.ls_explanations.proofs.explaining.push_marks.Given as goal
 

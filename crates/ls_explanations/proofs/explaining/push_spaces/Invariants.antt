@@ -1,3 +1,5 @@
+-- What the loop `byte` of `push_spaces` in src/explaining.rt keeps.
+
 use Rattle.std.proofs.Common.{◌≡◌, ◌++◌, take}
 use Rattle.std.specs.List.{flat_map}
 use Rattle.ls_explanations.specs.Explanations.{space_below}

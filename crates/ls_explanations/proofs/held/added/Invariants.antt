@@ -1,3 +1,5 @@
+-- What the loop `call` of `added` in src/held.rt keeps.
+
 use Rattle.std.proofs.Common.{◌≡◌, ℤ, drop, []}
 use Rattle.std.specs.BTreeSet.{contains}
 use Rattle.std.specs.List.{list_any}

@@ -1,3 +1,5 @@
+-- Why `calls_before` in src/held.rt keeps its contract.
+
 use Rattle.std.proofs.Common.{◌≡◌, ◌∙◌, ap, map}
 use Rattle.std.specs.HashMap.{get_by_text}
 use Rattle.std.specs.List.{before_first, filter_map}

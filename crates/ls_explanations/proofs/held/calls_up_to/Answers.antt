@@ -1,3 +1,5 @@
+-- Why `calls_up_to` in src/held.rt keeps its loop `name`.
+
 use Rattle.std.proofs.Common.{◌∙◌, ◌+◌, ◌++◌, ap, drop, get_or, map, sym}
 use Rattle.std.specs.Global.{Vec}
 use Rattle.std.specs.HashMap.{get_by_text}

@@ -1,3 +1,5 @@
+-- What the loop `name` of `calls_up_to` in src/held.rt keeps.
+
 use Rattle.std.proofs.Common.{◌≡◌, ◌++◌, drop, map}
 use Rattle.std.specs.HashMap.{get_by_text}
 use Rattle.std.specs.List.{before_first, filter_map}

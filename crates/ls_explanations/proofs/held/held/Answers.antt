@@ -1,3 +1,5 @@
+-- Why `held` in src/held.rt keeps its contract.
+
 use Rattle.std.proofs.Common.{◌∙◌, ap}
 use Rattle.std.specs.Prelude.{filter}
 use Rattle.std.specs.BTreeSet.{contains}

@@ -1,3 +1,5 @@
+-- Why `named_calls` in src/held.rt keeps its loop `i`.
+
 use Rattle.std.proofs.Common.{◌∙◌, ◌-◌, ◌<◌, ◌≤◌, ap, arith, cond, get_or, length, map, sym, Some}
 use Rattle.std.specs.HashMap.{get_by_text}
 use Rattle.std.specs.Prelude.{string_bytes}

@@ -1,3 +1,5 @@
+-- What the loop `i` of `named_calls` in src/held.rt keeps.
+
 use Rattle.std.proofs.Common.{◌≡◌, drop, map}
 use Rattle.std.specs.HashMap.{get_by_text}
 use Rattle.ls_report.specs.Events.{Text}

@@ -1,3 +1,5 @@
+-- Why `set_after` in src/held.rt keeps its loop `call`.
+
 use Rattle.std.proofs.Common.{◌∙◌, ap, get_or, sym}
 use Rattle.ls_orders.specs.Rules.{after_call}
 use Rattle.ls_orders.proofs.RuleLemmas.{no_call}

@@ -1,3 +1,5 @@
+-- What the loop `call` of `set_after` in src/held.rt keeps.
+
 use Rattle.std.proofs.Common.{◌≡◌, ℤ, take}
 use Rattle.std.specs.BTreeSet.{contains}
 use Rattle.std.specs.Ordering.{int_cmp}

@@ -1,3 +1,5 @@
+-- Why `those_in` in src/held.rt keeps its loop `item`.
+
 use Rattle.std.proofs.Common.{arith}
 use Rattle.std.specs.Prelude.{pos}
 use Rattle.std.specs.BTreeSet.{contains}

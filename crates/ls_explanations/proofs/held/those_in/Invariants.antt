@@ -1,3 +1,5 @@
+-- What the loop `item` of `those_in` in src/held.rt keeps.
+
 use Rattle.std.proofs.Common.{◌≡◌, take}
 use Rattle.std.specs.Prelude.{filter}
 use Rattle.std.specs.BTreeSet.{contains}

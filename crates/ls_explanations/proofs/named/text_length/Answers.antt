@@ -1,3 +1,5 @@
+-- Why `text_length` in src/named.rt keeps its contract.
+
 use Rattle.std.proofs.Common.{◌∙◌, ap, length, sym}
 use Rattle.std.proofs.lemmas.Str.{utf8_valid_len-IsUtf8}
 use Rattle.ls_explanations.proofs.named.text_length.Goals as goal

@@ -1,3 +1,5 @@
+-- What the loop `item` of `push_more` in src/noting.rt keeps.
+
 use Rattle.std.proofs.Common.{◌≡◌, ◌++◌, take}
 use Rattle.std.specs.Prelude.{string_bytes}
 use Rattle.std.specs.List.{flat_map}

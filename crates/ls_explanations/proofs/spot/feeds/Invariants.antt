@@ -1,3 +1,5 @@
+-- What the loop `byte` of `feeds` in src/spot.rt keeps.
+
 use Rattle.std.proofs.Common.{◌≡◌, ◌≤◌, take}
 use Rattle.std.specs.List.{count_by}
 use Rattle.ls_explanations.specs.Spots.{is_feed}

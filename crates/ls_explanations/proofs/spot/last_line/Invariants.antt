@@ -1,3 +1,5 @@
+-- What the loop `start` of `last_line` in src/spot.rt keeps, and why the loop ends.
+
 use Rattle.std.proofs.Common.{◌≡◌, ◌+◌, ◌≤◌, length, take, not}
 use Rattle.std.specs.List.{suffix_len}
 use Rattle.ls_explanations.specs.Spots.{is_feed}

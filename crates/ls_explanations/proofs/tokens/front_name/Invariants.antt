@@ -1,3 +1,5 @@
+-- What the loop `end` of `front_name` in src/tokens.rt keeps, and why the loop ends.
+
 use Rattle.std.proofs.Common.{◌≡◌, ◌+◌, ◌-◌, ◌≤◌, length, drop, not}
 use Rattle.std.specs.List.{position_or_len}
 use Rattle.ls_lexer.specs.Characters.{is_part}

@@ -1,3 +1,5 @@
+-- What the loop `start` of `last_name` in src/tokens.rt keeps, and why the loop ends.
+
 use Rattle.std.proofs.Common.{◌≡◌, ◌+◌, ◌≤◌, length, take}
 use Rattle.std.specs.List.{suffix_len}
 use Rattle.ls_lexer.specs.Characters.{is_part}

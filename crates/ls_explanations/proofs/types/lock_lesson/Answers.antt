@@ -1,3 +1,5 @@
+-- Why `lock_lesson` in src/types.rt keeps its contract.
+
 use Rattle.std.proofs.Common.{◌≡◌, ◌||◌, true, refl, rules}
 use Rattle.std.specs.Prelude.{codes}
 use Rattle.std.specs.Str.{bytes_eq}

@@ -1,7 +1,9 @@
+-- Why `explore` in src/exploring.rt keeps its contract and what it calls with.
+
 use Rattle.std.proofs.Common.{◌≡◌, ◌∙◌, false, ℕ, List, length, sym, ap, subst, arith}
 use Rattle.std.specs.Prelude.{All, Contains}
 use Rattle.ls_code.specs.Machine.{Machine}
-use Rattle.ls_explore_laws.specs.Bursts.{IsClosed}
+use Rattle.ls_explore.specs.Bursts.{IsClosed}
 use Rattle.ls_explore.specs.declared.searching.Seen.{Seen}
 use Rattle.ls_explore.specs.Searches.{AreSaved, IsSound, paths_of}
 use Rattle.ls_explore.specs.Walks.{led_to, root_of}

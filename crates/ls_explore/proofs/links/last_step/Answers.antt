@@ -1,3 +1,5 @@
+-- Why `last_step` in src/links.rt keeps its clauses `none` and `some`.
+
 use Rattle.std.proofs.Common.{get_or}
 use Rattle.std.proofs.lemmas.Option.{slice_get-get_or}
 use Rattle.ls_explore.specs.declared.links.Link.{Link}

@@ -1,3 +1,5 @@
+-- Why `in_order` in src/rows.rt keeps its clause `order`.
+
 use Rattle.std.proofs.Common.{rules}
 use Rattle.std.specs.Ordering.{is_lt}
 use Rattle.std.proofs.lemmas.List.Sorted.{answers_always, ranks_by}

@@ -1,3 +1,5 @@
+-- Why `close` in src/searching.rt keeps its contract, its loop and what it calls with.
+
 use Rattle.std.proofs.Common.{◌+◌, ◌≤◌, length, refl, sym, ap, subst, arith}
 use Rattle.std.proofs.lemmas.Bool.{leb-true}
 use Rattle.ls_explore.specs.Searches.{AreSaved, IsClosedTo, IsSound, paths_of}

@@ -1,3 +1,5 @@
+-- Why `expand` in src/searching.rt keeps its contract, its loop and what it calls with.
+
 use Rattle.std.proofs.Common.{◌∙◌, ◌+◌, ℕ, List, length, refl, sym, ap, subst, arith}
 use Rattle.ls_code.specs.Machine.{Machine}
 use Rattle.ls_explore.specs.Searches.{AreSaved, paths_of}

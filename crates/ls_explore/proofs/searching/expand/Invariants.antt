@@ -1,3 +1,5 @@
+-- What the loop `thread` of `expand` in src/searching.rt keeps.
+
 use Rattle.std.proofs.Common.{◌≡◌, ◌≤◌, length}
 use Rattle.ls_explore.specs.Searches.{AreDistinct, AreSaved, paths_of}
 use Rattle.ls_explore.specs.Walks.{root_of}

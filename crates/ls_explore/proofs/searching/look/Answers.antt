@@ -1,3 +1,5 @@
+-- Why `look` in src/searching.rt keeps its contract and what it calls with.
+
 use Rattle.std.proofs.Common.{◌≡◌, ℕ, ◌++◌, List, [], ◌∷◌, get_or, Some, sym, ap, ◌∙◌, subst, arith, slice_get}
 use Rattle.ls_code.specs.Machine.{Machine, loaded}
 use Rattle.ls_machine.proofs.Back.{runs_keep}

@@ -1,3 +1,5 @@
+-- Why `search` in src/searching.rt keeps its clause `few` and what `close` requires.
+
 use Rattle.std.proofs.Common.{ℕ, List, [], ◌∷◌, arith, length, map, sym, ap, ◌∙◌}
 use Rattle.ls_code.specs.Machine.{Machine}
 use Rattle.ls_machine.specs.Saved.{standing}

@@ -1,3 +1,5 @@
+-- Why `add_row` in src/table.rt keeps its clause `some`.
+
 use Rattle.std.proofs.Common.{◌≡◌, ◌∷◌, [], ◌++◌, ℕ, sym, subst}
 use Rattle.std.specs.Prelude.{IfSome}
 use Rattle.ls_code.specs.Machine.{Machine}

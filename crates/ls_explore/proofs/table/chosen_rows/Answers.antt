@@ -1,3 +1,5 @@
+-- Why `chosen_rows` in src/table.rt keeps its contract, its loop and what it calls with.
+
 use Rattle.std.proofs.Common.{◌≡◌, ◌<◌, ◌∙◌, ◌∷◌, [], ◌++◌, ℕ, List, Some, length, ap, arith, refl, subst, sym}
 use Rattle.std.specs.Prelude.{IfSome}
 use Rattle.ls_code.specs.Machine.{Machine}

@@ -1,3 +1,5 @@
+-- What the loop `number` of `chosen_rows` in src/table.rt keeps.
+
 use Rattle.std.proofs.Common.{◌≡◌}
 use Rattle.ls_explore.specs.Searches.{paths_of}
 use Rattle.ls_explore.specs.Walks.{root_of}

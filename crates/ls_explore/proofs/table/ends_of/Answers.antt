@@ -1,3 +1,5 @@
+-- Why `ends_of` in src/table.rt keeps its clauses `many` and `each` and its loop `at`.
+
 use Rattle.std.proofs.Common.{◌≡◌, ◌<◌, ◌∷◌, [], length, not, arith, ap, sym, refl, ◌∙◌, length-append}
 use Rattle.ls_history_numbers.proofs.Lists.{below}
 use Rattle.ls_source_rows.proofs.Pushing.{told_more}

@@ -1,3 +1,5 @@
+-- What the loop `at` of `ends_of` in src/table.rt keeps.
+
 use Rattle.std.proofs.Common.{◌≡◌, ◌<◌, ℕ, Bool, Some, length}
 use Rattle.std.specs.Prelude.{slice_get}
 use Rattle.ls_explore.proofs.Listing.{IsEndAt}

@@ -1,3 +1,5 @@
+-- Why `number_at` in src/table.rt keeps its clause `is`.
+
 use Rattle.std.proofs.Common.{◌∙◌, ap, subst}
 use Rattle.ls_code.specs.Machine.{Machine}
 use Rattle.ls_history_numbers.specs.Numbers.{IsOf}

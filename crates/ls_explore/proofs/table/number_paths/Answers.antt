@@ -1,3 +1,5 @@
+-- Why `number_paths` in src/table.rt keeps its loop `at` and what `number_at` requires.
+
 use Rattle.std.proofs.Common.{◌≡◌, ◌∙◌, ◌∷◌, [], ℕ, List, Some, length, arith, ap, refl, sym, subst}
 use Rattle.std.proofs.Common.{length-append, slice_get}
 use Rattle.ls_code.specs.Machine.{Machine}

@@ -1,3 +1,5 @@
+-- What the loop `at` of `number_paths` in src/table.rt keeps.
+
 use Rattle.std.proofs.Common.{◌≡◌, ℕ, List, Some, length}
 use Rattle.std.specs.Prelude.{slice_get}
 use Rattle.ls_history_numbers.specs.Numbers.{AreNumbered, IsOf}

@@ -1,3 +1,5 @@
+-- Why `row_at` in src/table.rt keeps its clause `row`.
+
 use Rattle.std.proofs.Common.{◌≡◌, ◌∙◌, List, ℕ, Some, sym, ap, slice_get}
 use Rattle.ls_code.specs.Machine.{Machine}
 use Rattle.ls_explore.specs.Rows.{Told, ending_of}

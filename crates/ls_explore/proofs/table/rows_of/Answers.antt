@@ -1,3 +1,5 @@
+-- Why `rows_of` in src/table.rt keeps its contract and what `choose` and `chosen_rows` require.
+
 use Rattle.std.proofs.Common.{◌≡◌, ◌<◌, ◌∙◌, ℕ, List, length, sym, ap, arith, subst}
 use Rattle.std.specs.Prelude.{slice_get}
 use Rattle.ls_code.specs.Machine.{Machine}

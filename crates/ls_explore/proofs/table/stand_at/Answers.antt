@@ -1,3 +1,5 @@
+-- Why `stand_at` in src/table.rt keeps its clause `at` and what `index` and `stand` require.
+
 use Rattle.std.proofs.Common.{◌≡◌, ◌∙◌, List, ℕ, Some, sym, ap, arith, slice_get}
 use Rattle.ls_explore.specs.Searches.{paths_of}
 use Rattle.ls_explore.specs.Walks.{root_of, walked}

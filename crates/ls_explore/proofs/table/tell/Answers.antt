@@ -1,3 +1,5 @@
+-- Why `tell` in src/table.rt keeps its clause `told`.
+
 use Rattle.ls_explore.specs.Searches.{paths_of}
 use Rattle.ls_explore.specs.Walks.{root_of}
 use Rattle.ls_explore.proofs.Listing.{listed_sorted}

@@ -1,3 +1,5 @@
+-- Why `advance` in src/walking.rt keeps its clauses `machine`, `did`, `code` and `cells`.
+
 use Rattle.std.proofs.Common.{ap, ◌∙◌}
 use Rattle.ls_code.specs.Code.{Code}
 use Rattle.ls_code.specs.Machine.{Machine}

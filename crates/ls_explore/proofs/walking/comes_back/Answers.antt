@@ -1,5 +1,7 @@
+-- Why `comes_back` in src/walking.rt keeps its clause `back` and its loop `preserved`.
+
 use Rattle.std.proofs.Common.{suc, ◌+◌, refl, sym, ◌∙◌, subst}
-use Rattle.ls_explore_laws.specs.Bursts.{IsSilentTo}
+use Rattle.ls_explore.specs.Bursts.{IsSilentTo}
 use Rattle.ls_explore.proofs.Walks.{silent_join, silent_more}
 use Rattle.ls_explore.proofs.walking.comes_back.Goals as goal
 

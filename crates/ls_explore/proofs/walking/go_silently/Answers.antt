@@ -1,3 +1,5 @@
+-- Why `go_silently` in src/walking.rt keeps its clause `cells` and its loop `preserved`.
+
 use Rattle.std.proofs.Common.{◌+◌, [], ◌∷◌, refl, sym, ap, ◌∙◌}
 use Rattle.ls_code.specs.Code.{Code}
 use Rattle.ls_code.specs.Machine.{Machine}

@@ -1,6 +1,8 @@
+-- Why `goes_round` in src/walking.rt keeps its clause `never`.
+
 use Rattle.std.proofs.Common.{subst}
 use Rattle.ls_code.specs.Machine.{Machine}
-use Rattle.ls_explore_laws.specs.Bursts.{IsSilentTo}
+use Rattle.ls_explore.specs.Bursts.{IsSilentTo}
 use Rattle.ls_explore.specs.Walks.{root_of, walked}
 use Rattle.ls_explore.proofs.Walks.{round_never}
 use Rattle.ls_explore.proofs.walking.goes_round.Goals as goal

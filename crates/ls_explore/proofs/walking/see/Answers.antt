@@ -1,8 +1,10 @@
+-- Why `see` in src/walking.rt keeps its contract and what it calls with.
+
 use Rattle.std.proofs.Common.{◌≡◌, ◌≤◌, ◌∙◌, ℕ, false, List, sym, ap, subst, arith}
 use Rattle.ls_code.specs.Machine.{Machine}
 use Rattle.ls_machine.specs.Saved.{Standing, standing}
 use Rattle.ls_preservation.specs.Acting.{first_did}
-use Rattle.ls_explore_laws.specs.Bursts.{IsSilentTo, burst}
+use Rattle.ls_explore.specs.Bursts.{IsSilentTo, burst}
 use Rattle.ls_explore.specs.Walks.{is_silent, root_of, tried, walked}
 use Rattle.ls_explore.proofs.Loops.{root_same}
 use Rattle.ls_explore.proofs.Walks.{few_enough, seen_acts, seen_at, seen_did, seen_none, silent_tried}

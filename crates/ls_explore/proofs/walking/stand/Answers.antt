@@ -1,3 +1,5 @@
+-- Why `stand` in src/walking.rt keeps its clauses `at`, `code` and `cells`.
+
 use Rattle.std.proofs.Common.{ℕ, List, sym, ap, ◌∙◌}
 use Rattle.ls_code.specs.Code.{Code}
 use Rattle.ls_code.specs.Machine.{Machine, loaded}

@@ -1,3 +1,5 @@
+-- Why `try_thread` in src/walking.rt keeps its clauses `machine` and `did` and its loop `preserved`.
+
 use Rattle.std.proofs.Common.{◌+◌, ◌-◌, ◌∙◌, sym, ap, arith}
 use Rattle.ls_explore.specs.Walks.{Tried, tried}
 use Rattle.ls_explore.proofs.Walks.{tried_ends, tried_goes_on, tried_over}

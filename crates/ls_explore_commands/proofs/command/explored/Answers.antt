@@ -1,3 +1,5 @@
+-- Why `explored` in src/command.rt keeps its clause `gives` and what `judge_rows` and `print_exploration` require.
+
 use Rattle.std.proofs.Common.{◌∙◌, ap, subst, sym}
 use Rattle.std.proofs.lemmas.Result.{err_from_is_err_and}
 use Rattle.std.specs.Prelude.{All, string_bytes}
@@ -7,10 +9,10 @@ use Rattle.ls_checked.specs.declared.program.Program.{Program}
 use Rattle.ls_image.specs.Images.{program_of_image}
 use Rattle.ls_labels.specs.Names.{Names, names_of}
 use Rattle.ls_schedule.specs.Reading.{thread_names}
-use Rattle.ls_types.specs.CheckedFile.{outcome_of}
+use Rattle.ls_types_checked.specs.CheckedFile.{elaborated_file}
 use Rattle.ls_explore_reports.specs.Judged.{AreHistories, IsJudged}
 use Rattle.ls_explore_reports.specs.Cuts.{IsExploredText}
-use Rattle.ls_explore_commands.specs.Explored.{names_in}
+use Rattle.ls_explore_reports.specs.ImageNames.{names_in}
 use Rattle.ls_explore_commands.proofs.ExploredLemmas.{below_so, explore_fails, explore_tells, judged_so, linear_so}
 use Rattle.ls_explore_commands.proofs.ExploredLemmas.{long_fails, rows_named, rows_so, so_here, whole_here}
 use Rattle.ls_explore_commands.proofs.command.explored.Goals as goal
@@ -56,14 +58,14 @@ returns-in_err-text-clause-gives g c =
     c.in_ok-judged.ensures.verdicts in
     let linear = linear_so i (plain_file c.file-file.result.now) c.program.result.now found.complete found.roomy
     c.is_whole-whole.result c.as_slice.result.now found.rows.items judged (ap plain_file c.file-file.ensures
-    ∙ ap (λ k. (outcome_of k).file) c.checked.ensures) c.program.ensures c.is_whole-whole.ensures
+    ∙ ap (λ k. (elaborated_file k).file) c.checked.ensures) c.program.ensures c.is_whole-whole.ensures
     c.as_slice.ensures.value c.in_ok-judged.ensures.linear in
     let below = below_so i (plain_file c.file-file.result.now) c.program.result.now c.args.exploring.order judged
-    (ap plain_file c.file-file.ensures ∙ ap (λ k. (outcome_of k).file) c.checked.ensures) c.program.ensures
+    (ap plain_file c.file-file.ensures ∙ ap (λ k. (elaborated_file k).file) c.checked.ensures) c.program.ensures
     c.in_ok-judged.ensures.below in
     let so =
-    judged_so c.linearity_is_meant.ensures c.none_is_illegal.ensures.whole c.none_is_not_linearizable.ensures.whole i
-    c.args.exploring.cells c.args.exploring.states c.args.exploring.order found.setup found.rows.items judged
+    judged_so c.linearity_is_meant.ensures c.none_is_illegal.ensures.whole c.none_is_illegal.ensures.fitting
+    c.none_is_not_linearizable.ensures.whole c.none_is_not_linearizable.ensures.fitting i c.args.exploring.cells c.args.exploring.states c.args.exploring.order found.setup found.rows.items judged
     found.states found.complete found.roomy of_rows c.in_ok-found.ensures.found.truth c.in_ok-found.ensures.found.states
     c.in_ok-found.ensures.found.few c.in_ok-found.ensures.found.cut c.in_ok-found.ensures.found.by
     c.in_ok-found.ensures.found.whole
@@ -87,10 +89,10 @@ returns-clause-gives g c =
     c.in_ok-judged.ensures.verdicts in
     let linear = linear_so i (plain_file c.file-file.result.now) c.program.result.now found.complete found.roomy
     c.is_whole-whole.result c.as_slice.result.now found.rows.items judged (ap plain_file c.file-file.ensures
-    ∙ ap (λ k. (outcome_of k).file) c.checked.ensures) c.program.ensures c.is_whole-whole.ensures
+    ∙ ap (λ k. (elaborated_file k).file) c.checked.ensures) c.program.ensures c.is_whole-whole.ensures
     c.as_slice.ensures.value c.in_ok-judged.ensures.linear in
     let below = below_so i (plain_file c.file-file.result.now) c.program.result.now c.args.exploring.order judged
-    (ap plain_file c.file-file.ensures ∙ ap (λ k. (outcome_of k).file) c.checked.ensures) c.program.ensures
+    (ap plain_file c.file-file.ensures ∙ ap (λ k. (elaborated_file k).file) c.checked.ensures) c.program.ensures
     c.in_ok-judged.ensures.below in
     let first = subst (λ (ns : Names). IsExploredText ns (thread_names c.names_in.result.program.now) found.setup
     c.as_slice-2.result.now found.states found.complete found.roomy e t) c.names_in.ensures.names
@@ -100,8 +102,8 @@ returns-clause-gives g c =
     let said = subst (λ js. IsExploredText (names_in i) (thread_names (program_of_image i)) found.setup js
     found.states found.complete found.roomy e t) c.as_slice-2.ensures.value next in
     explore_tells i e found.setup judged found.states found.complete found.roomy t c.in_ok-found.ensures.found.good
-    (judged_so c.linearity_is_meant.ensures c.none_is_illegal.ensures.whole c.none_is_not_linearizable.ensures.whole i
-    e.cells e.states e.order found.setup found.rows.items judged found.states found.complete found.roomy of_rows
+    (judged_so c.linearity_is_meant.ensures c.none_is_illegal.ensures.whole c.none_is_illegal.ensures.fitting
+    c.none_is_not_linearizable.ensures.whole c.none_is_not_linearizable.ensures.fitting i e.cells e.states e.order found.setup found.rows.items judged found.states found.complete found.roomy of_rows
     c.in_ok-found.ensures.found.truth c.in_ok-found.ensures.found.states c.in_ok-found.ensures.found.few
     c.in_ok-found.ensures.found.cut
     c.in_ok-found.ensures.found.by c.in_ok-found.ensures.found.whole c.in_ok-found.ensures.found.apart

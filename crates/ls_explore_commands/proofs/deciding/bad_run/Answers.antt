@@ -1,9 +1,11 @@
+-- Why `bad_run` in src/deciding.rt keeps its clauses `bad` and `fewest`.
+
 use Rattle.std.proofs.Common.{◌≡◌, ◌∙◌, ap, subst, true, List, ℕ}
 use Rattle.ls_checked.specs.CheckedTree.{File}
 use Rattle.ls_checked.specs.CheckedProgram.{Program}
 use Rattle.ls_checked.specs.Plain.{plain_file}
 use Rattle.ls_checked.specs.PlainProgram.{plain_program}
-use Rattle.ls_types.specs.CheckedFile.{outcome_of}
+use Rattle.ls_types_checked.specs.CheckedFile.{elaborated_file}
 use Rattle.ls_source_judge.specs.Judged.{IsNotLinearizable, IsSimplestBad}
 use Rattle.ls_translation.specs.Texts.{file_of, program_of}
 use Rattle.ls_explore_commands.proofs.Decisions.{at_same}
@@ -13,7 +15,7 @@ pub returns-clause-bad : goal.returns-clause-bad
 returns-clause-bad c =
     let i = c.args.image.now in
     let file : plain_file c.file-file.result.now ≡ file_of i =
-    ap plain_file c.file-file.ensures ∙ ap (λ k. (outcome_of k).file) c.checked.ensures in
+    ap plain_file c.file-file.ensures ∙ ap (λ k. (elaborated_file k).file) c.checked.ensures in
     let program : plain_program c.program.result.now ≡ program_of i = ap plain_program c.program.ensures in
     subst (λ (s : List ℕ). IsNotLinearizable (file_of i) (program_of i) s →
     IsNotLinearizable (file_of i) (program_of i) c.in_ok-run.run'.schedule) c.in_ok-found.ensures.steps
@@ -24,7 +26,7 @@ pub returns-clause-fewest : goal.returns-clause-fewest
 returns-clause-fewest c =
     let i = c.args.image.now in
     let file : plain_file c.file-file.result.now ≡ file_of i =
-    ap plain_file c.file-file.ensures ∙ ap (λ k. (outcome_of k).file) c.checked.ensures in
+    ap plain_file c.file-file.ensures ∙ ap (λ k. (elaborated_file k).file) c.checked.ensures in
     let program : plain_program c.program.result.now ≡ program_of i = ap plain_program c.program.ensures in
     at_same (λ (f : File) (p : Program). c.in_ok-run.run'.fewest ≡ true →
     IsSimplestBad f p c.in_ok-run.run'.schedule) file program c.in_ok-run.ensures.fewest

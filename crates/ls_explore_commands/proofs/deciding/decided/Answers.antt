@@ -1,8 +1,10 @@
+-- Why `decided` in src/deciding.rt keeps its contract.
+
 use Rattle.std.proofs.Common.{◌++◌, replicate, subst, sym}
 use Rattle.std.specs.Prelude.{IfNone, IfSome}
-use Rattle.ls_explore_images.specs.Faults.{AreBadStates}
+use Rattle.ls_explore.specs.Faults.{AreBadStates}
 use Rattle.ls_source_judge.specs.Judged.{AllLinearizable, IsNotLinearizable}
-use Rattle.ls_state_space.specs.Verdicts.{LeavesStuck, NeverStuck}
+use Rattle.ls_search.specs.Verdicts.{LeavesStuck, NeverStuck}
 use Rattle.ls_translation.specs.Texts.{file_of, program_of}
 use Rattle.ls_explore_commands.specs.Verdicts.{NoStates}
 use Rattle.ls_explore_commands.proofs.Decisions.{not_both}

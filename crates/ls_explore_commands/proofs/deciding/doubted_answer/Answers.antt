@@ -1,6 +1,8 @@
+-- Why `doubted_answer` in src/deciding.rt keeps its contract.
+
 use Rattle.std.proofs.Common.{◌++◌, replicate, subst, sym}
 use Rattle.std.specs.Prelude.{IfNone, IfSome}
-use Rattle.ls_state_space.specs.Verdicts.{LeavesStuck, NeverStuck}
+use Rattle.ls_search.specs.Verdicts.{LeavesStuck, NeverStuck}
 use Rattle.ls_translation.specs.Texts.{file_of, program_of}
 use Rattle.ls_explore_commands.proofs.deciding.doubted_answer.Goals as goal
 

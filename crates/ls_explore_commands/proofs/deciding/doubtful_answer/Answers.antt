@@ -1,3 +1,5 @@
+-- Why `doubtful_answer` in src/deciding.rt keeps its contract.
+
 use Rattle.std.proofs.Common.{refl}
 use Rattle.std.proofs.lemmas.Result.{err_from_is_err_and}
 use Rattle.ls_explore_commands.specs.Reports.{doubtful_text}

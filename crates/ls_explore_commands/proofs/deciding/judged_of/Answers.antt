@@ -1,13 +1,15 @@
+-- Why `judged_of` in src/deciding.rt keeps its clauses `free` and `extent`.
+
 use Rattle.std.proofs.Common.{◌≡◌, ◌∙◌, ap, subst}
 use Rattle.std.specs.Prelude.{IfNone}
 use Rattle.ls_checked.specs.CheckedTree.{File}
 use Rattle.ls_checked.specs.CheckedProgram.{Program}
 use Rattle.ls_checked.specs.Plain.{plain_file}
 use Rattle.ls_checked.specs.PlainProgram.{plain_program}
-use Rattle.ls_types.specs.CheckedFile.{outcome_of}
+use Rattle.ls_types_checked.specs.CheckedFile.{elaborated_file}
 use Rattle.ls_translation.specs.Texts.{file_of, program_of}
 use Rattle.ls_search_laws.specs.Stepping.{SetsUp}
-use Rattle.ls_state_space.specs.Verdicts.{AreReached, NeverStuck}
+use Rattle.ls_search.specs.Verdicts.{AreReached, NeverStuck}
 use Rattle.ls_explore_commands.proofs.deciding.judged_of.Goals as goal
 
 pub returns-clause-free : goal.returns-clause-free
@@ -15,7 +17,7 @@ returns-clause-free c = λ complete.
     let i = c.args.image.now in
     let j = c.in_ok-judged.judged in
     let file : plain_file c.file.result.now ≡ file_of i =
-    ap plain_file c.file.ensures ∙ ap (λ k. (outcome_of k).file) c.checked.ensures in
+    ap plain_file c.file.ensures ∙ ap (λ k. (elaborated_file k).file) c.checked.ensures in
     let program : plain_program c.program.result.now ≡ program_of i = ap plain_program c.program.ensures in
     subst (λ (p : Program). IfNone j.stuck (NeverStuck (file_of i) p)) program
     (subst (λ (f : File). IfNone j.stuck (NeverStuck f (plain_program c.program.result.now))) file
@@ -26,7 +28,7 @@ returns-clause-extent c =
     let i = c.args.image.now in
     let j = c.in_ok-judged.judged in
     let file : plain_file c.file.result.now ≡ file_of i =
-    ap plain_file c.file.ensures ∙ ap (λ k. (outcome_of k).file) c.checked.ensures in
+    ap plain_file c.file.ensures ∙ ap (λ k. (elaborated_file k).file) c.checked.ensures in
     let program : plain_program c.program.result.now ≡ program_of i = ap plain_program c.program.ensures in
     record {
       within = c.in_ok-judged.ensures.few;

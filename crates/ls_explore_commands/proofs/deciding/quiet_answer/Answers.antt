@@ -1,3 +1,5 @@
+-- Why `quiet_answer` in src/deciding.rt keeps its contract.
+
 use Rattle.std.proofs.Common.{subst}
 use Rattle.ls_spinning.specs.Told.{IsTurning}
 use Rattle.ls_translation.specs.Texts.{file_of, program_of}

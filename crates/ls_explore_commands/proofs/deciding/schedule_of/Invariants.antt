@@ -1,3 +1,5 @@
+-- What the loop `thread` of `schedule_of` in src/deciding.rt keeps.
+
 use Rattle.std.proofs.Common.{◌≡◌, ◌++◌, replicate, take}
 use Rattle.ls_explore_commands.proofs.deciding.schedule_of.Given as goal
 

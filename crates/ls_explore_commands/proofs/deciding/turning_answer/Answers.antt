@@ -1,3 +1,5 @@
+-- Why `turning_answer` in src/deciding.rt keeps its contract.
+
 use Rattle.std.proofs.Common.{refl, false}
 use Rattle.ls_explore_commands.specs.Reports.{turning_text}
 use Rattle.ls_explore_commands.specs.Verdicts.{IsTurning}

@@ -1,3 +1,5 @@
+-- Why `unsure_answer` in src/deciding.rt keeps its contract.
+
 use Rattle.std.proofs.Common.{◌≡◌, subst}
 use Rattle.std.specs.Prelude.{string_bytes}
 use Rattle.ls_explore_commands.specs.Reports.{unsure_text}

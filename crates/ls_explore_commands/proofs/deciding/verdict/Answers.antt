@@ -1,3 +1,5 @@
+-- Why `verdict` in src/deciding.rt keeps its contract.
+
 use Rattle.std.proofs.Common.{ℕ}
 use Rattle.std.proofs.lemmas.Result.{err_from_is_err_and}
 use Rattle.std.specs.Prelude.{Result}

@@ -1,3 +1,5 @@
+-- Why `wrong_answer` in src/deciding.rt keeps its contract.
+
 use Rattle.std.proofs.Common.{◌++◌, replicate, subst}
 use Rattle.std.specs.Prelude.{IfNone, IfSome}
 use Rattle.ls_serial_search.specs.Told.{IsDoubt, usual}

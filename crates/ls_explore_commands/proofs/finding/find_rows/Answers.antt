@@ -1,3 +1,5 @@
+-- Why `find_rows` in src/finding.rt keeps its clauses `found` and `refused`.
+
 use Rattle.std.proofs.Common.{ℕ, Option, sym, subst}
 use Rattle.std.specs.Prelude.{IfErr, IfOk}
 use Rattle.ls_explore_commands.specs.Finding.{IsFound, IsRefused}

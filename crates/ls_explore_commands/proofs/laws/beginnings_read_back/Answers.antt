@@ -1,3 +1,5 @@
+-- Why `beginnings_read_back` in src/laws.rt keeps its contract.
+
 use Rattle.ls_explore_commands.proofs.ReadBack.{beginnings_read_back}
 use Rattle.ls_explore_commands.proofs.laws.beginnings_read_back.Goals as goal
 

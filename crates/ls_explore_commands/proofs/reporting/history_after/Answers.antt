@@ -1,3 +1,5 @@
+-- Why `history_after` in src/reporting.rt keeps its contract.
+
 use Rattle.std.proofs.Common.{◌∙◌, ap, List, ℕ}
 use Rattle.ls_meaning.specs.Runs.{source_history}
 use Rattle.ls_labels.specs.Names.{names_of}

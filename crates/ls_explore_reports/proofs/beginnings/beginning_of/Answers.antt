@@ -1,3 +1,5 @@
+-- Why `beginning_of` in src/beginnings.rt keeps its clause `some` and what `first_events` requires.
+
 use Rattle.std.proofs.Common.{IfSome, subst}
 use Rattle.ls_checked.specs.PlainProgram.{plain_program}
 use Rattle.ls_verdicts.specs.Hopeless.{IsHopelessRun}

@@ -1,3 +1,5 @@
+-- Why `beginnings_of` in src/beginnings.rt keeps its loop `place`.
+
 use Rattle.std.proofs.Common.{◌∙◌, ◌++◌, ◌∷◌, [], List, Vec, ap, map, subst, sym, take}
 use Rattle.std.proofs.lemmas.List.{take_more}
 use Rattle.std.specs.Global.{Global}

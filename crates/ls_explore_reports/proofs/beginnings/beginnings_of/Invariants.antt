@@ -1,3 +1,5 @@
+-- What the loop `place` of `beginnings_of` in src/beginnings.rt keeps.
+
 use Rattle.std.proofs.Common.{Vec, map, take}
 use Rattle.std.specs.Global.{Global}
 use Rattle.ls_checked.specs.PlainProgram.{plain_program}

@@ -1,3 +1,5 @@
+-- Why `push_beginning` in src/beginnings.rt keeps its contract.
+
 use Rattle.std.proofs.Common.{◌≡◌, ◌+◌, ◌∙◌, ◌++◌, ◌∷◌, ℕ, [], IfSome, List, Vec, ap, map, subst, sym, take}
 use Rattle.std.proofs.lemmas.List.{map-append}
 use Rattle.std.specs.Global.{Global}

@@ -1,3 +1,5 @@
+-- Why `below` in src/below.rt keeps its contract and what `tell_known` requires.
+
 use Rattle.std.proofs.Common.{string_bytes}
 use Rattle.ls_explore_reports.proofs.BelowRows.{is_known, none_below, some_below}
 use Rattle.ls_explore_reports.proofs.below.below.Goals as goal

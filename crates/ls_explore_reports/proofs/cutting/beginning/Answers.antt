@@ -1,3 +1,5 @@
+-- Why `beginning` in src/cutting.rt keeps its contract and what `below` requires.
+
 use Rattle.std.proofs.Common.{◌∙◌, ◌++◌, List, ap, string_bytes, subst, sym}
 use Rattle.ls_events.specs.declared.event.Event.{Event}
 use Rattle.ls_checked.specs.Plain.{plain_file}

@@ -1,7 +1,9 @@
+-- What the loop `place` of `least_of` in src/cutting.rt keeps.
+
 use Rattle.std.proofs.Common.{take}
 use Rattle.ls_checked.specs.Plain.{plain_file}
 use Rattle.ls_checked.specs.PlainProgram.{plain_program}
-use Rattle.ls_cuts.specs.Cuts.{IsLeastOf}
+use Rattle.ls_verdicts.specs.Cuts.{IsLeastOf}
 use Rattle.ls_explore_reports.specs.Cuts.{schedules_of}
 use Rattle.ls_explore_reports.proofs.cutting.least_of.Given as goal
 

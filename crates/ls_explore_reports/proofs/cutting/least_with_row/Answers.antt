@@ -1,8 +1,10 @@
+-- Why `least_with_row` in src/cutting.rt keeps its clause `least`.
+
 use Rattle.std.proofs.Common.{◌∙◌, ap, sym}
 use Rattle.ls_checked.specs.Plain.{plain_file}
 use Rattle.ls_checked.specs.PlainProgram.{plain_program}
-use Rattle.ls_cuts.proofs.Leasts.{least_as_it_was}
-use Rattle.ls_explore_images.specs.Tellings.{schedule_of}
+use Rattle.ls_verdicts.proofs.Leasts.{least_as_it_was}
+use Rattle.ls_explore.specs.Tellings.{schedule_of}
 use Rattle.ls_explore_reports.specs.Judged.{is_illegal}
 use Rattle.ls_explore_reports.proofs.CutRows.{not_illegal}
 use Rattle.ls_explore_reports.proofs.cutting.least_with_row.Goals as goal

@@ -1,3 +1,5 @@
+-- Why `every_schedule_is_linearizable` in src/decided.rt keeps its clauses `fitting` and `whole`.
+
 use Rattle.ls_linearizable.proofs.Linearizing.{begun_linearizable}
 use Rattle.ls_explore_reports.specs.Rows.{histories}
 use Rattle.ls_explore_reports.proofs.RowsTold.{all_of_histories, told_begins}

@@ -1,3 +1,5 @@
+-- Why `none_is_unexplained` in src/decided.rt keeps its clauses `fitting`, `whole` and `unexplained`.
+
 use Rattle.ls_meaning.specs.Runs.{source_history}
 use Rattle.ls_explore.specs.Rows.{Told}
 use Rattle.ls_linearizable.proofs.Linearizing.{begun_linearizable, explained_linearizable, told_explained}

@@ -1,3 +1,5 @@
+-- Why `rows_decide` in src/decided.rt keeps its clauses `explained`, `whole` and `fitting`.
+
 use Rattle.ls_linearizable.proofs.Linearizing.{explained_linearizable, told_explained}
 use Rattle.ls_explore_reports.specs.Rows.{histories}
 use Rattle.ls_explore_reports.proofs.RowsTold.{told_begins, told_true}

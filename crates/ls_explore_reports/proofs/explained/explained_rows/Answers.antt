@@ -1,3 +1,5 @@
+-- Why `explained_rows` in src/explained.rt keeps its loop `at`.
+
 use Rattle.std.proofs.Common.{Decides, subst, sym, take, ◌+◌}
 use Rattle.std.specs.List.{AllZip}
 use Rattle.ls_explore.specs.Rows.{Told}

@@ -1,3 +1,5 @@
+-- What the loop `at` of `explained_rows` in src/explained.rt keeps.
+
 use Rattle.std.proofs.Common.{Decides, take}
 use Rattle.std.specs.List.{AllZip}
 use Rattle.ls_explore.specs.Rows.{Told}

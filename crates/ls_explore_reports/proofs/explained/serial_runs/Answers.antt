@@ -1,3 +1,5 @@
+-- Why `serial_runs` in src/explained.rt keeps its loop `at`.
+
 use Rattle.std.proofs.Common.{◌∙◌, ap}
 use Rattle.ls_explore.specs.Rows.{Told}
 use Rattle.ls_explore_reports.proofs.Collecting.{alike_more}

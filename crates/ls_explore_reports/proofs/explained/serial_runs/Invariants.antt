@@ -1,3 +1,5 @@
+-- What the loop `at` of `serial_runs` in src/explained.rt keeps.
+
 use Rattle.std.proofs.Common.{◌↔◌, List, take}
 use Rattle.ls_events.specs.declared.event.Event.{Event}
 use Rattle.ls_serial.specs.Serial.{HaveBeginning, IsSerial}

@@ -1,3 +1,5 @@
+-- Why `linearity_of` in src/judging.rt keeps its contract.
+
 use Rattle.ls_serial_search.specs.Told.{usual}
 use Rattle.ls_explore_reports.proofs.Known.{by_runs}
 use Rattle.ls_explore_reports.proofs.judging.linearity_of.Goals as goal

@@ -1,3 +1,5 @@
+-- Why `linearity_is_meant` in src/laws.rt keeps its contract.
+
 use Rattle.ls_explore_reports.proofs.Meant.{are_meant}
 use Rattle.ls_explore_reports.proofs.laws.linearity_is_meant.Goals as goal
 

@@ -1,3 +1,5 @@
+-- Why `every_schedule_is_legal` in src/legal.rt keeps its clauses `fitting` and `whole`.
+
 use Rattle.ls_meaning.specs.Runs.{source_history}
 use Rattle.ls_explore_reports.proofs.OrdersOfBeginnings.{told_legal}
 use Rattle.ls_explore_reports.proofs.legal.every_schedule_is_legal.Goals as goal

@@ -1,7 +1,9 @@
+-- Why `goes_on` in src/shortest.rt keeps its contract.
+
 use Rattle.std.proofs.Common.{◌≡◌, ◌++◌, ◌∷◌, ℕ, [], Bool, IfSome, subst, true}
 use Rattle.ls_checked.specs.Plain.{plain_file}
 use Rattle.ls_checked.specs.PlainProgram.{plain_program}
-use Rattle.ls_run_search.specs.Runs.{progress_at}
+use Rattle.ls_search.specs.Runs.{progress_at}
 use Rattle.ls_source.specs.Shown.{progress_of}
 use Rattle.ls_source.specs.declared.run.SourceRun.{SourceRun}
 use Rattle.ls_explore.specs.Rows.{ActAll}

@@ -1,3 +1,5 @@
+-- Why `run_along` in src/shortest.rt keeps its loop `thread`.
+
 use Rattle.std.proofs.Common.{rules}
 use Rattle.ls_checked.specs.Plain.{plain_file}
 use Rattle.ls_checked.specs.PlainProgram.{plain_program}
@@ -14,5 +16,5 @@ loop-thread-preserved c =
     record {
       run = stepped file program c.args.steps.now at _ _ _ (search rules) inv.run c.in_ok-did.ensures.run;
       acts = acts_next file program c.args.steps.now at _ _ _ (search rules) inv.acts inv.run c.in_ok-did.ensures.did
-          (c.acted.ensures.acts c.if-not-acted.false);
+          (c.has_acted.ensures.acts c.if-not-has_acted.false);
     }

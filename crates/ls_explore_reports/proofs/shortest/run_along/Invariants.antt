@@ -1,7 +1,9 @@
+-- What the loop `thread` of `run_along` in src/shortest.rt keeps.
+
 use Rattle.std.proofs.Common.{◌≡◌, take}
 use Rattle.ls_checked.specs.Plain.{plain_file}
 use Rattle.ls_checked.specs.PlainProgram.{plain_program}
-use Rattle.ls_run_search.specs.Runs.{progress_at}
+use Rattle.ls_search.specs.Runs.{progress_at}
 use Rattle.ls_source.specs.Shown.{progress_of}
 use Rattle.ls_explore.specs.Rows.{ActAll}
 use Rattle.ls_explore_reports.proofs.shortest.run_along.Given as goal

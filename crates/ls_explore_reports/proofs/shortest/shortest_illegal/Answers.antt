@@ -1,3 +1,5 @@
+-- Why `shortest_illegal` in src/shortest.rt keeps its clauses `known` and `schedule`.
+
 use Rattle.std.proofs.Common.{◌∙◌, ◌++◌, ◌∷◌, ℕ, [], List, Vec, arith, inr, map, subst, sym}
 use Rattle.std.specs.Global.{Global}
 use Rattle.ls_checked.specs.Plain.{plain_file}

@@ -1,3 +1,5 @@
+-- Why `some_acts` in src/shortest.rt keeps its contract and its loop `thread`.
+
 use Rattle.std.proofs.Common.{◌≡◌, ◌∙◌, ap, subst}
 use Rattle.ls_meaning.specs.Still.{IsActing, IsStill}
 use Rattle.ls_source.specs.Progress.{Progress}
@@ -11,12 +13,12 @@ loop-thread-preserved c =
     let is : c.in_ok-did.did ≡ did_at r c.loop-thread.thread =
     c.in_ok-did.ensures.did ∙ ap (λ (q : Progress). did_at q c.loop-thread.thread) c.loop-thread.invariant in
     let still : IsStill (did_at r c.loop-thread.thread) =
-    subst IsStill is (c.acted.ensures.still c.if-acted.false) in
+    subst IsStill is (c.has_acted.ensures.still c.if-has_acted.false) in
     c.in_ok-did.ensures.run ∙ stays_so (progress_of c.loop-thread.run) r c.loop-thread.thread c.loop-thread.invariant still
 
-pub returns-then-acted : goal.returns-then-acted
-returns-then-acted c = λ yes.
+pub returns-then-has_acted : goal.returns-then-has_acted
+returns-then-has_acted c = λ yes.
     let r : Progress = progress_of c.args.run.now in
     let is : c.in_ok-did.did ≡ did_at r c.loop-thread.thread =
     c.in_ok-did.ensures.did ∙ ap (λ (q : Progress). did_at q c.loop-thread.thread) c.loop-thread.invariant in
-    (c.loop-thread.thread, subst IsActing is (c.acted.ensures.acts c.if-acted.true))
+    (c.loop-thread.thread, subst IsActing is (c.has_acted.ensures.acts c.if-has_acted.true))

@@ -1,3 +1,5 @@
+-- What the loop `thread` of `some_acts` in src/shortest.rt keeps.
+
 use Rattle.std.proofs.Common.{◌≡◌}
 use Rattle.ls_source.specs.Shown.{progress_of}
 use Rattle.ls_explore_reports.proofs.shortest.some_acts.Given as goal

@@ -1,10 +1,12 @@
+-- Why `printed_cut` in src/telling.rt keeps its contract and what it calls with.
+
 use Rattle.std.proofs.Common.{◌≡◌, ◌∙◌, ◌<◌, ◌≤◌, ap, arith, length, string_bytes, subst, take}
 use Rattle.std.proofs.lemmas.Result.{err_from_is_err_and}
 use Rattle.ls_events.specs.Limits.{most_steps}
 use Rattle.ls_explore.specs.Rows.{Told}
 use Rattle.ls_labels.specs.Names.{names_of}
 use Rattle.ls_schedule.specs.Reading.{thread_names}
-use Rattle.ls_explore_images.specs.Tellings.{schedule_of}
+use Rattle.ls_explore.specs.Tellings.{schedule_of}
 use Rattle.ls_explore_reports.specs.Cuts.{IsOfLeast, with_known}
 use Rattle.ls_explore_reports.specs.Printing.{row_text}
 use Rattle.ls_explore_reports.specs.Shortest.{IsCutOrShorter}

@@ -1,5 +1,7 @@
+-- Why `printed_rows` in src/telling.rt keeps its clause `text` and what `printed_cut` requires.
+
 use Rattle.std.proofs.Common.{◌≡◌, ◌∙◌, string_bytes, subst, sym}
-use Rattle.ls_cuts.specs.Cuts.{IsLeastOf}
+use Rattle.ls_verdicts.specs.Cuts.{IsLeastOf}
 use Rattle.ls_labels.specs.Names.{names_of}
 use Rattle.ls_schedule.specs.Reading.{thread_names}
 use Rattle.ls_explore_reports.specs.Cuts.{IsOfLeast, IsPrinted, OfACut, OfRows, schedules_of}

@@ -1,3 +1,5 @@
+-- What the loop `call` of `any_has_number` in src/doubles.rt keeps.
+
 use Rattle.std.proofs.Common.{◌≡◌, drop, map, string_bytes}
 use Rattle.std.specs.List.{list_any}
 use Rattle.ls_families.specs.Doubles.{has_number}

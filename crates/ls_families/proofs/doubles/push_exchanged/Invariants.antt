@@ -1,3 +1,5 @@
+-- What the loop `i` of `push_exchanged` in src/doubles.rt keeps.
+
 use Rattle.std.proofs.Common.{◌≡◌, ◌++◌, [], drop}
 use Rattle.ls_families.specs.Doubles.{exchanged_calls}
 use Rattle.ls_families.proofs.doubles.push_exchanged.Given as goal

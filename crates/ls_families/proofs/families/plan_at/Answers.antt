@@ -1,3 +1,5 @@
+-- Why `plan_at` in src/families.rt keeps its contract and its loop `shape`.
+
 use Rattle.std.proofs.Common.{◌∙◌, ap, arith, sym, ◌^◌}
 use Rattle.std.specs.Prelude.{Some}
 use Rattle.ls_families.proofs.Numbered.{plan_after, plan_here}

@@ -1,3 +1,5 @@
+-- What the loop `front` of `push_numbered` in src/texts.rt keeps, and why the loop ends.
+
 use Rattle.std.proofs.Common.{◌≡◌, ◌++◌, length, string_bytes}
 use denote.Shadow.{shadow}
 use denote.Text.{Utf8}

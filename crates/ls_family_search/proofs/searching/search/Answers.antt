@@ -1,3 +1,5 @@
+-- Why `search` in src/searching.rt keeps its clause `finding` and its loop `next`.
+
 use Rattle.std.proofs.Common.{◌≡◌, ◌+◌, ◌-◌, ◌≤◌, ℕ, List, ap, sym, subst, arith, length, Some, append-nil, []}
 use Rattle.std.proofs.lemmas.List.{length-append}
 use Rattle.std.specs.Prelude.{slice_get}

@@ -1,3 +1,5 @@
+-- What the loop `next` of `search` in src/searching.rt keeps, and why the loop ends.
+
 use Rattle.std.proofs.Common.{◌-◌, ◌≡◌, ◌<◌, ◌≤◌, length, ℕ, ◌+◌}
 use Rattle.std.specs.Prelude.{Some, slice_get}
 use Rattle.ls_family_search.specs.Searched.{PassesAt}

@@ -1,3 +1,5 @@
+-- Why `join` in src/windows.rt keeps its contract.
+
 use Rattle.std.proofs.Common.{◌∙◌, ◌++◌, ◌∷◌, ap, Ok}
 use Rattle.std.proofs.lemmas.Iterator.Adapters.{YieldsList-from_vec}
 use Rattle.std.proofs.lemmas.Iterator.Consumers.{YieldsList-so_far, YieldsList-turn}

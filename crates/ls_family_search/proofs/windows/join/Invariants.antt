@@ -1,3 +1,5 @@
+-- What the loop `outcome` of `join` in src/windows.rt keeps.
+
 use Rattle.std.proofs.Common.{◌≡◌, List, ◌++◌}
 use Rattle.ls_family_search.specs.Windows.{all_pass}
 use Rattle.ls_family_search.specs.declared.judging.Passed.{Passed}

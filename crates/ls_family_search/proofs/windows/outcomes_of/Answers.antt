@@ -1,3 +1,5 @@
+-- Why `outcomes_of` in src/windows.rt keeps its contract.
+
 use Rattle.std.proofs.Common.{◌∙◌, IfOk, subst}
 use Rattle.std.specs.List.{AllZip}
 use Rattle.rayon.proofs.ListFacts.{IfOk-then}

@@ -1,3 +1,5 @@
+-- Why `placed` in src/line.rt keeps what `push_number` and `push_text` require.
+
 use Rattle.std.proofs.Common.{ap, arith, length, ℕ}
 use Rattle.std.proofs.lemmas.Fmt.{length-decimal-le}
 use Rattle.std.proofs.lemmas.List.{length-append}

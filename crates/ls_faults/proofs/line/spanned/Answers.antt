@@ -1,3 +1,5 @@
+-- Why `spanned` in src/line.rt keeps what `push_number` and `push_text` require.
+
 use Rattle.std.proofs.Common.{◌<◌, ◌≤◌, ap, arith, length, ℕ}
 use Rattle.std.specs.Fmt.{decimal}
 use Rattle.std.proofs.lemmas.Fmt.{length-decimal-le}

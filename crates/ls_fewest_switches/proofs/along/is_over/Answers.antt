@@ -1,3 +1,5 @@
+-- Why `is_over` in src/along.rt keeps its contract.
+
 use Rattle.std.proofs.Common.{sym}
 use Rattle.ls_fewest_switches.proofs.Left.{not_whole}
 use Rattle.ls_fewest_switches.proofs.along.is_over.Goals as goal

@@ -1,3 +1,5 @@
+-- Why `going_on` in src/among.rt keeps its loop `at`.
+
 use Rattle.std.proofs.Common.{◌≡◌, ◌+◌, inl, inr, ℕ, List, Option, None, Some, drop, get_or, map, sym, ap, ◌∙◌, subst}
 use Rattle.std.proofs.Common.{rules}
 use Rattle.std.specs.Prelude.{IfSome, slice_get}

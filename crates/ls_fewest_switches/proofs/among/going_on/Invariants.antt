@@ -1,3 +1,5 @@
+-- What the loop `at` of `going_on` in src/among.rt keeps.
+
 use Rattle.std.proofs.Common.{◌≡◌, ◌⊎◌, ◌+◌, [], map, take}
 use Rattle.ls_fewest_switches.specs.Among.{lefts_after, lefts_at}
 use Rattle.ls_fewest_switches.proofs.among.going_on.Given as goal

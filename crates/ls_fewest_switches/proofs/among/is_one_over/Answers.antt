@@ -1,3 +1,5 @@
+-- Why `is_one_over` in src/among.rt keeps its contract.
+
 use Rattle.std.proofs.Common.{◌≡◌, true, ℕ, List, Some, drop, get_or, map, sym, ◌∙◌, subst, rules}
 use Rattle.ls_events.specs.declared.event.Event.{Event}
 use Rattle.ls_fewest_switches.specs.Along.{is_whole}

@@ -1,3 +1,5 @@
+-- What the loop `at` of `places` in src/among.rt keeps.
+
 use Rattle.std.proofs.Common.{◌≡◌, map, take}
 use Rattle.ls_fewest_switches.specs.Among.{lefts_at}
 use Rattle.ls_fewest_switches.proofs.among.places.Given as goal

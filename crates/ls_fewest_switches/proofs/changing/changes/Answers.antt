@@ -1,3 +1,5 @@
+-- Why `changes` in src/changing.rt keeps its loop `thread`.
+
 use Rattle.std.proofs.Common.{arith, rules}
 use Rattle.std.proofs.lemmas.Option.{slice_get-get_or}
 use Rattle.ls_fewest_switches.proofs.Changes.{counted}

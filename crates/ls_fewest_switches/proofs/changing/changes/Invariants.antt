@@ -1,3 +1,5 @@
+-- What the loop `thread` of `changes` in src/changing.rt keeps.
+
 use Rattle.std.proofs.Common.{◌≡◌, ◌≤◌, ◌+◌, drop}
 use Rattle.ls_fewest_switches.specs.Switches.{changes}
 use Rattle.ls_fewest_switches.proofs.changing.changes.Given as goal

@@ -1,3 +1,5 @@
+-- Why `costs` in src/changing.rt keeps its contract.
+
 use Rattle.std.proofs.Common.{sym, ap, ◌∙◌}
 use Rattle.ls_fewest_switches.specs.Costs.{costs}
 use Rattle.ls_fewest_switches.proofs.Costs.{costs_changes, costs_steps}

@@ -1,3 +1,5 @@
+-- Why `is_stuck` in src/checking.rt keeps its contract and its loop `thread`.
+
 use Rattle.std.proofs.Common.{◌≡◌, refl, ap, ◌∙◌, subst, arith}
 use Rattle.ls_meaning.specs.Still.{IsStill}
 use Rattle.ls_source.specs.Progress.{Progress}

@@ -1,3 +1,5 @@
+-- What the loop `thread` of `is_stuck` in src/checking.rt keeps.
+
 use Rattle.std.proofs.Common.{◌≡◌, ◌<◌, ℕ, true}
 use Rattle.ls_meaning.specs.declared.step.Did.TheVariants as did
 use Rattle.ls_meaning.specs.Still.{IsStill}

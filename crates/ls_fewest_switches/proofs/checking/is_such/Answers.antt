@@ -1,3 +1,5 @@
+-- Why `is_such` in src/checking.rt keeps its clause `ends`.
+
 use Rattle.std.proofs.Common.{Bool, sym, subst}
 use Rattle.ls_checked.specs.CheckedTree.{File}
 use Rattle.ls_checked.specs.CheckedProgram.{Program}

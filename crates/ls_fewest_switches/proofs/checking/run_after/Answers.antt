@@ -1,3 +1,5 @@
+-- Why `run_after` in src/checking.rt keeps its loop `thread`.
+
 use Rattle.std.proofs.Common.{rules}
 use Rattle.ls_checked.specs.Plain.{plain_file}
 use Rattle.ls_checked.specs.PlainProgram.{plain_program}

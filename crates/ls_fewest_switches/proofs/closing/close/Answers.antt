@@ -1,3 +1,5 @@
+-- Why `close` in src/closing.rt keeps its contract, its loop and what it calls with.
+
 use Rattle.std.proofs.Common.{◌≡◌, ◌<◌, List, length, Some, sym, ap, ◌∙◌, subst, arith}
 use Rattle.std.specs.Prelude.{slice_get}
 use Rattle.std.proofs.lemmas.List.{length-map}

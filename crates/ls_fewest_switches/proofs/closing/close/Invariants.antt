@@ -1,3 +1,5 @@
+-- What the loop `at` of `close` in src/closing.rt keeps.
+
 use Rattle.ls_transitions.specs.Seen.{table_of}
 use Rattle.ls_transitions.specs.Tables.{Grows, Keeps}
 use Rattle.ls_fewest_switches.specs.Reached.{ArePassed}

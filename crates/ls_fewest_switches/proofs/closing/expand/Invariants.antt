@@ -1,3 +1,5 @@
+-- What the loop `thread` of `expand` in src/closing.rt keeps.
+
 use Rattle.std.proofs.Common.{◌≡◌, ◌<◌, Some, [], length}
 use Rattle.std.specs.Prelude.{slice_get}
 use Rattle.ls_meaning.specs.Runs.{has_ended}

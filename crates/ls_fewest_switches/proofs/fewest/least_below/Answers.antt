@@ -1,3 +1,5 @@
+-- Why `least_below` in src/fewest.rt keeps its contract and its loop `level`.
+
 use Rattle.std.proofs.Common.{length, refl, sym, ap, ◌∙◌, arith}
 use Rattle.std.proofs.lemmas.List.{length-map}
 use Rattle.ls_checked.specs.CheckedTree.{File}

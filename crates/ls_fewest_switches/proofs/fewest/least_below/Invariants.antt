@@ -1,3 +1,5 @@
+-- What the loop `level` of `least_below` in src/fewest.rt keeps.
+
 use Rattle.std.proofs.Common.{◌≡◌, length}
 use Rattle.ls_checked.specs.Plain.{plain_file}
 use Rattle.ls_checked.specs.PlainProgram.{plain_program}

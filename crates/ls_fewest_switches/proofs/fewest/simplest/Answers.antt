@@ -1,3 +1,5 @@
+-- Why `simplest` in src/fewest.rt keeps its clauses `history`, `few` and `fewest` and what `least_below` requires.
+
 use Rattle.std.proofs.Common.{◌≡◌, ◌+◌, ◌≤◌, true, Some, sym, ap, ◌∙◌, subst, arith}
 use Rattle.std.specs.List.{fold}
 use Rattle.ls_checked.specs.CheckedTree.{File}

@@ -1,3 +1,5 @@
+-- Why `simplest_bad` in src/fewest.rt keeps its clauses `few` and `fewest`.
+
 use Rattle.std.proofs.Common.{◌≤◌, sym, ap, ◌∙◌, subst, arith}
 use Rattle.ls_checked.specs.CheckedTree.{File}
 use Rattle.ls_checked.specs.CheckedProgram.{Program}

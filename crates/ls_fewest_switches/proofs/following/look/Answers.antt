@@ -1,3 +1,5 @@
+-- Why `look` in src/following.rt keeps its contract and what it calls with.
+
 use Rattle.std.proofs.Common.{◌≡◌, ◌<◌, List, Some, sym, ap, ◌∙◌, subst}
 use Rattle.std.specs.Prelude.{slice_get}
 use Rattle.ls_search_laws.specs.Configuration.{stride}

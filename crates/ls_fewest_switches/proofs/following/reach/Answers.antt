@@ -1,3 +1,5 @@
+-- Why `reach` in src/following.rt keeps its clauses `grow` and `leads`.
+
 use Rattle.std.proofs.Common.{◌≡◌, List, Some, map, sym, ap, ◌∙◌, subst}
 use Rattle.std.specs.Prelude.{slice_get}
 use Rattle.ls_fewest_switches.specs.declared.spots.Spot.{Spot}

@@ -1,3 +1,5 @@
+-- Why `spot_at` in src/following.rt keeps its contract.
+
 use Rattle.std.proofs.Common.{length, refl}
 use Rattle.std.proofs.lemmas.Option.{slice_get_read}
 use Rattle.ls_fewest_switches.proofs.following.spot_at.Goals as goal

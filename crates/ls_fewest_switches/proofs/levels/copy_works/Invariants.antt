@@ -1,3 +1,5 @@
+-- What the loop `work` of `copy_works` in src/levels.rt keeps.
+
 use Rattle.std.proofs.Common.{◌≡◌, take}
 use Rattle.ls_fewest_switches.proofs.levels.copy_works.Given as goal
 

@@ -1,3 +1,5 @@
+-- Why `reached_by` in src/levels.rt keeps its clause `none` and what `close` requires.
+
 use Rattle.std.proofs.Common.{refl, ap, ◌∙◌}
 use Rattle.std.specs.Prelude.{Some}
 use Rattle.ls_transitions.specs.Tables.{Table}

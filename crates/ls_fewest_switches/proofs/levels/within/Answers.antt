@@ -1,3 +1,5 @@
+-- Why `within` in src/levels.rt keeps its clause `level`.
+
 use Rattle.std.proofs.Common.{sym, ap, ◌∙◌, subst}
 use Rattle.ls_checked.specs.CheckedTree.{File}
 use Rattle.ls_checked.specs.CheckedProgram.{Program}

@@ -1,3 +1,5 @@
+-- Why `shortest_among` in src/shortest.rt keeps its clauses `among` and `shortest` and what `shortest_bad` requires.
+
 use Rattle.std.proofs.Common.{List, map, ap, ◌∙◌}
 use Rattle.std.specs.List.{fold}
 use Rattle.ls_events.specs.declared.event.Event.{Event}

@@ -1,3 +1,5 @@
+-- Why `shortest_bad` in src/shortest.rt keeps its clause `shortest`.
+
 use Rattle.std.proofs.Common.{◌-◌, length, refl, sym, ap, ◌∙◌, subst, arith}
 use Rattle.std.proofs.lemmas.List.{length-map}
 use Rattle.ls_checked.specs.CheckedTree.{File}

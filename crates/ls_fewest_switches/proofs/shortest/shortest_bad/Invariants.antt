@@ -1,3 +1,5 @@
+-- What `shortest_bad` in src/shortest.rt keeps, and why it ends.
+
 use Rattle.std.proofs.Common.{◌≡◌, ◌≤◌, length}
 use Rattle.ls_checked.specs.Plain.{plain_file}
 use Rattle.ls_checked.specs.PlainProgram.{plain_program}

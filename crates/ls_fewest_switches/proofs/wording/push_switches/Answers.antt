@@ -1,3 +1,5 @@
+-- Why `push_switches` in src/wording.rt keeps its contract.
+
 use Rattle.std.proofs.Common.{◌++◌, ◌∙◌, Bool, sym, ap}
 use Rattle.std.specs.Prelude.{string_bytes, codes}
 use Rattle.std.specs.Fmt.{decimal}

@@ -1,7 +1,9 @@
+-- Why `cut_line` in src/lines.rt keeps its clauses `some` and `none`.
+
 use Rattle.std.proofs.Common.{◌≡◌, ◌∙◌, ◌+◌, ◌-◌, ◌<◌, ◌∷◌, ap, sym, subst, arith, take, drop, length}
 use Rattle.std.proofs.lemmas.Grind.{common_steps}
-use Rattle.ls_parts.specs.Parts.{lines_of}
-use Rattle.ls_parts.proofs.LineLemmas.{feed, first_line, one_line}
+use Rattle.ls_items.specs.Parts.{lines_of}
+use Rattle.ls_items.proofs.LineLemmas.{feed, first_line, one_line}
 use Rattle.ls_files.proofs.lines.cut_line.Goals as goal
 
 pub returns-then-end-bytes-clause-some : goal.returns-then-end-bytes-clause-some

@@ -1,3 +1,5 @@
+-- What the loop `end` of `feed_of` in src/lines.rt keeps, and why the loop ends.
+
 use Rattle.std.proofs.Common.{◌≡◌, ◌+◌, ◌-◌, ◌≤◌, length, drop}
 use Rattle.std.specs.List.{position_or_len}
 use Rattle.ls_files.specs.Files.{is_feed}

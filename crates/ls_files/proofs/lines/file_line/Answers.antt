@@ -1,5 +1,7 @@
+-- Why `file_line` in src/lines.rt keeps its loop `line`.
+
 use Rattle.std.proofs.Common.{◌∙◌, ap, sym, arith}
-use Rattle.ls_parts.specs.Parts.{lines_of}
+use Rattle.ls_items.specs.Parts.{lines_of}
 use Rattle.ls_files.specs.Files.{last_line_from}
 use Rattle.ls_files.proofs.FileLines.{moves_on, next_room}
 use Rattle.ls_files.proofs.lines.file_line.Goals as goal

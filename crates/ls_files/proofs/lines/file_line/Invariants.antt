@@ -1,5 +1,7 @@
+-- What the loop `line` of `file_line` in src/lines.rt keeps, and why the loop ends.
+
 use Rattle.std.proofs.Common.{◌≡◌, ◌+◌, ◌≤◌, length}
-use Rattle.ls_parts.specs.Parts.{lines_of}
+use Rattle.ls_items.specs.Parts.{lines_of}
 use Rattle.ls_files.specs.Files.{file_line, last_line_from}
 use Rattle.ls_files.proofs.lines.file_line.Given as goal
 

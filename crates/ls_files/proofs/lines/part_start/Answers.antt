@@ -1,5 +1,7 @@
+-- Why `part_start` in src/lines.rt keeps its contract and its loop `left`.
+
 use Rattle.std.proofs.Common.{◌≡◌, ◌∙◌, ◌+◌, ◌-◌, ap, sym, suc, arith, length}
-use Rattle.ls_parts.specs.Parts.{lines_of}
+use Rattle.ls_items.specs.Parts.{lines_of}
 use Rattle.ls_files.specs.Files.{part_start, start_in}
 use Rattle.ls_files.proofs.FileLines.{part_after_end, part_ends, part_goes_on}
 use Rattle.ls_files.proofs.lines.part_start.Goals as goal

@@ -1,5 +1,7 @@
+-- What the loop `left` of `part_start` in src/lines.rt keeps, and why the loop ends.
+
 use Rattle.std.proofs.Common.{◌≡◌, ◌+◌, ◌≤◌, length}
-use Rattle.ls_parts.specs.Parts.{lines_of}
+use Rattle.ls_items.specs.Parts.{lines_of}
 use Rattle.ls_files.specs.Files.{part_start, start_in}
 use Rattle.ls_files.proofs.lines.part_start.Given as goal
 

@@ -1,9 +1,11 @@
+-- Why `unmarked` in src/marks.rt keeps its contract and its loop `line`.
+
 use Rattle.std.proofs.Common.{◌≡◌, ◌∙◌, ◌++◌, ◌∷◌, [], ap, sym, arith, rules, map, eqb, append-nil, append_assoc}
 use Rattle.std.specs.Prelude.{string_bytes}
 use Rattle.std.specs.List.{after_first}
 use Rattle.std.proofs.lemmas.Str.Pattern.{split_once_first}
-use Rattle.ls_parts.specs.Parts.{lines_of, part_of}
-use Rattle.ls_parts.proofs.LineLemmas.{first_line, one_line}
+use Rattle.ls_items.specs.Parts.{lines_of, part_of}
+use Rattle.ls_items.proofs.LineLemmas.{first_line, one_line}
 use Rattle.ls_files.specs.Files.{unmarked, unmarked_line}
 use Rattle.ls_files.proofs.FileLines.{unmarks_on}
 use Rattle.ls_files.proofs.marks.unmarked.Goals as goal

@@ -1,3 +1,5 @@
+-- What the loop `line` of `unmarked` in src/marks.rt keeps, and why the loop ends.
+
 use Rattle.std.proofs.Common.{◌≡◌, ◌++◌, length}
 use Rattle.std.specs.Prelude.{string_bytes}
 use denote.Shadow.{shadow}

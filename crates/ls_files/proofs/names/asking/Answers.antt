@@ -1,3 +1,5 @@
+-- Why `asking` in src/names.rt keeps its contract.
+
 use Rattle.std.proofs.Common.{◌∙◌, ap, map, sym, take}
 use Rattle.std.specs.Prelude.{string_bytes}
 use Rattle.ls_files.specs.Names.{begins_names}

@@ -1,3 +1,5 @@
+-- What the loop `count` of `count_before` in src/names.rt keeps, and why the loop ends.
+
 use Rattle.std.proofs.Common.{◌≡◌, ◌+◌, ◌-◌, ◌≤◌, length, drop}
 use Rattle.std.specs.List.{position_or_len}
 use Rattle.ls_files.specs.Names.{is_names_word}

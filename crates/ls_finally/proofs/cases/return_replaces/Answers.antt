@@ -1,3 +1,5 @@
+-- Why `return_replaces` in src/cases.rt keeps its contract.
+
 use Rattle.std.proofs.Common.{refl}
 use Rattle.ls_finally.proofs.cases.return_replaces.Goals as goal
 

@@ -1,3 +1,5 @@
+-- Why the functions of the cycle `statements` in src/counts.rt keep their contracts.
+
 use Rattle.ls_lowered.specs.Limits.{most_locals}
 use Rattle.std.proofs.Common.{◌≡◌, ◌≤◌, ap, subst, arith}
 use Rattle.std.specs.Option.{SomeIff}

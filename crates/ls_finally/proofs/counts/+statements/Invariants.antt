@@ -1,3 +1,5 @@
+-- What the loop `s` of the cycle `statements` in src/counts.rt keeps.
+
 use Rattle.ls_lowered.specs.Limits.{most_locals}
 use Rattle.std.proofs.Common.{◌≡◌, ◌+◌, ◌*◌, ◌≤◌, drop}
 use Rattle.ls_lowered.specs.Plain.{statements_of}

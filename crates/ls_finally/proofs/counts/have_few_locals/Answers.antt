@@ -1,3 +1,5 @@
+-- Why `have_few_locals` in src/counts.rt keeps its contract and its loop `method`.
+
 use Rattle.ls_lowered.specs.Limits.{most_locals}
 use Rattle.std.proofs.Common.{rules, ◌≤◌}
 use Rattle.ls_lowered.specs.Plain.{plain_method}

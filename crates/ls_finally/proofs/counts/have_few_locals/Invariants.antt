@@ -1,3 +1,5 @@
+-- What the loop `method` of `have_few_locals` in src/counts.rt keeps.
+
 use Rattle.ls_lowered.specs.Limits.{most_locals}
 use Rattle.std.proofs.Common.{◌≤◌, take}
 use Rattle.std.specs.Prelude.{All}

@@ -1,3 +1,5 @@
+-- Why `lower_finally` in src/files.rt keeps its clauses `refused` and `asks`.
+
 use Rattle.std.proofs.Common.{rules, ap, ◌≡◌, ◌∙◌, List, length, map}
 use Rattle.std.proofs.lemmas.List.{with_items_is}
 use Rattle.ls_lowered.specs.declared.tree.Method.{Method}

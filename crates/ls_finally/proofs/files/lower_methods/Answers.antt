@@ -1,3 +1,5 @@
+-- Why `lower_methods` in src/files.rt keeps its contract, its loop and what it calls with.
+
 use Rattle.ls_lowered.specs.Limits.{most_locals}
 use Rattle.std.proofs.Common.{rules, ◌≡◌, ◌≤◌, length, refl, sym, ◌∙◌, subst, arith}
 use Rattle.std.specs.Prelude.{IfErr, slice_index_or}

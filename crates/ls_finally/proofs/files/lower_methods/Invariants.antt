@@ -1,3 +1,5 @@
+-- What the loop `method` of `lower_methods` in src/files.rt keeps.
+
 use Rattle.std.proofs.Common.{◌≤◌, take}
 use Rattle.std.specs.Prelude.{All}
 use Rattle.ls_lowered.specs.Plain.{plain_method}

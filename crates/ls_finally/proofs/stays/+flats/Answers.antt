@@ -1,3 +1,5 @@
+-- Why the functions of the cycle `flats` in src/stays.rt keep their contracts.
+
 use Rattle.std.proofs.Common.{rules, ◌≡◌, refl, length}
 use Rattle.ls_lowered.specs.LoweredTree.{Leavable}
 use Rattle.ls_lowered.specs.Plain.{plain_statement, statements_of}

@@ -1,3 +1,5 @@
+-- What the loop `s` of the cycle `flats` in src/stays.rt keeps.
+
 use Rattle.std.proofs.Common.{drop}
 use Rattle.ls_lowered.specs.Plain.{statements_of}
 use Rattle.ls_finally.specs.Stays.{AreFlat}

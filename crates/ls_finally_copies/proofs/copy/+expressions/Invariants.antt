@@ -1,3 +1,5 @@
+-- Why the cycle `expressions` in src/copy.rt ends.
+
 use Rattle.std.proofs.Common.{◌+◌, ◌*◌}
 use Rattle.ls_lowered.specs.Plain.{plain, all_plain}
 use Rattle.ls_finally_copies.proofs.Weights.{weight, weights}

@@ -1,3 +1,5 @@
+-- Why the functions of the cycle `statements` in src/copy.rt keep their contracts.
+
 use Rattle.std.proofs.Common.{◌≡◌, ◌∷◌, ◌+◌, ◌∙◌, sym, ap, ap₂, drop, rules, arith, List}
 use Rattle.ls_lowered.specs.declared.tree.Statement.{Statement}
 use Rattle.ls_lowered.specs.LoweredTree.{Leavable}

@@ -1,3 +1,5 @@
+-- Why the functions of the cycle `statements` in src/counts.rt keep their contracts.
+
 use Rattle.std.proofs.Common.{◌≡◌, ◌+◌, ◌∷◌, drop, ap, rules, arith, List}
 use Rattle.ls_lowered.specs.declared.tree.Statement.{Statement}
 use Rattle.ls_lowered.specs.LoweredTree.{Leavable}

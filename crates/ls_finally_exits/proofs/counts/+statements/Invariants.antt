@@ -1,3 +1,5 @@
+-- What the loop `s` of the cycle `statements` in src/counts.rt keeps, and why the cycle ends.
+
 use Rattle.std.proofs.Common.{◌≡◌, ◌+◌, ◌*◌, drop, vec_len}
 use Rattle.ls_lowered.specs.Plain.{plain_statement, statements_of}
 use Rattle.ls_finally_copies.proofs.Weights.{size, sizes}

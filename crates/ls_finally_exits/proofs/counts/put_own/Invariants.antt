@@ -1,3 +1,5 @@
+-- What `put_own` in src/counts.rt keeps.
+
 use Rattle.std.proofs.Common.{◌≡◌, ◌+◌, vec_len}
 use Rattle.ls_finally_exits.proofs.counts.put_own.Given as goal
 

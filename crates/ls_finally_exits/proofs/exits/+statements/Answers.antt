@@ -1,3 +1,5 @@
+-- Why the functions of the cycle `statements` in src/exits.rt keep their contracts.
+
 use Rattle.std.proofs.Common.{◌≡◌, ◌+◌, ◌<◌, ◌^◌, ◌∷◌, ◌++◌, append_assoc, drop, IfOk, List, ap, subst, rules, arith}
 use Rattle.std.proofs.Common.{◌∙◌}
 use Rattle.ls_lowered.specs.declared.tree.Statement.{Statement}

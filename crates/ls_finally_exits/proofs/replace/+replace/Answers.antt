@@ -1,3 +1,5 @@
+-- Why the functions of the cycle `replace` in src/replace.rt keep their contracts.
+
 use Rattle.std.proofs.Common.{◌≡◌, ◌+◌, ◌<◌, ◌^◌, ◌∷◌, length, drop, ap, subst, rules, arith, List}
 use Rattle.ls_lowered.specs.declared.tree.Statement.{Statement}
 use Rattle.ls_lowered.specs.LoweredTree as lowered

@@ -1,3 +1,5 @@
+-- What the loop `s` of the cycle `replace` in src/replace.rt keeps, and why the cycle ends.
+
 use Rattle.std.proofs.Common.{◌+◌, ◌*◌, drop}
 use Rattle.ls_lowered.specs.Plain.{plain_statement, statements_of}
 use Rattle.ls_finally_exits.proofs.Blocks.{Going}

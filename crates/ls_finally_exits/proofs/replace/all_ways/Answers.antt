@@ -1,3 +1,5 @@
+-- Why `all_ways` in src/replace.rt keeps its loop `exit`.
+
 use Rattle.std.proofs.Common.{◌≡◌, ℕ, ◌+◌, ◌<◌, List, [], ◌∷◌, ◌++◌, length, drop, get_or, add-one, ap, sym, ◌∙◌}
 use Rattle.std.proofs.Math.Seq.{drop-cons}
 use Rattle.ls_lowered.specs.declared.tree.Statement as code

@@ -1,3 +1,5 @@
+-- What the loop `exit` of `all_ways` in src/replace.rt keeps.
+
 use Rattle.std.proofs.Common.{◌≡◌, ◌+◌, drop}
 use Rattle.ls_lowered.specs.Plain.{plain_statement, in_front}
 use Rattle.ls_finally_exits.specs.Exits.{ways}

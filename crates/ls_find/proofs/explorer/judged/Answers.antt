@@ -1,3 +1,5 @@
+-- Why `judged` in src/explorer.rt keeps its contract.
+
 use Rattle.std.proofs.Common.{◌∙◌, ap, subst}
 use Rattle.ls_schedule.specs.Printing.{schedule_text}
 use Rattle.ls_schedule.specs.Reading.{thread_names}

@@ -1,3 +1,5 @@
+-- Why `sound_follows` in src/laws.rt keeps its contract.
+
 use Rattle.ls_find.proofs.Followed.{sound_follows}
 use Rattle.ls_find.proofs.laws.sound_follows.Goals as goal
 

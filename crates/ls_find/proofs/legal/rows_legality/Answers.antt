@@ -1,10 +1,12 @@
+-- Why `rows_legality` in src/legal.rt keeps its contract, its loop `at` and what `verdict_on` requires.
+
 use Rattle.std.proofs.Common.{◌∙◌, List, ap, sym, subst, Some}
 use Rattle.std.proofs.lemmas.Option.{slice_get-get_or}
 use Rattle.ls_checked.specs.PlainProgram.{plain_program}
 use Rattle.ls_events.specs.declared.event.Event.{Event}
 use Rattle.ls_verdicts.specs.Verdicts.{IsHistoryOf, IsVerdict}
 use Rattle.ls_verdicts.specs.declared.verdicts.Verdict.TheVariants.{Illegal, Legal}
-use Rattle.ls_waiting.proofs.Places.{each_so, one_so}
+use Rattle.ls_endless_calls.proofs.Places.{each_so, one_so}
 use Rattle.ls_find.proofs.legal.rows_legality.Goals as goal
 
 pub verdict_on-requires : goal.verdict_on-requires

@@ -1,3 +1,5 @@
+-- Why `whole_legality` in src/legal.rt keeps its contract and what `rows_legality` requires.
+
 use Rattle.std.proofs.Common.{Contains, subst, sym}
 use Rattle.std.proofs.lemmas.Result.{IfOk-weaker}
 use Rattle.ls_checked.specs.PlainProgram.{plain_program}

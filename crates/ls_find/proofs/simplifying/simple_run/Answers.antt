@@ -1,9 +1,11 @@
+-- Why `simple_run` in src/simplifying.rt keeps its clauses `history`, `ends` and `fewest`.
+
 use Rattle.std.proofs.Common.{◌≡◌, ◌∙◌, ap, true}
 use Rattle.ls_checked.specs.CheckedTree.{File}
 use Rattle.ls_checked.specs.CheckedProgram.{Program}
 use Rattle.ls_checked.specs.Plain.{plain_file}
 use Rattle.ls_checked.specs.PlainProgram.{plain_program}
-use Rattle.ls_types.specs.CheckedFile.{outcome_of}
+use Rattle.ls_types_checked.specs.CheckedFile.{elaborated_file}
 use Rattle.ls_meaning.specs.Runs.{source_history}
 use Rattle.ls_fewest_switches.specs.Switches.{EndsSo, HasFewest}
 use Rattle.ls_translation.specs.Texts.{file_of, program_of}
@@ -14,7 +16,7 @@ pub returns-clause-history : goal.returns-clause-history
 returns-clause-history c =
     let i = c.args.image.now in
     let file : plain_file c.file-file.result.now ≡ file_of i =
-    ap plain_file c.file-file.ensures ∙ ap (λ k. (outcome_of k).file) c.checked.ensures in
+    ap plain_file c.file-file.ensures ∙ ap (λ k. (elaborated_file k).file) c.checked.ensures in
     let program : plain_program c.program.result.now ≡ program_of i = ap plain_program c.program.ensures in
     at_same (λ (f : File) (p : Program). source_history f p c.in_ok-run.run'.schedule ≡
     source_history f p c.args.found.now) file program c.in_ok-run.ensures.history
@@ -23,7 +25,7 @@ pub returns-clause-ends : goal.returns-clause-ends
 returns-clause-ends c =
     let i = c.args.image.now in
     let file : plain_file c.file-file.result.now ≡ file_of i =
-    ap plain_file c.file-file.ensures ∙ ap (λ k. (outcome_of k).file) c.checked.ensures in
+    ap plain_file c.file-file.ensures ∙ ap (λ k. (elaborated_file k).file) c.checked.ensures in
     let program : plain_program c.program.result.now ≡ program_of i = ap plain_program c.program.ensures in
     at_same (λ (f : File) (p : Program). EndsSo c.args.stuck f p c.args.found.now →
     EndsSo c.args.stuck f p c.in_ok-run.run'.schedule) file program c.in_ok-run.ensures.ends
@@ -32,7 +34,7 @@ pub returns-clause-fewest : goal.returns-clause-fewest
 returns-clause-fewest c =
     let i = c.args.image.now in
     let file : plain_file c.file-file.result.now ≡ file_of i =
-    ap plain_file c.file-file.ensures ∙ ap (λ k. (outcome_of k).file) c.checked.ensures in
+    ap plain_file c.file-file.ensures ∙ ap (λ k. (elaborated_file k).file) c.checked.ensures in
     let program : plain_program c.program.result.now ≡ program_of i = ap plain_program c.program.ensures in
     at_same (λ (f : File) (p : Program). c.in_ok-run.run'.fewest ≡ true →
     HasFewest c.args.stuck f p c.in_ok-run.run'.schedule) file program c.in_ok-run.ensures.fewest

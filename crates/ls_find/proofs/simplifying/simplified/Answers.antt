@@ -1,10 +1,12 @@
+-- Why `simplified` in src/simplifying.rt keeps its clauses `bad` and `fewest`.
+
 use Rattle.std.proofs.Common.{◌≡◌, true, sym, subst}
 use Rattle.std.specs.Prelude.{IfOk}
 use Rattle.ls_checked.specs.CheckedTree.{File}
 use Rattle.ls_checked.specs.CheckedProgram.{Program}
 use Rattle.ls_fewest_switches.specs.declared.fewest.SimpleRun.{SimpleRun}
 use Rattle.ls_meaning.specs.Runs.{source_history}
-use Rattle.ls_state_space.specs.Verdicts.{LeavesStuck}
+use Rattle.ls_search.specs.Verdicts.{LeavesStuck}
 use Rattle.ls_translation.specs.Texts.{file_of, program_of}
 use Rattle.ls_find.specs.Fewest.{IsFewest}
 use Rattle.ls_find.specs.Verdicts.{IsBad}

@@ -1,3 +1,5 @@
+-- Why `end_verdict` in src/sought.rt keeps its contract.
+
 use Rattle.std.proofs.Common.{subst}
 use Rattle.std.proofs.lemmas.Result.{IfOk-weaker}
 use Rattle.ls_translation.specs.Texts.{file_of, program_of}

@@ -1,13 +1,15 @@
+-- Why `verdict_by_states` in src/states.rt keeps its contract.
+
 use Rattle.std.proofs.Common.{◌≡◌, ◌∙◌, ap, subst}
 use Rattle.std.specs.Prelude.{IfNone}
 use Rattle.ls_checked.specs.CheckedTree.{File}
 use Rattle.ls_checked.specs.CheckedProgram.{Program}
 use Rattle.ls_checked.specs.Plain.{plain_file}
 use Rattle.ls_checked.specs.PlainProgram.{plain_program}
-use Rattle.ls_types.specs.CheckedFile.{outcome_of}
+use Rattle.ls_types_checked.specs.CheckedFile.{elaborated_file}
 use Rattle.ls_translation.specs.Texts.{file_of, program_of}
 use Rattle.ls_source_judge.specs.Judged.{AllLinearizable}
-use Rattle.ls_state_space.specs.Verdicts.{NeverStuck}
+use Rattle.ls_search.specs.Verdicts.{NeverStuck}
 use Rattle.ls_find.proofs.Goodness.{all_good}
 use Rattle.ls_find.proofs.states.verdict_by_states.Goals as goal
 
@@ -16,7 +18,7 @@ returns-then-is_good c =
     let i = c.args.image.now in
     let j = c.in_ok-judged.judged in
     let file : plain_file c.file.result.now ≡ file_of i =
-    ap plain_file c.file.ensures ∙ ap (λ k. (outcome_of k).file) c.checked.ensures in
+    ap plain_file c.file.ensures ∙ ap (λ k. (elaborated_file k).file) c.checked.ensures in
     let program : plain_program c.program.result.now ≡ program_of i = ap plain_program c.program.ensures in
     let is = c.if-is_good.true in
     let complete = c.is_good.ensures.complete is in

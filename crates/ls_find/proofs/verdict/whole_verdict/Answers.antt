@@ -1,3 +1,5 @@
+-- Why `whole_verdict` in src/verdict.rt keeps its contract.
+
 use Rattle.std.proofs.Common.{◌≡◌, ◌∙◌, ap, false, subst, sym, true}
 use Rattle.std.specs.Prelude.{not, position}
 use Rattle.std.proofs.lemmas.Result.{IfOk-weaker}

@@ -1,9 +1,11 @@
+-- Why `first_waiting` in src/waiting.rt keeps its clause `none` and its loop `at`.
+
 use Rattle.std.proofs.Common.{◌∙◌, ap, sym, Some}
 use Rattle.ls_explore.specs.Rows.{IsEnd}
 use Rattle.std.proofs.lemmas.Option.{slice_get-get_or}
 use Rattle.ls_serial_search.specs.Histories.{lists_of}
-use Rattle.ls_waiting.proofs.Places.{each_so, one_so}
-use Rattle.ls_waiting.specs.Waits.{AreExcused}
+use Rattle.ls_endless_calls.proofs.Places.{each_so, one_so}
+use Rattle.ls_endless_calls.specs.Waits.{AreExcused}
 use Rattle.ls_find.proofs.waiting.first_waiting.Goals as goal
 
 pub loop-at-preserved : goal.loop-at-preserved

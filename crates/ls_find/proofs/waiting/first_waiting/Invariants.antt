@@ -1,7 +1,9 @@
+-- What the loop `at` of `first_waiting` in src/waiting.rt keeps.
+
 use Rattle.ls_explore.specs.Rows.{IsEnd}
 use Rattle.ls_serial_search.specs.Histories.{lists_of}
-use Rattle.ls_waiting.proofs.Places.{AreSo}
-use Rattle.ls_waiting.specs.Waits.{AreExcused}
+use Rattle.ls_endless_calls.proofs.Places.{AreSo}
+use Rattle.ls_endless_calls.specs.Waits.{AreExcused}
 use Rattle.ls_find.proofs.waiting.first_waiting.Given as goal
 
 abbrev pub invariant-loop-at : goal.invariant-loop-at

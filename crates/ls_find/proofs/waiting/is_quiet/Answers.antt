@@ -1,3 +1,5 @@
+-- Why `is_quiet` in src/waiting.rt keeps its contract.
+
 use Rattle.std.proofs.Common.{◌∙◌, subst}
 use Rattle.ls_serial_search.specs.Histories.{lists_of}
 use Rattle.ls_find.specs.Verdicts.{AllExcused}

@@ -1,3 +1,5 @@
+-- Why `waiting_verdict` in src/waiting.rt keeps its contract.
+
 use Rattle.std.proofs.Common.{[], refl, subst}
 use Rattle.std.proofs.lemmas.Result.{IfOk-weaker}
 use Rattle.ls_checked.specs.CheckedTree.{File}
@@ -7,7 +9,7 @@ use Rattle.ls_checked.specs.PlainProgram.{plain_program}
 use Rattle.ls_serial_search.specs.Histories.{lists_of}
 use Rattle.ls_serial_search.specs.Endless.{AreEndlessRuns, TellEndlessRuns}
 use Rattle.ls_translation.specs.Texts.{file_of, program_of}
-use Rattle.ls_types.specs.declared.checked.Checked.{Checked}
+use Rattle.ls_types_checked.specs.declared.checked.Checked.{Checked}
 use Rattle.ls_find.specs.Verdicts.{AllExcused, WaitsAt}
 use Rattle.ls_find.proofs.Waits.{none_endless, none_waits, one_waits}
 use Rattle.ls_find.proofs.waiting.waiting_verdict.Goals as goal

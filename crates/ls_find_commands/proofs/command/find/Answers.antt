@@ -1,10 +1,12 @@
+-- Why `find` in src/command.rt keeps its clause `gives`.
+
 use Rattle.std.proofs.Common.{subst}
 use Rattle.std.specs.Prelude.{option_map}
 use Rattle.std.proofs.lemmas.Result.{err_from_is_err_and}
-use Rattle.ls_explore_images.specs.Faults.{AreBadStates}
+use Rattle.ls_explore.specs.Faults.{AreBadStates}
 use Rattle.ls_family_search.specs.Judged.{Programs}
 use Rattle.ls_faults.proofs.Answering.{wider}
-use Rattle.ls_parts.specs.Cutting.{plain_text}
+use Rattle.ls_items.specs.Cutting.{plain_text}
 use Rattle.ls_find_commands.specs.Found.{Among, FindsIn, FindsTo, NoStates, NotAny}
 use Rattle.ls_find_commands.proofs.Refusals.{refused}
 use Rattle.ls_find_commands.proofs.Ranges.{not_both}

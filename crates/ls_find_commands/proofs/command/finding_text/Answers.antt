@@ -1,3 +1,5 @@
+-- Why `finding_text` in src/command.rt keeps its contract.
+
 use Rattle.std.proofs.Common.{◌≡◌, ◌∙◌, ◌+◌, ℕ, List, Option, Some, Ok, ap, arith, length, sym}
 use Rattle.std.specs.Prelude.{string_bytes}
 use Rattle.ls_family_search.specs.declared.judging.Halted.{Halted}

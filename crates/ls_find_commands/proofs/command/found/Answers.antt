@@ -1,3 +1,5 @@
+-- Why `found` in src/command.rt keeps its clause `gives` and what `finding_text` requires.
+
 use Rattle.std.proofs.Common.{◌≡◌, ◌∙◌, ◌-◌, ◌≤◌, ap, ap₂, arith, length, subst, sym}
 use Rattle.std.specs.Prelude.{min}
 use Rattle.ls_families.specs.Families.{Family, plans}

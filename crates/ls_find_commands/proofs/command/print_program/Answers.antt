@@ -1,10 +1,12 @@
+-- Why `print_program` in src/command.rt keeps its contract.
+
 use Rattle.std.proofs.Common.{◌≡◌, ◌∙◌, ◌-◌, ◌≤◌, ap, ap₂, arith, inl, inr, length, Ok, subst, sym, Some}
 use Rattle.std.specs.Prelude.{None, option_map, slice_get, string_bytes}
 use Rattle.std.proofs.lemmas.Result.{err_from_is_err_and}
 use Rattle.ls_families.specs.Families.{Family, plans}
 use Rattle.ls_families.specs.Texts.{plan_text}
 use Rattle.ls_family_search.specs.Judged.{Programs, text_of}
-use Rattle.ls_parts.specs.Cutting.{plain_text}
+use Rattle.ls_items.specs.Cutting.{plain_text}
 use Rattle.ls_find_commands.specs.Found.{NoNumber, NoneThere, Prints, PrintsTo}
 use Rattle.ls_find_commands.proofs.Ranges.{none_past}
 use Rattle.ls_find_commands.proofs.Refusals.{refused}

@@ -1,3 +1,5 @@
+-- Why `ranges_add_up` in src/laws.rt keeps its clauses `printed` and `sum`.
+
 use Rattle.ls_find_commands.proofs.Sums.{found_in_both, printed_by, sums_agree}
 use Rattle.ls_find_commands.proofs.laws.ranges_add_up.Goals as goal
 

@@ -1,3 +1,5 @@
+-- Why `searched` in src/noting.rt keeps its clause `watched`.
+
 use Rattle.std.proofs.Common.{◌≡◌, refl, rules, subst, sym}
 use Rattle.ls_find_commands.proofs.noting.searched.Goals as goal
 

@@ -1,3 +1,5 @@
+-- Why `push_figures` in src/printing.rt keeps its contract.
+
 use Rattle.std.proofs.Common.{◌∙◌, ◌++◌, ap, codes}
 use Rattle.std.specs.Fmt.{decimal}
 use Rattle.ls_find_reports.specs.Printing.{first_text}

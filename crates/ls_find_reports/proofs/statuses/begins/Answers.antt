@@ -1,3 +1,5 @@
+-- Why `begins` in src/statuses.rt keeps its contract.
+
 use Rattle.std.proofs.lemmas.Str.Pattern.{starts_text}
 use Rattle.ls_find_reports.proofs.statuses.begins.Goals as goal
 

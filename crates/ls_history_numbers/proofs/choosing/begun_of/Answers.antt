@@ -1,3 +1,5 @@
+-- Why `begun_of` in src/choosing.rt keeps its loop `back`.
+
 use Rattle.std.proofs.Common.{◌≡◌, ◌+◌, ◌-◌, ◌∙◌, length, subst, arith}
 use Rattle.ls_history_numbers.specs.Choices.{TellBegun}
 use Rattle.ls_history_numbers.proofs.choosing.begun_of.Goals as goal

@@ -1,3 +1,5 @@
+-- What the loop `back` of `begun_of` in src/choosing.rt keeps.
+
 use Rattle.std.proofs.Common.{◌≡◌, ◌+◌, ℕ, length}
 use Rattle.ls_history_numbers.specs.Choices.{TellBegun}
 use Rattle.ls_history_numbers.proofs.choosing.begun_of.Given as goal

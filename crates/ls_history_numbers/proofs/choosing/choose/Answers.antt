@@ -1,3 +1,5 @@
+-- Why `choose` in src/choosing.rt keeps its clauses `chosen`, `ends`, `covers` and `alone` and its loop `number`.
+
 use Rattle.std.proofs.Common.{◌≡◌, ◌<◌, ℕ, Bool, List, Option, ◌∷◌, [], ◌++◌, length, ap, ◌∙◌, subst, arith}
 use Rattle.std.specs.Prelude.{slice_get}
 use Rattle.ls_history_numbers.specs.Choices.{TellChoices}

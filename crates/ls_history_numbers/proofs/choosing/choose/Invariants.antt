@@ -1,3 +1,5 @@
+-- What the loop `number` of `choose` in src/choosing.rt keeps.
+
 use Rattle.ls_history_numbers.specs.Choices.{TellChoices}
 use Rattle.ls_history_numbers.proofs.choosing.choose.Given as goal
 

@@ -1,3 +1,5 @@
+-- Why `first_ends` in src/choosing.rt keeps its loop `back`.
+
 use Rattle.std.proofs.Common.{◌≡◌, ◌+◌, ◌-◌, ◌∙◌, length, sym, subst, arith}
 use Rattle.ls_history_numbers.specs.Choices.{TellFirsts}
 use Rattle.ls_history_numbers.proofs.choosing.first_ends.Goals as goal

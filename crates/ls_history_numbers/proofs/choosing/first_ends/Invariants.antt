@@ -1,3 +1,5 @@
+-- What the loop `back` of `first_ends` in src/choosing.rt keeps.
+
 use Rattle.std.proofs.Common.{◌≡◌, ◌+◌, ℕ, length}
 use Rattle.ls_history_numbers.specs.Choices.{TellFirsts}
 use Rattle.ls_history_numbers.proofs.choosing.first_ends.Given as goal

@@ -1,3 +1,5 @@
+-- Why `last_places` in src/choosing.rt keeps its loop `at`.
+
 use Rattle.std.proofs.Common.{◌+◌, ◌∙◌, sym, subst}
 use Rattle.ls_history_numbers.specs.Choices.{TellLasts}
 use Rattle.ls_history_numbers.proofs.choosing.last_places.Goals as goal

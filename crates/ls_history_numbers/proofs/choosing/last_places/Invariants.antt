@@ -1,3 +1,5 @@
+-- What the loop `at` of `last_places` in src/choosing.rt keeps.
+
 use Rattle.std.proofs.Common.{◌≡◌, length}
 use Rattle.ls_history_numbers.specs.Choices.{TellLasts}
 use Rattle.ls_history_numbers.proofs.choosing.last_places.Given as goal

@@ -1,3 +1,5 @@
+-- Why `note_begun` in src/choosing.rt keeps its clause `begun` and what `index_mut` requires.
+
 use Rattle.std.proofs.Common.{rules, ◌≡◌, ◌<◌, Bool, true, List, length, sym, ap, ◌∙◌, subst, arith}
 use Rattle.std.specs.Prelude.{slice_get, slice_set}
 use Rattle.std.specs.Vec.{vec_len}

@@ -1,3 +1,5 @@
+-- Why `note_end` in src/choosing.rt keeps its clause `firsts`.
+
 use Rattle.std.proofs.Common.{Some, length, ap, ◌∙◌, arith, get_or}
 use Rattle.std.proofs.lemmas.Option.{slice_get-get_or}
 use Rattle.ls_history_numbers.proofs.Telling.{firsts_set, firsts_skip}

@@ -1,3 +1,5 @@
+-- Why `note_place` in src/choosing.rt keeps its clause `lasts`.
+
 use Rattle.std.proofs.Common.{length, get_or}
 use Rattle.std.proofs.lemmas.Option.{slice_get-get_or}
 use Rattle.ls_history_numbers.proofs.Telling.{lasts_set}

@@ -1,3 +1,5 @@
+-- Why `add_longer` in src/numbering.rt keeps its clauses `is`, `numbered` and `keeps`.
+
 use Rattle.std.proofs.Common.{rules, ◌≡◌, ◌++◌, ◌∷◌, [], List, Some, length, refl, sym, ap, ◌∙◌, subst}
 use Rattle.std.specs.Prelude.{slice_get}
 use Rattle.std.proofs.lemmas.Option.{slice_get_read}

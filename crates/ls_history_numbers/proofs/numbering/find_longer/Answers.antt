@@ -1,3 +1,5 @@
+-- Why `find_longer` in src/numbering.rt keeps its contract, its loop and what it calls with.
+
 use Rattle.std.proofs.Common.{◌≡◌, ◌⊎◌, inl, inr, ℕ, ◌<◌, ◌≤◌, true, false, List, Some, sym, ap}
 use Rattle.std.proofs.Common.{◌∙◌, arith, get_or}
 use Rattle.std.specs.Prelude.{slice_get}

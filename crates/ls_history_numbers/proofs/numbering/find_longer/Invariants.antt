@@ -1,3 +1,5 @@
+-- What the loop `at` of `find_longer` in src/numbering.rt keeps.
+
 use Rattle.std.proofs.Common.{◌≡◌, ℕ, ◌<◌, ◌++◌, ◌∷◌, [], List, Some}
 use Rattle.std.specs.Prelude.{slice_get}
 use Rattle.ls_events.specs.declared.event.Event.{Event}

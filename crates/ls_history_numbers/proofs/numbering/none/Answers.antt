@@ -1,3 +1,5 @@
+-- Why `none` in src/numbering.rt keeps its contract.
+
 use Rattle.std.proofs.Common.{rules, ◌≡◌, ◌∷◌, []}
 use Rattle.ls_history_numbers.specs.declared.numbering.Known.{Known}
 use Rattle.ls_history_numbers.proofs.Longer.{numbered_none}

@@ -1,3 +1,5 @@
+-- Why `number_after` in src/numbering.rt keeps its clause `is`.
+
 use Rattle.std.proofs.Common.{◌++◌, ◌∷◌, [], List, ap, ◌∙◌, subst}
 use Rattle.std.specs.Prelude.{slice_get}
 use Rattle.ls_history_numbers.specs.declared.numbering.Known.{Known}

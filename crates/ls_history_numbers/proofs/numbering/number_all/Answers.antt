@@ -1,3 +1,5 @@
+-- Why `number_all` in src/numbering.rt keeps its loop `at`.
+
 use Rattle.std.proofs.Common.{◌∷◌, [], length, map, ap, arith, length-append}
 use Rattle.ls_history_numbers.proofs.Longer.{numbers_more, numbers_none}
 use Rattle.ls_history_numbers.proofs.numbering.number_all.Goals as goal

@@ -1,3 +1,5 @@
+-- Why `number_of` in src/numbering.rt keeps its clause `is`, its loop `at` and what `number_after` requires.
+
 use Rattle.std.proofs.Common.{◌≡◌, length, refl, subst, take, arith}
 use Rattle.std.proofs.Math.Seq.{take-length}
 use Rattle.std.proofs.lemmas.Option.{slice_get-get_or}

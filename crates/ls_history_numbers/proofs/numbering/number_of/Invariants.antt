@@ -1,3 +1,5 @@
+-- What the loop `at` of `number_of` in src/numbering.rt keeps.
+
 use Rattle.std.proofs.Common.{take}
 use Rattle.ls_history_numbers.specs.Numbers.{AreNumbered, IsOf, Keeps}
 use Rattle.ls_history_numbers.proofs.numbering.number_of.Given as goal

@@ -1,3 +1,5 @@
+-- Why `acts_in_time` in src/laws.rt keeps its contract.
+
 use Rattle.std.proofs.Math.Logic.{∥∥₁_elim}
 use Rattle.ls_preservation.proofs.Once.{acting_prop}
 use Rattle.ls_image.proofs.laws.acts_in_time.Goals as goal

@@ -1,3 +1,5 @@
+-- Why `ends_in_time` in src/laws.rt keeps its contract.
+
 use Rattle.std.proofs.Math.Logic.{∥∥₁_elim}
 use Rattle.ls_preservation.proofs.Once.{ends_prop}
 use Rattle.ls_image.proofs.laws.ends_in_time.Goals as goal

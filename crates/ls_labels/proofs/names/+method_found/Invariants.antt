@@ -1,3 +1,5 @@
+-- Why the cycle `method_found` in src/names.rt ends.
+
 use Rattle.std.proofs.Common.{length}
 use Rattle.ls_labels.proofs.names.+method_found.Given as goal
 

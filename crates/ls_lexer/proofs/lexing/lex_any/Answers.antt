@@ -1,3 +1,5 @@
+-- Why `lex_any` in src/lexing.rt keeps its contract, its loop and what it calls with.
+
 use Rattle.std.proofs.Common.{◌<◌, length}
 use Rattle.std.proofs.lemmas.Result.{err_from_is_err_and}
 use Rattle.ls_lexer.proofs.Texts.{text_begins, text_ends, text_split, text_order, text_fails, text_goes_on, not_empty}

@@ -1,3 +1,5 @@
+-- What the loop `rest` of `lex_any` in src/lexing.rt keeps, and why the loop ends.
+
 use Rattle.std.proofs.Common.{length}
 use Rattle.ls_lexer.proofs.Texts.{InText}
 use Rattle.ls_lexer.proofs.lexing.lex_any.Given as goal

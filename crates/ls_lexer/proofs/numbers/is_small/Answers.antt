@@ -1,3 +1,5 @@
+-- Why `is_small` in src/numbers.rt keeps its contract.
+
 use Rattle.std.proofs.Common.{◌+◌, ◌*◌, sym, arith}
 use Rattle.ls_lexer.proofs.Digits.{value_grows}
 use Rattle.ls_lexer.proofs.numbers.is_small.Goals as goal

@@ -1,3 +1,5 @@
+-- What the loop `b` of `is_small` in src/numbers.rt keeps.
+
 use Rattle.ls_lexer.proofs.Digits.{Valued}
 use Rattle.ls_lexer.proofs.numbers.is_small.Given as goal
 

@@ -1,3 +1,5 @@
+-- What the loop `n` of `comment_run` in src/runs.rt keeps, and why the loop ends.
+
 use Rattle.std.proofs.Common.{◌-◌, length}
 use Rattle.ls_lexer.proofs.Spans.{Open}
 use Rattle.ls_lexer.proofs.runs.comment_run.Given as goal

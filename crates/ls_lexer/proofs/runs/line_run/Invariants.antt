@@ -1,3 +1,5 @@
+-- What the loop `n` of `line_run` in src/runs.rt keeps, and why the loop ends.
+
 use Rattle.std.proofs.Common.{◌-◌, length, not}
 use Rattle.ls_lexer.specs.Characters.{is_line_end}
 use Rattle.ls_lexer.proofs.Spans.{Ran}

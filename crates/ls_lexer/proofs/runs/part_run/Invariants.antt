@@ -1,3 +1,5 @@
+-- What the loop `n` of `part_run` in src/runs.rt keeps, and why the loop ends.
+
 use Rattle.std.proofs.Common.{◌-◌, length}
 use Rattle.ls_lexer.specs.Characters.{is_part}
 use Rattle.ls_lexer.proofs.Spans.{Ran}

@@ -1,3 +1,5 @@
+-- Why `compiled_runs` in src/compiled.rt keeps its contract.
+
 use Rattle.std.proofs.Common.{refl}
 use Rattle.std.proofs.Math.Logic.{∥∥₁_elim}
 use Rattle.ls_emit.specs.Units.{units_of}

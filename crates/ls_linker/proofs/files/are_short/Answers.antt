@@ -1,3 +1,5 @@
+-- Why `are_short` in src/files.rt keeps its contract and its loop `length`.
+
 use Rattle.ls_code.specs.Limits.{most_instructions}
 use Rattle.std.proofs.Common.{rules, ◌≤◌}
 use Rattle.std.specs.Prelude.{slice_index}

@@ -1,3 +1,5 @@
+-- What the loop `length` of `are_short_together` in src/files.rt keeps.
+
 use Rattle.ls_code.specs.Limits.{most_instructions}
 use Rattle.std.proofs.Common.{◌≡◌, ◌+◌, ◌≤◌, drop}
 use Rattle.ls_linker.specs.Costs.{sum}

@@ -1,3 +1,5 @@
+-- Why `count_methods` in src/files.rt keeps its loop `method`.
+
 use Rattle.std.proofs.Common.{rules, ◌≤◌}
 use Rattle.ls_lowered.specs.declared.tree.Method.{Method}
 use Rattle.ls_lowered.specs.Plain.{plain_statement}

@@ -1,3 +1,5 @@
+-- What the loop `method` of `count_methods` in src/files.rt keeps.
+
 use Rattle.std.proofs.Common.{◌≡◌, ◌≤◌, map, take}
 use Rattle.std.specs.Prelude.{All}
 use Rattle.ls_lowered.specs.Plain.{plain_statement}

@@ -1,3 +1,5 @@
+-- Why `measure` in src/files.rt keeps its clauses `refused`, `few`, `short` and `together`.
+
 use Rattle.std.proofs.Common.{rules, ◌∙◌}
 use Rattle.ls_lowered.proofs.Taken.{no_truth}
 use Rattle.ls_linker.proofs.WholeCounts.{few_copies, passes_on, are_short, short_so, together, together_so}

@@ -1,5 +1,7 @@
+-- Why `ranged_is_emittable` in src/in_range.rt keeps its contract.
+
 use Rattle.std.proofs.Math.Logic.{∥∥₁_elim}
-use Rattle.ls_refs_expressions.specs.Lowered.{lowered_file}
+use Rattle.ls_refs.specs.Lowered.{lowered_file}
 use Rattle.ls_finally.specs.Flat.{flat_file}
 use Rattle.ls_linker.proofs.Once.{emittable_once}
 use Rattle.ls_linker.proofs.Ranges.{file_emittable}

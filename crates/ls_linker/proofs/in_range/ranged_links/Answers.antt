@@ -1,5 +1,7 @@
+-- Why `ranged_links` in src/in_range.rt keeps its contract.
+
 use Rattle.std.proofs.Math.Logic.{∥∥₁_elim}
-use Rattle.ls_refs_expressions.specs.Lowered.{lowered_file}
+use Rattle.ls_refs.specs.Lowered.{lowered_file}
 use Rattle.ls_finally.specs.Flat.{flat_file}
 use Rattle.ls_emit.specs.Units.{units_of}
 use Rattle.ls_linker.proofs.Once.{links_once}

@@ -1,3 +1,5 @@
+-- Why `any_units_are_same` in src/laws.rt keeps its contract.
+
 use Rattle.ls_linker.specs.Linked.{linked}
 use Rattle.ls_linker.proofs.laws.any_units_are_same.Goals as goal
 

@@ -1,3 +1,5 @@
+-- Why `any_units_ask` in src/laws.rt keeps its contract.
+
 use Rattle.ls_linker.proofs.Linked.{linked_asks}
 use Rattle.ls_linker.proofs.UnitRuns.{each_within}
 use Rattle.ls_linker.proofs.laws.any_units_ask.Goals as goal

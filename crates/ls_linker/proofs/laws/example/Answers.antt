@@ -1,3 +1,5 @@
+-- Why `example` in src/laws.rt keeps its contract.
+
 use Rattle.std.proofs.Common.{refl}
 use Rattle.ls_linker.proofs.laws.example.Goals as goal
 

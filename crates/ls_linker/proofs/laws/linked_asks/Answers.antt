@@ -1,3 +1,5 @@
+-- Why `linked_asks` in src/laws.rt keeps its contract.
+
 use Rattle.ls_emit.specs.Units.{units_of}
 use Rattle.ls_linker.proofs.Linked.{linked_asks}
 use Rattle.ls_linker.proofs.UnitRuns.{all_within, emitted_take}

@@ -1,3 +1,5 @@
+-- Why `lowering` in src/lengths.rt keeps its clauses `method` and `file`.
+
 use Rattle.ls_linker.proofs.Copies.{lowers_few, counts_written}
 use Rattle.ls_linker.proofs.lengths.lowering.Goals as goal
 

@@ -1,3 +1,5 @@
+-- Why `sizes` in src/lengths.rt keeps its clauses `units`, `methods`, `code` and `floor`.
+
 use Rattle.ls_linker.proofs.Sizes.{method_sized}
 use Rattle.ls_linker.proofs.Whole.{code_holds, code_short, keeps_floor}
 use Rattle.ls_linker.proofs.lengths.sizes.Goals as goal

@@ -1,3 +1,5 @@
+-- Why the cycle `add_threads` in src/threads.rt ends.
+
 use Rattle.std.proofs.Common.{length}
 use Rattle.ls_linker.proofs.threads.+add_threads.Given as goal
 

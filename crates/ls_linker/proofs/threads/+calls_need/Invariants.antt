@@ -1,3 +1,5 @@
+-- Why the cycle `calls_need` in src/threads.rt ends.
+
 use Rattle.std.proofs.Common.{length}
 use Rattle.ls_linker.proofs.threads.+calls_need.Given as goal
 

@@ -1,3 +1,5 @@
+-- Why the cycle `push_calls` in src/threads.rt ends.
+
 use Rattle.std.proofs.Common.{length}
 use Rattle.ls_linker.proofs.threads.+push_calls.Given as goal
 

@@ -1,3 +1,5 @@
+-- Why `add_thread` in src/threads.rt keeps what `push_thread` requires.
+
 use Rattle.std.proofs.Common.{map, sym, subst}
 use Rattle.std.specs.Prelude.{All}
 use Rattle.ls_checked.specs.Plain.{plain_class}

@@ -1,3 +1,5 @@
+-- What the loop `call` of `call_results` in src/threads.rt keeps.
+
 use Rattle.std.proofs.Common.{◌≡◌, map, take}
 use Rattle.ls_checked.specs.PlainProgram.{plain_call}
 use Rattle.ls_preservation.specs.Threads.{call_result}

@@ -1,3 +1,5 @@
+-- Why `push_thread` in src/threads.rt keeps its contract.
+
 use Rattle.std.proofs.Common.{◌≡◌, ◌+◌, ◌-◌, length, map, arith}
 use Rattle.ls_checked.specs.Plain.{plain_class}
 use Rattle.ls_checked.specs.PlainProgram.{plain_call}

@@ -1,3 +1,5 @@
+-- What the loop `value` of `push_values` in src/threads.rt keeps.
+
 use Rattle.std.proofs.Common.{◌≡◌, ◌++◌, take}
 use Rattle.ls_linker.specs.Threads.{pushes}
 use Rattle.ls_linker.proofs.threads.push_values.Given as goal

@@ -1,3 +1,5 @@
+-- Why the cycle `add_units` in src/units.rt ends.
+
 use Rattle.std.proofs.Common.{length}
 use Rattle.ls_linker.proofs.units.+add_units.Given as goal
 

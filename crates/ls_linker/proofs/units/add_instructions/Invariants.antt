@@ -1,3 +1,5 @@
+-- What the loop `instruction` of `add_instructions` in src/units.rt keeps.
+
 use Rattle.std.proofs.Common.{◌≡◌, ◌++◌, map, take}
 use Rattle.ls_emit.specs.Units.{moved}
 use Rattle.ls_linker.proofs.units.add_instructions.Given as goal

@@ -1,3 +1,5 @@
+-- What the loop `row` of `add_rows` in src/units.rt keeps.
+
 use Rattle.std.proofs.Common.{◌≡◌, ◌++◌, map, take}
 use Rattle.ls_emit.specs.Units.{moved_row}
 use Rattle.ls_linker.proofs.units.add_rows.Given as goal

@@ -1,3 +1,5 @@
+-- What the loop `way` of `put_beyond` in src/ways.rt keeps.
+
 use Rattle.std.proofs.Common.{◌≡◌, ◌++◌, drop}
 use Rattle.ls_linker.specs.Costs.{beyond}
 use Rattle.ls_linker.proofs.ways.put_beyond.Given as goal

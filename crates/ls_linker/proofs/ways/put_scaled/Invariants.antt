@@ -1,3 +1,5 @@
+-- What the loop `way` of `put_scaled` in src/ways.rt keeps.
+
 use Rattle.std.proofs.Common.{◌≡◌, ◌++◌, drop}
 use Rattle.ls_linker.specs.Costs.{scaled}
 use Rattle.ls_linker.proofs.ways.put_scaled.Given as goal

@@ -1,3 +1,5 @@
+-- What the loop `way` of `total_of` in src/ways.rt keeps.
+
 use Rattle.std.proofs.Common.{◌≡◌, ◌+◌, ◌≤◌, drop}
 use Rattle.std.specs.Prelude.{min}
 use Rattle.ls_linker.specs.Costs.{total}

@@ -1,3 +1,5 @@
+-- Why the cycle `audit_all` in src/live.rt ends.
+
 use Rattle.std.proofs.Common.{length}
 use Rattle.ls_live.proofs.live.+audit_all.Given as goal
 

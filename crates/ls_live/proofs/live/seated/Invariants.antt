@@ -1,7 +1,9 @@
+-- What the loop `thread` of `seated` in src/live.rt keeps.
+
 use Rattle.std.proofs.Common.{◌≡◌, ◌+◌, ◌<◌, ◌≤◌, ℕ, vec_len, vec_capacity}
 use Rattle.std.specs.Prelude.{slice_get, Some}
-use Rattle.ls_live_book.specs.Seats.{seat_of}
-use Rattle.ls_live_book.specs.declared.book.Told.TheVariants.{Nothing}
+use Rattle.ls_live.specs.BookSeats.{seat_of}
+use Rattle.ls_live.specs.declared.book.Told.TheVariants.{Nothing}
 use Rattle.ls_live.proofs.live.seated.Given as goal
 
 abbrev pub invariant-loop-thread : goal.invariant-loop-thread

@@ -1,3 +1,5 @@
+-- The ghost values with which `play_live` in src/playing.rt calls.
+
 use Rattle.ls_code.specs.Machine.{loaded}
 use Rattle.ls_image.specs.Images.{code_of_image}
 use Rattle.ls_live.proofs.playing.play_live.Given as goal

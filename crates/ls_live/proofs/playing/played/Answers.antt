@@ -1,9 +1,11 @@
+-- Why `played` in src/playing.rt keeps its clauses `there`, `due` and `done` and what `run_live` requires.
+
 use Rattle.std.proofs.Common.{◌≡◌, ◌<◌, ◌∙◌, ℕ, All, ap, length, subst}
 use Rattle.std.proofs.lemmas.List.{length-map}
 use Rattle.ls_code.specs.Machine.{Machine}
 use Rattle.ls_image.specs.Images.{code_of_image}
 use Rattle.ls_live.proofs.Ends.{opened_in_order, all_done}
-use Rattle.ls_live_book.specs.Due.{AreDue}
+use Rattle.ls_live.specs.Due.{AreDue}
 use Rattle.ls_schedule.specs.Records.{scheduled}
 use Rattle.ls_live.proofs.playing.played.Goals as goal
 

@@ -1,3 +1,5 @@
+-- Why `run_live` in src/running.rt keeps its clause `order`.
+
 use Rattle.std.proofs.Common.{subst}
 use Rattle.ls_live.specs.Seats.{AreInOrder}
 use Rattle.ls_live.proofs.running.run_live.Goals as goal

@@ -1,3 +1,5 @@
+-- The ghost values with which `live_agreements` in src/dids.rt calls.
+
 use Rattle.ls_code.specs.Machine.{loaded}
 use Rattle.ls_image.specs.Images.{code_of_image}
 use Rattle.ls_live_trials.proofs.dids.live_agreements.Given as goal

@@ -1,3 +1,5 @@
+-- The ghost values with which `tells_in_turn` in src/live_seats.rt calls.
+
 use Rattle.ls_code.specs.Machine.{loaded}
 use Rattle.ls_image.specs.Images.{code_of_image}
 use Rattle.ls_live_trials.proofs.live_seats.tells_in_turn.Given as goal

@@ -1,3 +1,5 @@
+-- The ghost values with which `counted` in src/meeting.rt calls.
+
 use Rattle.ls_code.specs.Machine.{loaded}
 use Rattle.ls_image.specs.Images.{code_of_image}
 use Rattle.ls_live_trials.proofs.meeting.counted.Given as goal

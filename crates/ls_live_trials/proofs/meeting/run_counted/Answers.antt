@@ -1,3 +1,5 @@
+-- Why `run_counted` in src/meeting.rt keeps what `run_live` requires.
+
 use Rattle.ls_live.proofs.Ends.{opened_in_order}
 use Rattle.ls_live_trials.proofs.meeting.run_counted.Goals as goal
 

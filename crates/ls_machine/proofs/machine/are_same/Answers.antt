@@ -1,3 +1,5 @@
+-- Why `are_same` in src/machine.rt keeps what `is_same` requires.
+
 use Rattle.std.proofs.Common.{◌<◌, length, sym, ap, ◌∙◌, arith}
 use Rattle.ls_machine_threads.specs.Memory.{KeptThread}
 use Rattle.ls_machine.proofs.SameAt.{same_at}

@@ -1,3 +1,5 @@
+-- What the loop `i` of `are_same` in src/machine.rt keeps.
+
 use Rattle.std.proofs.Common.{◌≡◌, map, take}
 use Rattle.ls_machine.proofs.machine.are_same.Given as goal
 

@@ -1,3 +1,5 @@
+-- What the loop `start` of `count_events` in src/machine.rt keeps.
+
 use Rattle.std.proofs.Common.{◌≡◌, ◌*◌, ◌≤◌, take, length}
 use Rattle.std.specs.List.{sum_by}
 use Rattle.ls_machine.proofs.machine.count_events.Given as goal

@@ -1,3 +1,5 @@
+-- Why `load_all` in src/machine.rt keeps its contract.
+
 use Rattle.std.proofs.Common.{◌≡◌, ◌≤◌, length, refl, rules, ap, ◌∙◌, arith}
 use Rattle.std.specs.List.{All}
 use Rattle.ls_code.specs.Cells.{Cells}

@@ -1,3 +1,5 @@
+-- What the loop `method` of `most_locals` in src/machine.rt keeps.
+
 use Rattle.std.proofs.Common.{ℕ, ◌+◌, ◌<◌, ◌≤◌, slice_index_or}
 use Rattle.ls_code.specs.declared.code.Method.{Method}
 use Rattle.ls_machine.proofs.machine.most_locals.Given as goal

@@ -1,3 +1,5 @@
+-- What the loop `i` of `set_all_back` in src/machine.rt keeps.
+
 use Rattle.std.proofs.Common.{◌≡◌, ◌≤◌, ◌++◌, drop, take}
 use Rattle.std.specs.List.{All}
 use Rattle.ls_machine.specs.Back.{all_back}

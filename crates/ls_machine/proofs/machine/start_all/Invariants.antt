@@ -1,3 +1,5 @@
+-- What the loop `start` of `start_all` in src/machine.rt keeps.
+
 use Rattle.std.proofs.Common.{◌≡◌, take, map}
 use Rattle.ls_machine_threads.specs.Memory.{started_kept}
 use Rattle.ls_machine.proofs.machine.start_all.Given as goal

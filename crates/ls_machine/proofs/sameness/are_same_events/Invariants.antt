@@ -1,3 +1,5 @@
+-- What the loop `i` of `are_same_events` in src/sameness.rt keeps.
+
 use Rattle.std.proofs.Common.{◌≡◌, take}
 use Rattle.ls_machine.proofs.sameness.are_same_events.Given as goal
 

@@ -1,3 +1,5 @@
+-- Why `acts` in src/staying.rt keeps its clause `acted`.
+
 use Rattle.ls_machine_threads.specs.Threads.{instruction_of}
 use Rattle.ls_machine.proofs.Stays.{unseen_here}
 use Rattle.ls_machine.proofs.staying.acts.Goals as goal

@@ -1,3 +1,5 @@
+-- Why `stay` in src/staying.rt keeps its clause `stays`, its loop `done` and what `acts` requires.
+
 use Rattle.std.proofs.Common.{◌≡◌, ◌+◌, true, sym, subst, ◌∙◌, arith}
 use Rattle.ls_code.specs.Machine.{is_running}
 use Rattle.ls_machine_threads.specs.Memory.{KeptThread, MethodsFit}

@@ -1,3 +1,5 @@
+-- What the loop `done` of `stay` in src/staying.rt keeps, and why the loop ends.
+
 use Rattle.std.proofs.Common.{◌≤◌, ◌-◌}
 use Rattle.ls_machine.specs.Staying.{Stays}
 use Rattle.ls_machine.proofs.staying.stay.Given as goal

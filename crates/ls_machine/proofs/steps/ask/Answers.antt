@@ -1,3 +1,5 @@
+-- Why `ask` in src/steps.rt keeps its clause `came`.
+
 use Rattle.std.proofs.Common.{◌≡◌, ℕ, ◌∷◌, List, Option, None, Some, Bool, false, true, MatchOption, IsTrue, refl, sym}
 use Rattle.std.proofs.Common.{ap, ◌∙◌}
 use Rattle.std.proofs.lemmas.Bool.{both_ways}

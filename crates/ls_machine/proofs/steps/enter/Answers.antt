@@ -1,3 +1,5 @@
+-- Why `enter` in src/steps.rt keeps its clause `came`.
+
 use Rattle.ls_machine.proofs.Stepping.{call_next, call_stuck, call_throws, enter_found}
 use Rattle.ls_machine.proofs.steps.enter.Goals as goal
 

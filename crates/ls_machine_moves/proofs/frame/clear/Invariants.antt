@@ -1,3 +1,5 @@
+-- What the loop `i` of `clear` in src/frame.rt keeps.
+
 use Rattle.std.proofs.Common.{◌≡◌, ◌+◌, ◌++◌, take, replicate, length}
 use Rattle.ls_machine_moves.proofs.frame.clear.Given as goal
 

@@ -1,3 +1,5 @@
+-- What the loop `i` of `copy_reversed` in src/frame.rt keeps.
+
 use Rattle.std.proofs.Common.{◌≡◌, take, reverse, length}
 use Rattle.ls_machine_moves.proofs.frame.copy_reversed.Given as goal
 

@@ -1,3 +1,5 @@
+-- What the loop `done` of `glide` in src/silent.rt keeps.
+
 use Rattle.std.proofs.Common.{◌≡◌, Some}
 use Rattle.ls_machine_moves.specs.Frames.{keeping}
 use Rattle.ls_machine_moves.specs.Gliding.{glided}

@@ -1,3 +1,5 @@
+-- Why `quick` in src/silent.rt keeps its clause `others`.
+
 use Rattle.ls_machine_moves.proofs.silent.quick.Goals as goal
 
 pub returns-in-Push-clause-others : goal.returns-in-Push-clause-others

@@ -1,3 +1,5 @@
+-- What `empty_frames` in src/thread.rt keeps.
+
 use Rattle.std.proofs.Common.{◌≡◌, length}
 use Rattle.ls_machine_threads.specs.Memory.{HaveRooms}
 use Rattle.ls_machine_threads.proofs.thread.empty_frames.Given as goal

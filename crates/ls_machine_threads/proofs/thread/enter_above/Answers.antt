@@ -1,3 +1,5 @@
+-- Why `enter_above` in src/thread.rt keeps its contract.
+
 use Rattle.std.proofs.Common.{◌<◌, ◌++◌, length}
 use Rattle.ls_machine_moves.specs.Frames.{no_frame}
 use Rattle.ls_machine_threads.proofs.Frames.{set_both, callee_is, caller_is}

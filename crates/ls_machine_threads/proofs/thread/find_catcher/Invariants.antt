@@ -1,3 +1,5 @@
+-- What the loop `at` of `find_catcher` in src/thread.rt keeps.
+
 use Rattle.std.proofs.Common.{◌≡◌, map, drop}
 use Rattle.ls_code.specs.Throws.{thrown}
 use Rattle.ls_events.specs.declared.kind.Kind.{Kind}

@@ -1,3 +1,5 @@
+-- What the loop `row` of `find_row` in src/thread.rt keeps.
+
 use Rattle.std.proofs.Common.{◌≡◌, drop}
 use Rattle.ls_code.specs.Throws.{find_row}
 use Rattle.ls_machine_threads.proofs.thread.find_row.Given as goal

@@ -1,3 +1,5 @@
+-- Why `next_renames` in src/laws.rt keeps its contract.
+
 use Rattle.ls_meaning.proofs.RenamesThreads.{next_other}
 use Rattle.ls_meaning.proofs.laws.next_renames.Goals as goal
 

@@ -1,3 +1,5 @@
+-- Why `legal_names` in src/finding.rt keeps its contract.
+
 use Rattle.std.proofs.Common.{◌<◌, ◌^◌, sym, subst, arith, length, map}
 use Rattle.std.proofs.lemmas.List.{length-map}
 use Rattle.std.proofs.lemmas.Result.{IfOk-weaker}

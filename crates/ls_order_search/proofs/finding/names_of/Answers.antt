@@ -1,3 +1,5 @@
+-- Why `names_of` in src/finding.rt keeps its loop `call`.
+
 use Rattle.std.proofs.Common.{◌∙◌, ◌<◌, ◌∷◌, ◌++◌, [], sym, ap, ap₂, arith, length, map, string_bytes}
 use Rattle.std.proofs.lemmas.List.{map_more, map_push}
 use Rattle.ls_report.specs.Plain.{plain_event}

@@ -1,3 +1,5 @@
+-- What the loop `call` of `names_of` in src/finding.rt keeps.
+
 use Rattle.std.proofs.Common.{◌≡◌, map, take, string_bytes}
 use Rattle.ls_report.specs.Plain.{plain_event}
 use Rattle.ls_orders.specs.Rules.{named_by}

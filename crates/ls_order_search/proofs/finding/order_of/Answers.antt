@@ -1,3 +1,5 @@
+-- Why `order_of` in src/finding.rt keeps its clause `none` and what `find_calls` and `legal_names` require.
+
 use Rattle.std.proofs.Common.{[], sym, subst, map, IfNone, IfSome}
 use Rattle.std.proofs.lemmas.List.{length-map}
 use Rattle.ls_report.specs.Plain.{plain_event}

@@ -1,3 +1,5 @@
+-- Why `find_calls` in src/items.rt keeps what `joint` requires.
+
 use Rattle.std.proofs.Common.{sym, subst, Bool, List, IfSome}
 use Rattle.ls_order_search.specs.Search.{Settled}
 use Rattle.ls_order_search.proofs.items.find_calls.Goals as goal

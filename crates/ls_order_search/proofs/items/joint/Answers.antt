@@ -1,3 +1,5 @@
+-- Why `joint` in src/items.rt keeps its clauses `none` and `some` and what `search` requires.
+
 use Rattle.std.proofs.Common.{◌∙◌, sym, subst}
 use Rattle.std.proofs.lemmas.Result.{IfOk-weaker}
 use Rattle.ls_order_search.specs.Search.{NoPlanOn, Rising, stays}

@@ -1,3 +1,5 @@
+-- Why `mark_all` in src/items.rt keeps its contract and its loop `call`.
+
 use Rattle.std.proofs.Common.{◌<◌, arith, length}
 use Rattle.ls_orders.proofs.RuleLemmas.{no_call}
 use Rattle.ls_order_search.proofs.Settling.{marked_all, marked_more}

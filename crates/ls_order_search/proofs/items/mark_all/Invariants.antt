@@ -1,3 +1,5 @@
+-- What the loop `call` of `mark_all` in src/items.rt keeps.
+
 use Rattle.std.proofs.Common.{◌≡◌, ◌==◌, ◌||◌, ℕ, take}
 use Rattle.std.specs.List.{list_any}
 use Rattle.ls_orders.specs.Places.{is_marked}

@@ -1,3 +1,5 @@
+-- Why `settle` in src/items.rt keeps its clauses `none` and `some` and its loop `at`.
+
 use Rattle.std.proofs.Common.{ap, arith}
 use Rattle.std.specs.List.{list_any}
 use Rattle.std.specs.BTreeMap.{is_at}

@@ -1,3 +1,5 @@
+-- What the loop `at` of `settle` in src/items.rt keeps.
+
 use Rattle.ls_order_search.specs.Search.{Settling, held}
 use Rattle.ls_order_search.proofs.items.settle.Given as goal
 

@@ -1,3 +1,5 @@
+-- Why `settle_call` in src/items.rt keeps its contract.
+
 use Rattle.std.proofs.Common.{[], sym, subst, get_or, IfNone, IfSome}
 use Rattle.std.proofs.lemmas.Bool.{MatchBool-at_false, MatchBool-at_true}
 use Rattle.ls_orders.specs.declared.calls.SetCall.{SetCall}

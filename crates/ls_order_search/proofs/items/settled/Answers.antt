@@ -1,3 +1,5 @@
+-- Why `settled` in src/items.rt keeps its clause `some`.
+
 use Rattle.std.proofs.Common.{◌∙◌, sym}
 use Rattle.ls_order_search.proofs.Settling.{none_trapped}
 use Rattle.ls_order_search.proofs.items.settled.Goals as goal

@@ -1,3 +1,5 @@
+-- Why `try_item` in src/items.rt keeps its clause `some` and what `tries` requires.
+
 use Rattle.std.proofs.Common.{◌∙◌, ◌++◌, sym, subst}
 use Rattle.std.proofs.lemmas.Result.{IfOk-weaker}
 use Rattle.ls_order_search.specs.Search.{Calls, Rising}

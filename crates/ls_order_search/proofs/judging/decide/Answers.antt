@@ -1,3 +1,5 @@
+-- Why `decide` in src/judging.rt keeps its contract and what `find_hopeless` requires.
+
 use Rattle.std.proofs.Common.{subst, map, string_bytes, IfNone, IfSome}
 use Rattle.ls_report.specs.Plain.{plain_event}
 use Rattle.ls_orders.specs.Legal.{IsLegal}

@@ -1,3 +1,5 @@
+-- Why `find_front` in src/judging.rt keeps its clauses `some` and `none` and what `find_order` requires.
+
 use Rattle.std.proofs.Common.{◌∙◌, sym, ap, subst, map, string_bytes}
 use Rattle.std.proofs.lemmas.List.{take-map}
 use Rattle.std.proofs.lemmas.Result.{IfOk-weaker}

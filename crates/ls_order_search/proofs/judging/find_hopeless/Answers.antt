@@ -1,3 +1,5 @@
+-- Why `find_hopeless` in src/judging.rt keeps its contract.
+
 use Rattle.std.proofs.Common.{sym, subst, arith, le_of_eq, length, map, take, take_all, string_bytes, List, String}
 use Rattle.std.proofs.Common.{Global}
 use Rattle.std.proofs.lemmas.List.{length-map}

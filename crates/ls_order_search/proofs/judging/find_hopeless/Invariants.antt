@@ -1,3 +1,5 @@
+-- What `find_hopeless` in src/judging.rt keeps, and why it ends.
+
 use Rattle.std.proofs.Common.{◌≤◌, ◌<◌, ◌-◌, length, map, take, string_bytes}
 use Rattle.ls_report.specs.Plain.{plain_event}
 use Rattle.ls_orders.specs.Legal.{IsLegal}

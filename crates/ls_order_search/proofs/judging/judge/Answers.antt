@@ -1,3 +1,5 @@
+-- Why `judge` in src/judging.rt keeps its contract.
+
 use Rattle.std.proofs.Common.{sym}
 use Rattle.ls_report.specs.Plain.{plain_event}
 use Rattle.ls_order_search.proofs.judging.judge.Goals as goal

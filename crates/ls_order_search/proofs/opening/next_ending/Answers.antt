@@ -1,3 +1,5 @@
+-- Why `next_ending` in src/opening.rt keeps its clauses `none` and `some`.
+
 use Rattle.ls_order_search.proofs.Firsts.{first_end, no_end}
 use Rattle.ls_order_search.proofs.opening.next_ending.Goals as goal
 

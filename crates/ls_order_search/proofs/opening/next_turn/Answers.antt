@@ -1,3 +1,5 @@
+-- Why `next_turn` in src/opening.rt keeps its clauses `none` and `some`.
+
 use Rattle.std.proofs.Common.{◌∙◌, subst, sym, true≢false}
 use Rattle.std.specs.Prelude.{◌≡◌, None}
 use Rattle.std.specs.BTreeMap.{get}

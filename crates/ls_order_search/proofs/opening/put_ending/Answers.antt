@@ -1,3 +1,5 @@
+-- Why `put_ending` in src/opening.rt keeps its contract.
+
 use Rattle.ls_order_search.specs.Pools.{ending_cmp, ending_of}
 use Rattle.ls_order_search.proofs.Indexes.{index_more, index_on}
 use Rattle.ls_order_search.proofs.Turns.{ending_exact, ending_total, endings_apart}

@@ -1,3 +1,5 @@
+-- Why `put_turn` in src/opening.rt keeps its contract.
+
 use Rattle.ls_order_search.specs.Pools.{turn_cmp, turn_of}
 use Rattle.ls_order_search.proofs.Indexes.{index_more, index_on}
 use Rattle.ls_order_search.proofs.Turns.{turn_exact, turn_total, turns_apart}

@@ -1,3 +1,5 @@
+-- Why `take` in src/opening.rt keeps its clause `some`.
+
 use Rattle.std.proofs.Common.{sym, subst}
 use Rattle.ls_order_search.specs.Plans.{Distinct}
 use Rattle.ls_order_search.specs.Pools.{Indexed, ending_cmp, ending_of, turn_cmp, turn_of}

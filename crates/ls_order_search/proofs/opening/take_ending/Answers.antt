@@ -1,3 +1,5 @@
+-- Why `take_ending` in src/opening.rt keeps its contract.
+
 use Rattle.std.proofs.Common.{sym, ◌∙◌}
 use Rattle.ls_order_search.specs.Pools.{ending_cmp, ending_of}
 use Rattle.ls_order_search.proofs.Indexes.{index_less, index_off}

@@ -1,3 +1,5 @@
+-- Why `next_call` in src/places.rt keeps its clauses `comes` and `last`.
+
 use Rattle.ls_order_search.proofs.Skips.{first_comes, first_is_last}
 use Rattle.ls_order_search.proofs.places.next_call.Goals as goal
 

@@ -1,3 +1,5 @@
+-- What the loop `call` of `push_spaced` in src/printing.rt keeps.
+
 use Rattle.std.proofs.Common.{◌≡◌, ◌++◌, drop, map, string_bytes}
 use Rattle.std.specs.List.{flat_map}
 use Rattle.ls_order_search.specs.OrderLines.{spaced}

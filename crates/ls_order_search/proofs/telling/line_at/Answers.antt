@@ -1,3 +1,5 @@
+-- Why `line_at` in src/telling.rt keeps its contract and its loop `past`.
+
 use Rattle.std.proofs.Common.{◌≡◌, ◌∙◌, ap, arith, drop, rules}
 use Rattle.std.proofs.lemmas.Option.{slice_get_within}
 use Rattle.ls_report.specs.Cut.{cut}

@@ -1,3 +1,5 @@
+-- What the loop `past` of `line_at` in src/telling.rt keeps.
+
 use Rattle.std.proofs.Common.{◌≡◌, ◌≤◌, List, drop, length}
 use denote.Shadow.{shadow}
 use denote.Text.{Utf8}

@@ -1,3 +1,5 @@
+-- Why `outcome_text` in src/telling.rt keeps its contract.
+
 use Rattle.std.proofs.Common.{◌∙◌, ap, map, subst, string_bytes, List, String, Global}
 use Rattle.ls_report.specs.Plain.{plain_event}
 use Rattle.ls_order_search.specs.Answers.{IsOutcome}

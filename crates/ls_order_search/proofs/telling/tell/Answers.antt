@@ -1,3 +1,5 @@
+-- Why `tell` in src/telling.rt keeps its contract and what `judge` and `outcome_text` require.
+
 use Rattle.std.proofs.Common.{◌∙◌, ap, sym, subst}
 use Rattle.std.proofs.lemmas.Result.{err_from_is_err_and}
 use Rattle.ls_report.specs.Discipline.{is_history}

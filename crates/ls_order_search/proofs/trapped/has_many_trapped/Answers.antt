@@ -1,3 +1,5 @@
+-- Why `has_many_trapped` in src/trapped.rt keeps its contract and its loop `call`.
+
 use Rattle.std.proofs.Common.{◌∙◌, ◌&&◌, ◌+◌, ◌≤◌, ap, arith, cond, get_or, subst, sym, take_all}
 use Rattle.ls_orders.proofs.RuleLemmas.{no_call}
 use Rattle.ls_orders.specs.declared.calls.SetCall.{SetCall}

@@ -1,3 +1,5 @@
+-- What the loop `call` of `has_many_trapped` in src/trapped.rt keeps.
+
 use Rattle.std.proofs.Common.{◌≡◌, ◌≤◌, ℤ, take}
 use Rattle.ls_order_search.specs.Groups.{counted}
 use Rattle.ls_order_search.specs.Trapped.{most_trapped, trapped_on}

@@ -1,3 +1,5 @@
+-- Why the functions of the cycle `tries` in src/trying.rt keep their contracts.
+
 use Rattle.std.proofs.Common.{[], ◌≡◌, ◌∙◌, ◌+◌, ◌<◌, sym, ap, subst, arith, length, drop, get_or, true, length-drop}
 use Rattle.std.proofs.Common.{drop_of_length-le}
 use Rattle.std.proofs.lemmas.Bool.{true≢false}

@@ -1,3 +1,5 @@
+-- Why `put_end` in src/ends.rt keeps its clause `put`.
+
 use Rattle.std.proofs.Common.{Some}
 use Rattle.ls_orders.proofs.EndLemmas.{end_put}
 use Rattle.ls_orders.proofs.ends.put_end.Goals as goal

@@ -1,3 +1,5 @@
+-- Why `put_event` in src/ends.rt keeps its contract.
+
 use Rattle.std.proofs.Common.{refl, sym, ◌∙◌}
 use Rattle.std.proofs.lemmas.Result.{IfOk-weaker}
 use Rattle.ls_orders.specs.Ends.{ended}

@@ -1,3 +1,5 @@
+-- Why `take_end` in src/ends.rt keeps its clause `put`.
+
 use Rattle.std.proofs.Common.{None}
 use Rattle.ls_orders.proofs.EndLemmas.{end_put}
 use Rattle.ls_orders.proofs.ends.take_end.Goals as goal

@@ -1,3 +1,5 @@
+-- What the loop `event` of `first_foreign` in src/finding.rt keeps.
+
 use Rattle.std.proofs.Common.{◌≡◌, drop, map, None}
 use Rattle.std.specs.Option.{option_copied}
 use Rattle.ls_report.specs.Plain.{plain_event}

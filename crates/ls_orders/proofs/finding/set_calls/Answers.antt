@@ -1,3 +1,5 @@
+-- Why `set_calls` in src/finding.rt keeps its loop `at`.
+
 use Rattle.std.proofs.Common.{◌∙◌, ◌++◌, ◌∷◌, [], ◌<◌, ◌≤◌, ap, arith, length}
 use Rattle.ls_orders.specs.Ends.{ended}
 use Rattle.ls_orders.specs.SetCalls.{Asked}

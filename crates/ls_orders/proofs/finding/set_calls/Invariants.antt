@@ -1,3 +1,5 @@
+-- What the loop `at` of `set_calls` in src/finding.rt keeps.
+
 use Rattle.std.proofs.Common.{◌≡◌, ℕ, drop, map}
 use Rattle.std.specs.Prelude.{reverse}
 use Rattle.ls_report.specs.Events.{Text}

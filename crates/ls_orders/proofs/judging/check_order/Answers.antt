@@ -1,3 +1,5 @@
+-- Why `check_order` in src/judging.rt keeps its clause `legal`.
+
 use Rattle.std.proofs.Common.{◌∙◌, sym}
 use Rattle.std.proofs.lemmas.Result.{IfOk-weaker}
 use Rattle.ls_orders.proofs.LegalLemmas.{is_legal, legal_is}

@@ -1,3 +1,5 @@
+-- Why `judged` in src/judging.rt keeps its contract.
+
 use Rattle.std.proofs.Common.{◌≡◌, ◌∙◌, ap, refl, sym, subst, map, List, Option, Result, Ok}
 use Rattle.std.specs.Prelude.{ok_or}
 use Rattle.std.proofs.lemmas.Result.{IfOk-weaker}

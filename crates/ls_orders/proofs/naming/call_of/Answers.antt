@@ -1,3 +1,5 @@
+-- Why `call_of` in src/naming.rt keeps its contract.
+
 use Rattle.std.proofs.Common.{◌∙◌, ◌<◌, ◌^◌, ◌++◌, ◌∷◌, ap, sym, arith}
 use Rattle.std.specs.Option.{option_copied}
 use Rattle.ls_report.proofs.CutLemmas.{none_is}

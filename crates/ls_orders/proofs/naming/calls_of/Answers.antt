@@ -1,3 +1,5 @@
+-- Why `calls_of` in src/naming.rt keeps its contract and its loop `name`.
+
 use Rattle.std.proofs.Common.{◌∙◌, ◌+◌, ap, sym, get_or, map, drop, Result, Err}
 use Rattle.std.specs.Prelude.{ok_or}
 use Rattle.std.specs.Option.{option_copied}

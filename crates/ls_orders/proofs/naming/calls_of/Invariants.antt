@@ -1,3 +1,5 @@
+-- What the loop `name` of `calls_of` in src/naming.rt keeps.
+
 use Rattle.std.proofs.Common.{◌≡◌, drop, map, Option}
 use Rattle.std.specs.Prelude.{ok_or}
 use Rattle.ls_report.specs.Events.{Text}

@@ -1,3 +1,5 @@
+-- Why `fill` in src/naming.rt keeps its contract.
+
 use Rattle.std.proofs.Common.{◌∙◌, ap}
 use Rattle.ls_orders.specs.Names.{numbered}
 use Rattle.ls_orders.proofs.NameLemmas.{one_more}

@@ -1,3 +1,5 @@
+-- What `fill` in src/naming.rt keeps, and why it ends.
+
 use Rattle.std.proofs.Common.{◌≡◌, ◌+◌, ◌-◌, ℕ, length}
 use Rattle.ls_orders.specs.Names.{numbered}
 use Rattle.ls_orders.proofs.naming.fill.Given as goal

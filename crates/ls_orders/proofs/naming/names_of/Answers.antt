@@ -1,3 +1,5 @@
+-- Why `names_of` in src/naming.rt keeps its loop `i` and what `put_call` requires.
+
 use Rattle.std.proofs.Common.{◌-◌, ◌<◌, ◌≤◌, arith, length, map}
 use Rattle.ls_report.specs.Plain.{plain_event}
 use Rattle.ls_orders.proofs.NameLemmas.{called_there, named_before}

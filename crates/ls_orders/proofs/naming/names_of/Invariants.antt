@@ -1,3 +1,5 @@
+-- What the loop `i` of `names_of` in src/naming.rt keeps.
+
 use Rattle.std.proofs.Common.{drop, map}
 use Rattle.ls_report.specs.Plain.{plain_event}
 use Rattle.ls_orders.specs.Names.{IsNamed}

@@ -1,3 +1,5 @@
+-- Why `put_at` in src/naming.rt keeps its contract.
+
 use Rattle.std.proofs.Common.{◌∙◌, ◌==◌, ap, cond}
 use Rattle.ls_orders.proofs.NameLemmas.{one_put}
 use Rattle.ls_orders.proofs.naming.put_at.Goals as goal

@@ -1,3 +1,5 @@
+-- Why `put_call` in src/naming.rt keeps its contract.
+
 use Rattle.std.proofs.Common.{arith}
 use Rattle.ls_orders.proofs.NameLemmas.{text_at}
 use Rattle.ls_orders.proofs.naming.put_call.Goals as goal

@@ -1,3 +1,5 @@
+-- Why `put_place` in src/naming.rt keeps its contract.
+
 use Rattle.std.proofs.Common.{◌≡◌, ◌∙◌, ◌==◌, ap, sym, cond, rules, None, Some}
 use Rattle.std.specs.HashMap.{get_by}
 use Rattle.std.specs.Option.{option_copied_mut, option_map_or}

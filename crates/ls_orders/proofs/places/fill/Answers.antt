@@ -1,3 +1,5 @@
+-- Why `fill` in src/places.rt keeps its contract.
+
 use Rattle.std.proofs.Common.{◌∙◌, ap}
 use Rattle.ls_orders.specs.Places.{is_marked}
 use Rattle.ls_orders.proofs.PlaceLemmas.{one_unmarked}

@@ -1,3 +1,5 @@
+-- What `fill` in src/places.rt keeps, and why it ends.
+
 use Rattle.std.proofs.Common.{◌≡◌, ◌+◌, ◌-◌, ℕ, length}
 use Rattle.ls_orders.specs.Places.{is_marked}
 use Rattle.ls_orders.proofs.places.fill.Given as goal

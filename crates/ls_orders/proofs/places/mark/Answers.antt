@@ -1,3 +1,5 @@
+-- Why `mark` in src/places.rt keeps its contract.
+
 use Rattle.std.proofs.Common.{◌∙◌, ◌==◌, ◌||◌, ap}
 use Rattle.ls_orders.proofs.PlaceLemmas.{one_marked}
 use Rattle.ls_orders.proofs.places.mark.Goals as goal

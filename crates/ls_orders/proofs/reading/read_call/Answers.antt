@@ -1,3 +1,5 @@
+-- Why `read_call` in src/reading.rt keeps its contract.
+
 use Rattle.std.proofs.Common.{ap, cond, Ok, Err}
 use Rattle.std.proofs.lemmas.Bool.{false_from_ne_true}
 use Rattle.ls_orders.specs.Orders.{is_call}

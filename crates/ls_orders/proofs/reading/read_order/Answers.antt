@@ -1,3 +1,5 @@
+-- Why `read_order` in src/reading.rt keeps its contract and its loop `rest`.
+
 use Rattle.std.proofs.Common.{◌∙◌, ◌+◌, ap, sym, arith, map}
 use Rattle.std.proofs.lemmas.List.{map_push}
 use Rattle.std.proofs.lemmas.Result.{err_from_is_err_and}

@@ -1,3 +1,5 @@
+-- What the loop `rest` of `read_order` in src/reading.rt keeps, and why the loop ends.
+
 use Rattle.std.proofs.Common.{◌≡◌, ◌+◌, length, map}
 use Rattle.ls_orders.specs.Each.{each}
 use Rattle.ls_items.specs.Items.{items}

@@ -1,3 +1,5 @@
+-- What the loop `i` of `first_late` in src/rules.rt keeps.
+
 use Rattle.std.proofs.Common.{◌≡◌, map, take, drop, []}
 use Rattle.std.specs.List.{list_any}
 use Rattle.ls_orders.specs.Named.{plain_call}

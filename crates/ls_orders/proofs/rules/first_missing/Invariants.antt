@@ -1,3 +1,5 @@
+-- What the loop `call` of `first_missing` in src/rules.rt keeps.
+
 use Rattle.std.proofs.Common.{◌≡◌, drop, map}
 use Rattle.std.specs.Prelude.{find}
 use Rattle.ls_orders.specs.Named.{plain_call}

@@ -1,3 +1,5 @@
+-- Why `first_repeated` in src/rules.rt keeps its loop `i`.
+
 use Rattle.std.proofs.Common.{◌∙◌, ◌==◌, ◌||◌, ◌-◌, ◌<◌, ◌≤◌, ap, sym, arith, cond, length, Some}
 use Rattle.ls_orders.specs.Places.{is_marked as marked}
 use Rattle.ls_orders.specs.Rules.{first_repeated}

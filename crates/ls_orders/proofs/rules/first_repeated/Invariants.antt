@@ -1,3 +1,5 @@
+-- What the loop `i` of `first_repeated` in src/rules.rt keeps.
+
 use Rattle.std.proofs.Common.{◌≡◌, ◌==◌, ℕ, drop, map}
 use Rattle.std.specs.List.{list_any}
 use Rattle.ls_orders.specs.Named.{plain_call}

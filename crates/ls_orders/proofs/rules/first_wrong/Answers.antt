@@ -1,3 +1,5 @@
+-- Why `first_wrong` in src/rules.rt keeps its loop `i`.
+
 use Rattle.std.proofs.Common.{◌∙◌, ap, sym}
 use Rattle.ls_orders.specs.Rules.{after_call, answer_of, differs, has_wrong_reply}
 use Rattle.ls_orders.proofs.RuleLemmas.{at, goes_on, present_more}

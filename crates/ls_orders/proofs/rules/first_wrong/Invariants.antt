@@ -1,3 +1,5 @@
+-- What the loop `i` of `first_wrong` in src/rules.rt keeps.
+
 use Rattle.std.proofs.Common.{◌≡◌, ℤ, map, take, drop, []}
 use Rattle.std.specs.Ordering.{int_cmp}
 use Rattle.std.specs.BTreeSet.{contains}

@@ -1,3 +1,5 @@
+-- Why `places_of` in src/rules.rt keeps its loop `call`.
+
 use Rattle.std.proofs.Common.{◌∙◌, ◌==◌, ◌||◌, ap, sym}
 use Rattle.ls_orders.proofs.RuleLemmas.{any_more, at}
 use Rattle.ls_orders.proofs.rules.places_of.Goals as goal

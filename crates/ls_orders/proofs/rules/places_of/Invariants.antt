@@ -1,3 +1,5 @@
+-- What the loop `call` of `places_of` in src/rules.rt keeps.
+
 use Rattle.std.proofs.Common.{◌≡◌, ◌==◌, ℕ, map, take}
 use Rattle.std.specs.List.{list_any}
 use Rattle.ls_orders.specs.Named.{plain_call}

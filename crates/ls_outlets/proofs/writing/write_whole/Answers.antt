@@ -1,3 +1,5 @@
+-- Why `write_whole` in src/writing.rt keeps its loop `done`.
+
 use Rattle.std.proofs.Common.{◌≡◌, ◌∙◌, ◌≤◌, ◌-◌, arith, length, drop, take, length-drop}
 use Rattle.std.proofs.lemmas.Grind.{common_steps}
 use Rattle.ls_outlets.proofs.Parts.{appends_more}

@@ -1,3 +1,5 @@
+-- What the loop `done` of `write_whole` in src/writing.rt keeps, and why the loop ends.
+
 use Rattle.std.proofs.Common.{◌≡◌, ◌-◌, ◌≤◌, length, take, true}
 use Rattle.std.specs.Io.KnownBytes.{Appends}
 use Rattle.ls_outlets.proofs.writing.write_whole.Given as goal

@@ -1,3 +1,5 @@
+-- Why `changes_fill` in src/changes.rt keeps its contract.
+
 use Rattle.ls_page.proofs.Filling
 use Rattle.ls_page.proofs.changes.changes_fill.Goals as goal
 

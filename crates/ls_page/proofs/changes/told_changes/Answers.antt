@@ -1,3 +1,5 @@
+-- Why `told_changes` in src/changes.rt keeps its loop `place`.
+
 use Rattle.std.proofs.Common.{◌+◌, ◌++◌, ◌∙◌, ap, get_or, rules, string_bytes}
 use Rattle.std.specs.Prelude.{nat_le}
 use Rattle.ls_labels.specs.Names.{names_of}

@@ -1,3 +1,5 @@
+-- What the loop `place` of `told_changes` in src/changes.rt keeps.
+
 use Rattle.std.proofs.Common.{◌≡◌, [], ◌+◌, drop, string_bytes}
 use Rattle.std.specs.Prelude.{flat_map}
 use Rattle.ls_labels.specs.Names.{names_of}

@@ -1,3 +1,5 @@
+-- Why `page_data` in src/data.rt keeps its contract.
+
 use Rattle.std.proofs.Common.{◌∙◌, ◌++◌, ap, codes}
 use Rattle.ls_report.specs.Events.{Text}
 use Rattle.ls_labels.specs.Names.{names_of}

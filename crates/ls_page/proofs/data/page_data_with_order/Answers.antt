@@ -1,3 +1,5 @@
+-- Why `page_data_with_order` in src/data.rt keeps its contract.
+
 use Rattle.std.proofs.Common.{◌∙◌, ◌++◌, ap, codes}
 use Rattle.std.proofs.lemmas.List.{append_assoc}
 use Rattle.ls_report.specs.Events.{Text}

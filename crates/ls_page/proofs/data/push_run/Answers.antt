@@ -1,3 +1,5 @@
+-- Why `push_run` in src/data.rt keeps its contract.
+
 use Rattle.std.proofs.Common.{◌≡◌, ◌∙◌, ◌++◌, ℕ, ap, length, string_bytes, take}
 use Rattle.std.proofs.lemmas.List.{append_assoc}
 use Rattle.ls_report.specs.Events.{Text}

@@ -1,3 +1,5 @@
+-- Why `quoted_reads_back` in src/quoted.rt keeps its clauses `safe` and `back`.
+
 use Rattle.std.proofs.Common.{◌∙◌, ◌∷◌, ◌++◌, [], chars, flat_map, append_assoc, append-nil, refl, subst}
 use Rattle.std.proofs.lemmas.List.Folds.{list_all-append}
 use Rattle.std.proofs.lemmas.Str.{encodes-chars}

@@ -1,3 +1,5 @@
+-- Why `package_name` in src/imports.rt keeps its clause `leaves`.
+
 use Rattle.ls_parser.proofs.Leaving.{then_closed}
 use Rattle.ls_parser.proofs.imports.package_name.Goals as goal
 

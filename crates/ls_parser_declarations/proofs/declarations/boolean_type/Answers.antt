@@ -1,3 +1,5 @@
+-- Why `boolean_type` in src/declarations.rt keeps its clause `places`.
+
 use Rattle.ls_parser_declarations.proofs.Places.{array_is}
 use Rattle.ls_parser_declarations.proofs.declarations.boolean_type.Goals as goal
 

@@ -1,3 +1,5 @@
+-- Why `declarator` in src/declarations.rt keeps its clause `places`.
+
 use Rattle.ls_parser_declarations.proofs.Places.{value_is}
 use Rattle.ls_parser_declarations.proofs.declarations.declarator.Goals as goal
 

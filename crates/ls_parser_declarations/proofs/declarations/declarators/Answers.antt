@@ -1,3 +1,5 @@
+-- Why `declarators` in src/declarations.rt keeps its clauses `read` and `places`.
+
 use Rattle.std.proofs.Common.{map}
 use Rattle.ls_lexer.specs.Lexemes.{lexemes}
 use Rattle.ls_tree.specs.Views.{bare_modifier, bare_type, bare_declarator}

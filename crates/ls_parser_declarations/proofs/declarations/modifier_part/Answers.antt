@@ -1,3 +1,5 @@
+-- Why `modifier_part` in src/declarations.rt keeps its clause `places`.
+
 use Rattle.std.proofs.Common.{ap}
 use Rattle.ls_lexer.specs.Lexemes.{lexeme_of}
 use Rattle.ls_parser_declarations.proofs.Places.{modifier_first}

@@ -1,3 +1,5 @@
+-- Why `modifiers` in src/declarations.rt keeps its clause `read` and its loop `context`.
+
 use Rattle.std.proofs.lemmas.Result.{err_from_is_err_and}
 use Rattle.ls_parser_spelling.specs.Places.{spots}
 use Rattle.ls_parser_expressions.proofs.Repeats.{repeat_ends, repeat_fails, list_goes_on}

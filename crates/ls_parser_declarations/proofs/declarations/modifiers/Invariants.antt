@@ -1,3 +1,5 @@
+-- What the loop `context` of `modifiers` in src/declarations.rt keeps, and why the loop ends.
+
 use Rattle.std.proofs.Common.{length, map}
 use Rattle.ls_lexer.specs.Lexemes.{lexemes}
 use Rattle.ls_parser_tokens.specs.Reading.{one_more, many_at}

@@ -1,3 +1,5 @@
+-- Why `called` in src/primaries.rt keeps its clauses `read` and `placed`.
+
 use Rattle.ls_parser_spelling.proofs.Rows.{call_bare}
 use Rattle.ls_parser_expressions.proofs.PlacedRows.{call_placed}
 use Rattle.ls_parser_expressions.proofs.primaries.called.Goals as goal

@@ -1,3 +1,5 @@
+-- Why `class_name` in src/primaries.rt keeps its clause `placed`.
+
 use Rattle.ls_parser_expressions.proofs.Places.{both_ok, class_name_is}
 use Rattle.ls_parser_expressions.proofs.primaries.class_name.Goals as goal
 

@@ -1,3 +1,5 @@
+-- Why `new_markable` in src/primaries.rt keeps its clauses `read` and `placed`.
+
 use Rattle.ls_parser_spelling.proofs.Rows.{new_markable_bare}
 use Rattle.ls_parser_expressions.proofs.PlacedRows.{new_markable_placed}
 use Rattle.ls_parser_expressions.proofs.primaries.new_markable.Goals as goal

@@ -1,3 +1,5 @@
+-- Why `new_object` in src/primaries.rt keeps its clauses `read` and `placed`.
+
 use Rattle.ls_parser_spelling.proofs.Rows.{new_bare}
 use Rattle.ls_parser_expressions.proofs.PlacedRows.{new_placed}
 use Rattle.ls_parser_expressions.proofs.primaries.new_object.Goals as goal

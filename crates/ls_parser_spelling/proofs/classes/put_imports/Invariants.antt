@@ -1,3 +1,5 @@
+-- What the loop `line` of `put_imports` in src/classes.rt keeps.
+
 use Rattle.std.proofs.Common.{◌≡◌, ◌++◌, drop, map}
 use Rattle.std.specs.List.{flat_map}
 use Rattle.ls_parser_spelling.specs.Kinds.{lexemes_of}

@@ -1,3 +1,5 @@
+-- What the loop `modifiers` of `put_locked` in src/classes.rt keeps.
+
 use Rattle.std.proofs.Common.{◌≡◌, ◌++◌, drop, map}
 use Rattle.std.specs.List.{flat_map}
 use Rattle.ls_parser_spelling.specs.Kinds.{lexemes_of}

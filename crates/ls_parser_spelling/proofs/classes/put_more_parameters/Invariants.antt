@@ -1,3 +1,5 @@
+-- What the loop `parameter` of `put_more_parameters` in src/classes.rt keeps.
+
 use Rattle.std.proofs.Common.{◌≡◌, ◌++◌, ◌∷◌, drop, map}
 use Rattle.std.specs.List.{flat_map}
 use Rattle.ls_lexer.specs.Lexemes.{Marked}

@@ -1,3 +1,5 @@
+-- What the loop `modifier` of `put_modifiers` in src/declarations.rt keeps.
+
 use Rattle.std.proofs.Common.{◌≡◌, ◌++◌, drop, map}
 use Rattle.std.specs.List.{flat_map}
 use Rattle.ls_parser_spelling.specs.Kinds.{lexemes_of}

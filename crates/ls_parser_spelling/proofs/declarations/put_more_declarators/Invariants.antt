@@ -1,3 +1,5 @@
+-- What the loop `declarator` of `put_more_declarators` in src/declarations.rt keeps.
+
 use Rattle.std.proofs.Common.{◌≡◌, ◌++◌, ◌∷◌, drop, map}
 use Rattle.std.specs.List.{flat_map}
 use Rattle.ls_lexer.specs.Lexemes.{Marked}

@@ -1,3 +1,5 @@
+-- What the loop `e` of the cycle `expressions` in src/expressions.rt keeps, and why the cycle ends.
+
 use Rattle.std.proofs.Common.{◌≡◌, ◌+◌, ◌*◌, ◌≤◌, ◌++◌, drop}
 use Rattle.ls_parser_spelling.specs.Kinds.{lexemes_of}
 use Rattle.ls_parser_spelling.specs.Spelling.{spell_others}

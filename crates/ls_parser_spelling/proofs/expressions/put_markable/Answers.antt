@@ -1,3 +1,5 @@
+-- Why `put_markable` in src/expressions.rt keeps its contract.
+
 use Rattle.std.proofs.Common.{◌∷◌, []}
 use Rattle.std.specs.Prelude.{codes}
 use Rattle.ls_lexer.specs.Lexemes.{Named, Marked}

@@ -1,3 +1,5 @@
+-- Why the functions of the cycle `statements` in src/statements.rt keep their contracts.
+
 use Rattle.std.proofs.Common.{rules, arith, ◌≡◌, ◌+◌, ap, ◌∙◌}
 use Rattle.ls_tree.specs.Trees as trees
 use Rattle.ls_tree.specs.Views.{bare, bare_statement, items_of}
@@ -5,8 +7,8 @@ use Rattle.ls_parser_spelling.proofs.Nodes.{statement_nodes, items_nodes}
 use Rattle.ls_parser_spelling.proofs.StatementRows.{block_bare, try_bare, synchronized_bare}
 use Rattle.ls_parser_spelling.proofs.statements.+statements.Goals as goal
 
-pub put_statement-returns-in_ok-put_block-in-Block : goal.put_statement-returns-in_ok-put_block-in-Block
-put_statement-returns-in_ok-put_block-in-Block t c =
+pub put_statement-returns-in-Block : goal.put_statement-returns-in-Block
+put_statement-returns-in-Block t c =
     let e : bare_statement c.args.s.now ≡ trees.Block (items_of c.in-Block.block.items.items) =
     ap bare_statement c.in-Block.is ∙ block_bare c.in-Block.block in
     rw e (search rules)
@@ -21,8 +23,8 @@ put_statement-put_block-requires t c =
     ap (λ is. items_nodes (items_of is)) c.deref.ensures.value in
     (omega (arith, n, m, c.decreases), tt)
 
-pub put_statement-returns-in_ok-put_try-in-Try : goal.put_statement-returns-in_ok-put_try-in-Try
-put_statement-returns-in_ok-put_try-in-Try t c =
+pub put_statement-returns-in-Try : goal.put_statement-returns-in-Try
+put_statement-returns-in-Try t c =
     let e : bare_statement c.args.s.now ≡
     trees.Try (items_of c.in-Try.body.items.items) (items_of c.in-Try.finally.items.items) =
     ap bare_statement c.in-Try.is ∙ try_bare c.in-Try.body c.in-Try.finally c.in-Try.span in
@@ -42,9 +44,8 @@ put_statement-put_try-requires t c =
     ap (λ is. items_nodes (items_of is)) c.deref-in-Try-2.ensures.value in
     (omega (arith, n, m, k, c.decreases), tt)
 
-pub put_statement-returns-in_ok-put_synchronized-in-Synchronized :
-    goal.put_statement-returns-in_ok-put_synchronized-in-Synchronized
-put_statement-returns-in_ok-put_synchronized-in-Synchronized t c =
+pub put_statement-returns-in-Synchronized : goal.put_statement-returns-in-Synchronized
+put_statement-returns-in-Synchronized t c =
     let e : bare_statement c.args.s.now ≡
     trees.Synchronized (bare c.in-Synchronized.target) (items_of c.in-Synchronized.body.items.items) =
     ap bare_statement c.in-Synchronized.is ∙ synchronized_bare c.in-Synchronized.target c.in-Synchronized.body

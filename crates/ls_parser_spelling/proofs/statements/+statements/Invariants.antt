@@ -1,3 +1,5 @@
+-- What the loop `item` of the cycle `statements` in src/statements.rt keeps, and why the cycle ends.
+
 use Rattle.std.proofs.Common.{◌≡◌, ◌+◌, ◌*◌, ◌≤◌, ◌++◌, drop}
 use Rattle.ls_tree.specs.Trees.{NoItem, put_before}
 use Rattle.ls_parser_spelling.specs.Kinds.{lexemes_of}

@@ -1,3 +1,5 @@
+-- Why `block_tree` in src/simple_statements.rt keeps its clauses `read` and `places`.
+
 use Rattle.ls_parser_spelling.proofs.StatementRows.{block_bare}
 use Rattle.ls_parser_statements.proofs.PlacedRows.{block_placed}
 use Rattle.ls_parser_statements.proofs.simple_statements.block_tree.Goals as goal

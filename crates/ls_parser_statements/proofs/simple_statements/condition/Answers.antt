@@ -1,3 +1,5 @@
+-- Why `condition` in src/simple_statements.rt keeps its clause `places`.
+
 use Rattle.ls_parser_expressions.proofs.Places.{both_ok}
 use Rattle.ls_parser_statements.proofs.Places.{condition_is}
 use Rattle.ls_parser_statements.proofs.simple_statements.condition.Goals as goal

@@ -1,3 +1,5 @@
+-- Why `ended` in src/simple_statements.rt keeps its clause `places`.
+
 use Rattle.ls_parser_expressions.proofs.Places.{both_ok}
 use Rattle.ls_parser_statements.proofs.Places.{ended_is}
 use Rattle.ls_parser_statements.proofs.simple_statements.ended.Goals as goal

@@ -1,3 +1,5 @@
+-- Why `synchronized_tree` in src/simple_statements.rt keeps its clauses `read` and `places`.
+
 use Rattle.ls_parser_spelling.proofs.StatementRows.{synchronized_bare}
 use Rattle.ls_parser_statements.proofs.PlacedRows.{synchronized_placed}
 use Rattle.ls_parser_statements.proofs.simple_statements.synchronized_tree.Goals as goal

@@ -1,3 +1,5 @@
+-- Why `try_tree` in src/simple_statements.rt keeps its clauses `read` and `places`.
+
 use Rattle.ls_parser_spelling.proofs.StatementRows.{try_bare}
 use Rattle.ls_parser_statements.proofs.PlacedRows.{try_placed}
 use Rattle.ls_parser_statements.proofs.simple_statements.try_tree.Goals as goal

@@ -1,3 +1,5 @@
+-- Why `head` in src/simples.rt keeps its clause `places`.
+
 use Rattle.ls_parser_statements.proofs.SimplePlaces.{head_is}
 use Rattle.ls_parser_statements.proofs.simples.head.Goals as goal
 

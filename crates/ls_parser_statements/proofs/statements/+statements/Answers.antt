@@ -1,3 +1,5 @@
+-- Why the functions of the cycle `statements` in src/statements.rt keep their contracts.
+
 use Rattle.std.proofs.Common.{◌≡◌, ap, ◌∙◌, ◌∷◌}
 use Rattle.std.proofs.lemmas.Result.{err_from_is_err_and}
 use Rattle.ls_lexer.specs.declared.word.Word.TheVariants as words

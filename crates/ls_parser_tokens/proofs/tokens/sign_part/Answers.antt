@@ -1,3 +1,5 @@
+-- Why `sign_part` in src/tokens.rt keeps its clause `placed`.
+
 use Rattle.std.proofs.Common.{◌≡◌, ap, ◌∙◌}
 use Rattle.ls_lexer.specs.Lexemes.{Marked, lexeme_of}
 use Rattle.ls_parser_tokens.proofs.Places.{first_spot, same_sign}

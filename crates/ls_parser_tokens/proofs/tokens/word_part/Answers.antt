@@ -1,3 +1,5 @@
+-- Why `word_part` in src/tokens.rt keeps its clause `placed`.
+
 use Rattle.std.proofs.Common.{◌≡◌, ap, ◌∙◌}
 use Rattle.ls_lexer.specs.Lexemes.{Reserved, lexeme_of}
 use Rattle.ls_parser_tokens.proofs.Places.{first_spot, same_word}

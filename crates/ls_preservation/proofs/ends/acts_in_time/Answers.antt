@@ -1,3 +1,5 @@
+-- Why `acts_in_time` in src/ends.rt keeps its contract.
+
 use Rattle.ls_preservation.proofs.Acts.{acts_right}
 use Rattle.ls_preservation.proofs.ends.acts_in_time.Goals as goal
 

@@ -1,3 +1,5 @@
+-- Why `ends_in_time` in src/ends.rt keeps its contract.
+
 use Rattle.ls_preservation.proofs.Quieted.{ends_right}
 use Rattle.ls_preservation.proofs.ends.ends_in_time.Goals as goal
 

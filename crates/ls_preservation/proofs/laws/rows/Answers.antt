@@ -1,3 +1,5 @@
+-- Why `rows` in src/laws.rt keeps its contract.
+
 use Rattle.std.proofs.Common.{refl, arith}
 use Rattle.ls_meaning.specs.Methods.{invoke, depth_limit}
 use Rattle.ls_preservation.proofs.laws.rows.Goals as goal

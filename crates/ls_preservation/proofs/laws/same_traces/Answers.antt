@@ -1,3 +1,5 @@
+-- Why `same_traces` in src/laws.rt keeps its contract.
+
 use Rattle.ls_preservation.proofs.Theorem.{same_right}
 use Rattle.ls_preservation.proofs.laws.same_traces.Goals as goal
 

@@ -1,7 +1,9 @@
+-- What the loop `s` of the cycle `statements` in src/counts.rt keeps.
+
 use Rattle.ls_lowered.specs.Limits.{most_locals}
 use Rattle.std.proofs.Common.{◌≡◌, ◌+◌, ◌≤◌, drop}
 use Rattle.ls_checked.specs.Plain.{statements_of}
-use Rattle.ls_refs_expressions.specs.Temporaries.{block_taken}
+use Rattle.ls_refs.specs.Temporaries.{block_taken}
 use Rattle.ls_refs.proofs.counts.+statements.Given as goal
 
 abbrev pub invariant-count_statements-loop-s : goal.invariant-count_statements-loop-s

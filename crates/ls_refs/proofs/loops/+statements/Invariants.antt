@@ -1,3 +1,5 @@
+-- What the loop `s` of the cycle `statements` in src/loops.rt keeps.
+
 use Rattle.std.proofs.Common.{◌≡◌, ◌+◌, drop, vec_len}
 use Rattle.ls_checked.specs.Plain.{statements_of}
 use Rattle.ls_refs.specs.Loops.{block_loops}

@@ -1,7 +1,9 @@
+-- Why `all_fit` in src/lower.rt keeps its contract and its loop `method`.
+
 use Rattle.ls_lowered.specs.Limits.{most_locals}
 use Rattle.std.proofs.Common.{rules, ◌≤◌}
 use Rattle.ls_checked.specs.Plain.{plain_method as checked_method}
-use Rattle.ls_refs_expressions.specs.Temporaries.{locals_of}
+use Rattle.ls_refs.specs.Temporaries.{locals_of}
 use Rattle.ls_lowered.proofs.Taken.{all_more, all_done, counted}
 use Rattle.ls_refs.proofs.lower.all_fit.Goals as goal
 

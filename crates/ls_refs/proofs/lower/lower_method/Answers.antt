@@ -1,3 +1,5 @@
+-- Why `lower_method` in src/lower.rt keeps what `lower_statement` requires.
+
 use Rattle.std.proofs.Common.{◌^◌, arith}
 use Rattle.ls_checked.specs.Plain.{plain_statement as checked_statement}
 use Rattle.ls_refs.proofs.Jumps.{below}

@@ -1,3 +1,5 @@
+-- Why `lower_refs` in src/lower.rt keeps its clauses `refused`, `tree` and `fits` and what `lower_method` requires.
+
 use Rattle.std.proofs.Common.{rules, ◌≤◌, ◌<◌, refl, subst, map, length}
 use Rattle.std.specs.Prelude.{All}
 use Rattle.ls_checked.specs.Plain.{plain_statement as checked_statement, plain_method as checked_method, plain_class}

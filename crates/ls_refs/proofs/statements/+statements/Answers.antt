@@ -1,38 +1,54 @@
-use Rattle.std.proofs.Common.{rules, ◌≡◌, ◌+◌, ◌^◌, ◌∷◌, ap, ◌∙◌, drop, map}
-use Rattle.ls_checked.specs.Plain.{statements_of as checked_statements, plain_class}
-use Rattle.ls_lowered.specs.LoweredTree.{Block}
+-- Why the functions of the cycle `statements` in src/statements.rt keep their contracts.
+
+use Rattle.std.proofs.Common.{rules, arith, refl, ◌≡◌, ◌+◌, ◌^◌, ◌∷◌, ap, ◌∙◌, drop, map}
+use Rattle.ls_checked.specs.Plain.{plain_statement as checked_statement, statements_of as checked_statements}
+use Rattle.ls_checked.specs.Plain.{plain_class}
 use Rattle.ls_lowered.specs.Plain.{in_front}
-use Rattle.ls_refs_expressions.specs.Lowered.{lowered_block}
-use Rattle.ls_refs.proofs.Rows.{left_at, one_lowered, one_counted, block_counted, block_lowered}
-use Rattle.ls_refs.proofs.Jumps.{block_below, left_below}
+use Rattle.ls_refs.specs.Temporaries.{statement_temporaries, block_temporaries}
+use Rattle.ls_refs.specs.Lowered.{lowered_block}
+use Rattle.ls_refs.proofs.Rows.{left_at, one_lowered, one_counted}
+use Rattle.ls_refs.proofs.Jumps.{left_below}
+use Rattle.ls_refs.proofs.Sizes.{size_at}
 use Rattle.ls_refs.proofs.statements.+statements.Goals as goal
 
-pub lower_statement-loop-s-init : goal.lower_statement-loop-s-init
-lower_statement-loop-s-init t c =
-    let classes = map plain_class c.args.classes.now in
-    let items = c.deref-s-items.result.now in (
-      ap (λ n. c.args.free + n) (block_counted c.args.s.now c.in-Block.statements items c.deref-s-items.ensures.value
-          c.in-Block.is),
-      ap (λ l. Block (in_front l (lowered_block classes c.args.free (checked_statements items))))
-          c.new-lowered.ensures.items
-          ∙ block_lowered classes c.args.free c.args.s.now c.in-Block.statements items c.deref-s-items.ensures.value
-          c.in-Block.is,
-      block_below (2 ^ 63) c.args.s.now c.in-Block.statements items c.deref-s-items.ensures.value c.in-Block.is
-          c.requires.jumps,
+pub lower_block-lower_statement-requires : goal.lower_block-lower_statement-requires
+lower_block-lower_statement-requires t c =
+    let items = c.args.statements.now in
+    let i = c.loop-s.s-index in
+    let split : drop i items ≡ c.s-item.result ∷ drop (i + 1) items = left_at items i c.s-item.result (search rules)
+    c.s-item.is in
+    let less = size_at items i c.s-item.result split in
+    let few : block_temporaries (checked_statements (drop i items)) ≡ statement_temporaries
+    (checked_statement c.s-item.result) + block_temporaries (checked_statements (drop (i + 1) items)) =
+    ap (λ l. block_temporaries (checked_statements l)) split in (
+      omega (arith, less),
+      (
+        omega (arith, few, c.loop-s.invariant.0, c.requires.few),
+        (left_below (2 ^ 63) c.s-item.result _ _ split c.loop-s.invariant.2).0,
+      ),
     )
 
-pub lower_statement-loop-s-preserved : goal.lower_statement-loop-s-preserved
-lower_statement-loop-s-preserved t c =
+pub lower_block-loop-s-init : goal.lower_block-loop-s-init
+lower_block-loop-s-init t c =
+    let classes = map plain_class c.args.classes.now in (
+      refl,
+      ap (λ l. in_front l (lowered_block classes c.args.free (checked_statements c.args.statements.now)))
+          c.new-lowered.ensures.items,
+      c.requires.jumps,
+    )
+
+pub lower_block-loop-s-preserved : goal.lower_block-loop-s-preserved
+lower_block-loop-s-preserved t c =
     let classes = map plain_class c.args.classes.now in
-    let items = c.deref-s-items.result.now in
-    let after = c.in_ok-s-in-Block.s.free in
+    let items = c.args.statements.now in
+    let after = c.in_ok-s.s.free in
     let split : drop c.loop-s.s-index items ≡ c.s-item.result ∷
     drop (c.loop-s.s-index + 1) items = left_at items c.loop-s.s-index c.s-item.result (search rules)
     c.s-item.is in (
-      one_counted c.loop-s.next after c.s-item.result _ _ _ split c.in_ok-s-in-Block.ensures.free c.loop-s.invariant.0,
-      ap Block (one_lowered classes c.loop-s.lowered.items c.put.new.out.items c.in_ok-s-in-Block.s.tree c.loop-s.next
-          after c.s-item.result _ _ c.in_ok-put-in-Block.ensures split c.in_ok-s-in-Block.ensures.tree
-          c.in_ok-s-in-Block.ensures.free)
+      one_counted c.loop-s.next after c.s-item.result _ _ _ split c.in_ok-s.ensures.free c.loop-s.invariant.0,
+      one_lowered classes c.loop-s.lowered.items c.put.new.out.items c.in_ok-s.s.tree c.loop-s.next
+          after c.s-item.result _ _ c.in_ok-put.ensures split c.in_ok-s.ensures.tree
+          c.in_ok-s.ensures.free
           ∙ c.loop-s.invariant.1,
       (left_below (2 ^ 63) c.s-item.result _ _ split c.loop-s.invariant.2).1,
     )

@@ -1,3 +1,5 @@
+-- Why `leavable` in src/statements.rt keeps its contract.
+
 use Rattle.std.proofs.Common.{ap, ◌∙◌}
 use Rattle.ls_lowered.specs.LoweredTree.{Leavable}
 use Rattle.ls_lowered.specs.Plain.{plain_statement, statements_of}

@@ -1,3 +1,5 @@
+-- Why `put` in src/statements.rt keeps its contract.
+
 use Rattle.std.proofs.Common.{ap, ◌∙◌}
 use Rattle.ls_lowered.specs.Plain.{plain_statement}
 use Rattle.ls_lowered.proofs.Rows.{block_made}

@@ -1,3 +1,5 @@
+-- What the loop `value` of `name_no_object` in src/arrays.rt keeps.
+
 use Rattle.ls_renaming.specs.Nameless.{NameNoObject}
 use Rattle.ls_renaming.proofs.arrays.name_no_object.Given as goal
 

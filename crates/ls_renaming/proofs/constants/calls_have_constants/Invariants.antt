@@ -1,3 +1,5 @@
+-- What the loop `call` of `calls_have_constants` in src/constants.rt keeps.
+
 use Rattle.std.proofs.Common.{drop, map}
 use Rattle.ls_checked.specs.PlainProgram.{plain_call}
 use Rattle.ls_meaning.specs.Constants.{CallsHaveConstants}

@@ -1,3 +1,5 @@
+-- Why `file_has_constants` in src/constants.rt keeps its contract.
+
 use Rattle.std.proofs.Common.{map, subst}
 use Rattle.ls_checked.specs.Plain.{plain_file, plain_method}
 use Rattle.ls_renaming.specs.Constants.{MethodsHaveConstants}

@@ -1,3 +1,5 @@
+-- What the loop `method` of `methods_have_constants` in src/constants.rt keeps.
+
 use Rattle.std.proofs.Common.{drop, map}
 use Rattle.ls_checked.specs.Plain.{plain_method}
 use Rattle.ls_renaming.specs.Constants.{MethodsHaveConstants}

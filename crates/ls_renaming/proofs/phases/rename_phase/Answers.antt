@@ -1,8 +1,10 @@
+-- Why `rename_phase` in src/phases.rt keeps its contract.
+
 use Rattle.std.proofs.Common.{rules, IsTrue, sym, ap, ◌∙◌}
 use Rattle.ls_source.specs.Calls.{Fetches, Makes}
 use Rattle.ls_source.specs.SeenThread.{phase_of}
 use Rattle.ls_source.specs.declared.thread.Phase.{Phase}
-use Rattle.ls_work_laws.specs.Frames.{renamed_phase}
+use Rattle.ls_works.specs.Frames.{renamed_phase}
 use Rattle.ls_renaming.specs.Seen.{names_of}
 use Rattle.ls_renaming.proofs.Lists.{constant_values}
 use Rattle.ls_renaming.proofs.phases.rename_phase.Goals as goal

@@ -1,3 +1,5 @@
+-- Why `rename_thread` in src/phases.rt keeps its contract.
+
 use Rattle.std.proofs.Common.{◌≡◌, ℕ, Option, drop, map, ap, ◌∙◌, subst}
 use Rattle.std.specs.Prelude.{IfSome}
 use Rattle.ls_checked.specs.PlainProgram.{plain_call}
@@ -5,7 +7,7 @@ use Rattle.ls_source_pending.specs.Pending.{State}
 use Rattle.ls_source_pending.specs.SeenPending.{state_of}
 use Rattle.ls_source.specs.SeenThread.{phase_of}
 use Rattle.ls_source.specs.declared.thread.Phase.{Phase}
-use Rattle.ls_work_laws.specs.Frames.{renamed_phase, renamed_work}
+use Rattle.ls_works.specs.Frames.{renamed_phase, renamed_work}
 use Rattle.ls_renaming.specs.Seen.{names_of}
 use Rattle.ls_renaming.proofs.phases.rename_thread.Goals as goal
 

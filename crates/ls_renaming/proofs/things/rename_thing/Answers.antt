@@ -1,3 +1,5 @@
+-- Why `rename_thing` in src/things.rt keeps its contract.
+
 use Rattle.std.proofs.Common.{◌≡◌, refl, sym, ◌∙◌, subst}
 use Rattle.ls_search_laws.specs.Renaming.{renamed_thing}
 use Rattle.ls_source_store.specs.SeenThing.{thing_of}

@@ -1,3 +1,5 @@
+-- What the loop `s` of the cycle `statements` in src/trees.rt keeps.
+
 use Rattle.std.proofs.Common.{drop}
 use Rattle.ls_checked.specs.Plain.{statements_of}
 use Rattle.ls_meaning.specs.Constants.{UseConstants}

@@ -1,7 +1,9 @@
+-- What the loop `frame` of `rename_frames` in src/work.rt keeps.
+
 use Rattle.std.proofs.Common.{◌≡◌, take}
 use Rattle.std.specs.Prelude.{map}
 use Rattle.ls_source_pending.specs.Seen.{frame_of}
-use Rattle.ls_work_laws.specs.Frames.{renamed_frame}
+use Rattle.ls_works.specs.Frames.{renamed_frame}
 use Rattle.ls_renaming.specs.Seen.{names_of}
 use Rattle.ls_renaming.proofs.work.rename_frames.Given as goal
 

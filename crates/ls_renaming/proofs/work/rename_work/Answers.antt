@@ -1,6 +1,8 @@
+-- Why `rename_work` in src/work.rt keeps its contract.
+
 use Rattle.std.proofs.Common.{◌≡◌, ℕ, map, ap, ◌∙◌}
 use Rattle.ls_source_pending.specs.Seen.{control_of, frame_of, frames_of}
-use Rattle.ls_work_laws.specs.Frames.{renamed_control, renamed_frame, renamed_values}
+use Rattle.ls_works.specs.Frames.{renamed_control, renamed_frame, renamed_values}
 use Rattle.ls_renaming.specs.Seen.{names_of}
 use Rattle.ls_renaming.proofs.Lists.{frames_renamed}
 use Rattle.ls_renaming.proofs.work.rename_work.Goals as goal

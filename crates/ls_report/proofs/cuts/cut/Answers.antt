@@ -1,3 +1,5 @@
+-- Why `cut` in src/cuts.rt keeps its contract.
+
 use Rattle.std.proofs.Common.{arith}
 use Rattle.ls_report.proofs.CutLemmas.{cut_is}
 use Rattle.ls_report.proofs.cuts.cut.Goals as goal

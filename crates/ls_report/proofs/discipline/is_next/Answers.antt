@@ -1,3 +1,5 @@
+-- Why `is_next` in src/discipline.rt keeps its contract.
+
 use Rattle.std.proofs.Common.{◌∙◌, ◌&&◌, ap, sym, map}
 use Rattle.std.specs.Prelude.{option_map}
 use Rattle.std.specs.Str.{bytes_eq}

@@ -1,3 +1,5 @@
+-- Why `put_place` in src/front.rt keeps its contract.
+
 use Rattle.std.proofs.lemmas.Map.Text.{hash_map_updates_str}
 use Rattle.ls_report.proofs.front.put_place.Goals as goal
 

@@ -1,3 +1,5 @@
+-- Why `event_in` in src/line_reading.rt keeps its clauses `reads` and `exact`.
+
 use Rattle.std.proofs.Common.{◌∙◌, ap, sym, Some}
 use Rattle.std.specs.Prelude.{option_map}
 use Rattle.ls_report.specs.Plain.{plain_occurrence}

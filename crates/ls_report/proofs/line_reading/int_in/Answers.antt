@@ -1,3 +1,5 @@
+-- Why `int_in` in src/line_reading.rt keeps its clauses `reads` and `exact`.
+
 use Rattle.std.proofs.Common.{◌≡◌, ◌∙◌, ap, sym, subst, true}
 use Rattle.std.specs.Prelude.{IfSome}
 use Rattle.std.specs.Fmt.{signed_decimal}

@@ -1,3 +1,5 @@
+-- Why `occurrence_in` in src/line_reading.rt keeps its clauses `reads` and `exact`.
+
 use Rattle.std.proofs.Common.{◌≡◌, ◌∙◌, ap, sym, subst, Some}
 use Rattle.std.specs.Prelude.{IfOk, option_map}
 use Rattle.ls_report.specs.Plain.{plain_occurrence}

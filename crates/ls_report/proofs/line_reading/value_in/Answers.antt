@@ -1,3 +1,5 @@
+-- Why `value_in` in src/line_reading.rt keeps its clause `reads`.
+
 use Rattle.std.proofs.Common.{◌≡◌, ◌∙◌, sym, codes, rules}
 use Rattle.ls_report.proofs.Values.{reads_false, reads_true}
 use Rattle.ls_report.proofs.line_reading.value_in.Goals as goal

@@ -1,3 +1,5 @@
+-- Why `values_in` in src/line_reading.rt keeps its clauses `reads` and `exact` and its loop `first`.
+
 use Rattle.std.proofs.Common.{◌≡◌, ◌∙◌, ◌++◌, ◌==◌, ◌∷◌, [], length, ap, sym, append_assoc, arith, eqb-true, rules}
 use Rattle.std.proofs.Common.{true, Some}
 use Rattle.ls_report.specs.Lines.{arguments_text}

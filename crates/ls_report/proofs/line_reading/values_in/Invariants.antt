@@ -1,3 +1,5 @@
+-- What the loop `first` of `values_in` in src/line_reading.rt keeps, and why the loop ends.
+
 use Rattle.std.proofs.Common.{◌≡◌, ◌<◌, ◌++◌, true, length, List}
 use Rattle.std.specs.List.{list_all}
 use denote.Text.{Utf8}

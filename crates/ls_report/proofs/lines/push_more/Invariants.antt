@@ -1,3 +1,5 @@
+-- What the loop `value` of `push_more` in src/lines.rt keeps.
+
 use Rattle.std.proofs.Common.{◌≡◌, ◌++◌, drop, string_bytes}
 use Rattle.ls_report.specs.Lines.{more_arguments}
 use Rattle.ls_report.proofs.lines.push_more.Given as goal

@@ -1,3 +1,5 @@
+-- What the loop `event` of `text_of` in src/lines.rt keeps.
+
 use Rattle.std.proofs.Common.{◌≡◌, ◌++◌, drop, map, string_bytes}
 use Rattle.ls_report.specs.Lines.{history_text}
 use Rattle.ls_report.specs.Plain.{plain_event}

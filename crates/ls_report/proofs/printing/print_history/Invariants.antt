@@ -1,3 +1,5 @@
+-- What the loop `event` of `print_history` in src/printing.rt keeps.
+
 use Rattle.std.proofs.Common.{◌≡◌, ◌++◌, drop, string_bytes}
 use Rattle.ls_checked.specs.PlainProgram.{plain_program}
 use Rattle.ls_report.specs.Printing.{run_text}

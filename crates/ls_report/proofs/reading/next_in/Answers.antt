@@ -1,3 +1,5 @@
+-- Why `next_in` in src/reading.rt keeps its clauses `none` and `some`.
+
 use Rattle.std.proofs.Common.{◌≡◌, ◌∙◌, ap, sym, rules, true, map}
 use Rattle.std.specs.Prelude.{option_map}
 use Rattle.ls_report.specs.Discipline.{is_next}

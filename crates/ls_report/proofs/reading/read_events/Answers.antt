@@ -1,3 +1,5 @@
+-- Why `read_events` in src/reading.rt keeps its clause `fault` and its loop `line`.
+
 use Rattle.std.proofs.Common.{◌≡◌, ◌∙◌, ◌++◌, ◌<◌, ◌+◌, ◌^◌, ◌-◌, ap, sym, arith, rules, length, map}
 use Rattle.std.proofs.lemmas.Bool.Decides.{nat_tests}
 use Rattle.std.proofs.lemmas.List.{length-append, length-map, map_push}

@@ -1,3 +1,5 @@
+-- What the loop `line` of `read_events` in src/reading.rt keeps, and why the loop ends.
+
 use Rattle.std.proofs.Common.{◌≡◌, ◌++◌, true, length, map}
 use denote.Text.{Utf8}
 use denote.Shadow.{shadow}

@@ -1,3 +1,5 @@
+-- Why `read_history` in src/reading.rt keeps its clause `accepts`.
+
 use Rattle.std.proofs.Common.{◌≡◌, ◌∙◌, ◌<◌, ◌^◌, length, map, true, List, Err}
 use Rattle.ls_report.specs.Discipline.{is_history}
 use Rattle.ls_report.specs.Events.{Event, Text}

@@ -1,3 +1,5 @@
+-- Why `fault_at_end` in src/groups.rt keeps its contract.
+
 use Rattle.std.proofs.Common.{◌∙◌, ◌<◌, ap, sym, arith}
 use Rattle.ls_schedule.specs.declared.fault.ScheduleFault.TheVariants as fault
 use Rattle.ls_schedule.specs.Passing.{places}

@@ -1,3 +1,5 @@
+-- What `outermost_fault` in src/groups.rt keeps, and why it ends.
+
 use Rattle.std.proofs.Common.{◌≡◌, ◌+◌, ◌≤◌, length}
 use Rattle.ls_schedule.specs.Passing.{last_first, outer_fault, places}
 use Rattle.ls_schedule.proofs.groups.outermost_fault.Given as goal

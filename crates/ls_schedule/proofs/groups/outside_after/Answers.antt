@@ -1,3 +1,5 @@
+-- Why `outside_after` in src/groups.rt keeps its clause `fault`.
+
 use Rattle.std.proofs.Common.{◌≡◌, arith}
 use Rattle.ls_schedule.specs.Passing.{places}
 use Rattle.ls_schedule.proofs.Passes.{outside_round}

@@ -1,3 +1,5 @@
+-- What `read_groups` in src/groups.rt keeps, and why it ends.
+
 use Rattle.ls_events.specs.Limits.{most_steps}
 use Rattle.std.proofs.Common.{◌≡◌, ◌+◌, ◌≤◌, length, map, drop}
 use Rattle.ls_schedule.specs.Passing.{going}

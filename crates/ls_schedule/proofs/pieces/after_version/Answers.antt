@@ -1,3 +1,5 @@
+-- Why `after_version` in src/pieces.rt keeps its clause `version`.
+
 use Rattle.std.proofs.Common.{◌∙◌, ◌+◌, Some, None, ap, sym, drop}
 use Rattle.std.specs.Prelude.{if◌then◌else◌}
 use Rattle.ls_schedule.specs.Pieces.{pieces}

@@ -1,3 +1,5 @@
+-- What the loop `b` of `word_len` in src/pieces.rt keeps.
+
 use Rattle.std.proofs.Common.{◌≡◌, ◌+◌, drop}
 use Rattle.ls_schedule.specs.Passing.{word_len}
 use Rattle.ls_schedule.proofs.pieces.word_len.Given as goal

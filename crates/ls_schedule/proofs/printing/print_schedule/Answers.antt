@@ -1,3 +1,5 @@
+-- Why `print_schedule` in src/printing.rt keeps its contract.
+
 use Rattle.std.proofs.Common.{◌∙◌, ◌++◌, ap, arith, length, get_or, ◌<◌, refl, map}
 use Rattle.std.proofs.lemmas.Grind.{common_steps}
 use Rattle.ls_schedule.specs.Printing.{item_text}

@@ -1,3 +1,5 @@
+-- What `print_schedule` in src/printing.rt keeps, and why it ends.
+
 use Rattle.std.proofs.Common.{◌≡◌, ◌++◌, length, map, string_bytes, codes}
 use Rattle.ls_schedule.specs.Reading.{thread_name}
 use Rattle.ls_schedule.specs.Printing.{more_text, runs_of}

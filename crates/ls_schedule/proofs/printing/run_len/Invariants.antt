@@ -1,3 +1,5 @@
+-- What the loop `step` of `run_len` in src/printing.rt keeps.
+
 use Rattle.std.proofs.Common.{◌≡◌, ◌+◌, ◌==◌, drop}
 use Rattle.std.specs.List.{prefix_len}
 use Rattle.ls_schedule.proofs.printing.run_len.Given as goal

@@ -1,3 +1,5 @@
+-- Why `all_threads` in src/reading.rt keeps its loop `before`.
+
 use Rattle.std.proofs.Common.{◌∙◌, ◌++◌, ◌+◌, ◌∷◌, [], ap, sym}
 use Rattle.ls_schedule.proofs.Steps.{range_more}
 use Rattle.ls_schedule.proofs.reading.all_threads.Goals as goal

@@ -1,3 +1,5 @@
+-- Why `append` in src/reading.rt keeps its clauses `ok` and `err` and its loop `preserved`.
+
 use Rattle.std.proofs.Common.{◌∙◌, ◌++◌, refl, sym, eqb-true}
 use Rattle.std.proofs.lemmas.Result.{err_from_is_err_and}
 use Rattle.ls_schedule.proofs.Steps.{appended, no_threads, too_many}

@@ -1,3 +1,5 @@
+-- What `append` in src/reading.rt keeps.
+
 use Rattle.ls_events.specs.Limits.{most_steps}
 use Rattle.std.proofs.Common.{◌≡◌, ◌++◌, ◌≤◌, length}
 use Rattle.ls_schedule.specs.Reading.{repeated}

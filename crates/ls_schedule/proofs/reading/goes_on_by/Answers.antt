@@ -1,3 +1,5 @@
+-- Why `goes_on_by` in src/reading.rt keeps its clause `more`.
+
 use Rattle.std.proofs.Common.{arith}
 use Rattle.ls_schedule.proofs.Short.{by_fits, by_over}
 use Rattle.ls_schedule.proofs.reading.goes_on_by.Goals as goal

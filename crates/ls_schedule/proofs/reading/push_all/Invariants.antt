@@ -1,3 +1,5 @@
+-- What the loop `thread` of `push_all` in src/reading.rt keeps.
+
 use Rattle.ls_events.specs.Limits.{most_steps}
 use Rattle.std.proofs.Common.{◌≡◌, ◌++◌, ◌≤◌, length, take}
 use Rattle.ls_schedule.proofs.reading.push_all.Given as goal

@@ -1,3 +1,5 @@
+-- Why `read_schedule` in src/reading.rt keeps its contract.
+
 use Rattle.std.proofs.Common.{◌∙◌, map, ap, subst}
 use Rattle.ls_schedule.specs.Answers.{Gives, capped_schedule}
 use Rattle.ls_schedule.specs.Reading.{schedule_of, thread_name, thread_names}

@@ -1,3 +1,5 @@
+-- Why `read_steps` in src/reading.rt keeps its contract and its loop `all`.
+
 use Rattle.std.proofs.Common.{◌∙◌, ◌+◌, ◌∷◌, [], ap, sym, arith, drop, map, length, slice_index}
 use Rattle.std.proofs.lemmas.Result.{err_from_is_err_and}
 use Rattle.ls_schedule.specs.Answers.{capped_turns, so_far}

@@ -1,3 +1,5 @@
+-- What the loop `all` of `read_steps` in src/reading.rt keeps, and why the loop ends.
+
 use Rattle.ls_events.specs.Limits.{most_steps}
 use Rattle.std.proofs.Common.{◌≡◌, ◌+◌, ◌≤◌, length, map}
 use Rattle.ls_schedule.specs.Answers.{capped_schedule, capped_turns, so_far}

@@ -1,3 +1,5 @@
+-- Why `value` in src/reading.rt keeps its loop `digit`.
+
 use Rattle.ls_schedule.proofs.Digits.{value_more}
 use Rattle.ls_schedule.proofs.reading.value.Goals as goal
 

@@ -1,3 +1,5 @@
+-- What the loop `digit` of `value` in src/reading.rt keeps.
+
 use Rattle.std.proofs.Common.{◌≡◌, take, min}
 use Rattle.std.specs.Str.Parse.{digits_value}
 use Rattle.ls_schedule.proofs.reading.value.Given as goal

@@ -1,3 +1,5 @@
+-- Why `append_again` in src/repeating.rt keeps its contract, its loop and what it calls with.
+
 use Rattle.std.proofs.Common.{◌≡◌, ◌-◌, ◌≤◌, length, drop, arith}
 use Rattle.std.proofs.lemmas.Result.{err_from_is_err_and}
 use Rattle.ls_schedule.proofs.OnceMore.{appended_again, longer_now, no_group, too_many_again}

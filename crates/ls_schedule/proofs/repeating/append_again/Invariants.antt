@@ -1,3 +1,5 @@
+-- What `append_again` in src/repeating.rt keeps.
+
 use Rattle.ls_events.specs.Limits.{most_steps}
 use Rattle.std.proofs.Common.{◌≡◌, ◌++◌, ◌≤◌, length, drop}
 use Rattle.ls_schedule.specs.Reading.{repeated}

@@ -1,3 +1,5 @@
+-- Why `push_again` in src/repeating.rt keeps its loop `index`.
+
 use Rattle.std.proofs.Common.{◌+◌, get_or, ap, arith}
 use Rattle.std.proofs.lemmas.Grind.{common_steps}
 use Rattle.ls_schedule.proofs.OnceMore.{pushed_again}

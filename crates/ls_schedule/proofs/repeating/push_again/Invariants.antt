@@ -1,3 +1,5 @@
+-- What the loop `index` of `push_again` in src/repeating.rt keeps.
+
 use Rattle.ls_events.specs.Limits.{most_steps}
 use Rattle.std.proofs.Common.{◌≡◌, ◌++◌, ◌≤◌, length, take, drop}
 use Rattle.ls_schedule.proofs.repeating.push_again.Given as goal

@@ -1,3 +1,5 @@
+-- Why `table_of` in src/table.rt keeps its loop `thread`.
+
 use Rattle.std.proofs.Common.{map}
 use Rattle.ls_schedule.specs.Reading.{thread_name}
 use Rattle.ls_schedule.proofs.Short.{none_entered}

@@ -1,3 +1,5 @@
+-- What the loop `thread` of `table_of` in src/table.rt keeps.
+
 use Rattle.std.proofs.Common.{map}
 use Rattle.ls_schedule.specs.Reading.{thread_name}
 use Rattle.ls_schedule.specs.Table.{IsTable}

@@ -1,3 +1,5 @@
+-- Why `settle` in src/advancing.rt keeps its clauses `leads` and `there` and its loop `count`.
+
 use Rattle.std.proofs.Common.{◌≡◌, ◌<◌, ◌+◌, length, refl, sym, ap, ◌∙◌, subst, arith, replicate}
 use Rattle.std.specs.Prelude.{slice_get, slice_set}
 use Rattle.std.proofs.lemmas.List.{length-set}

@@ -1,3 +1,5 @@
+-- What the loop `count` of `settle` in src/advancing.rt keeps.
+
 use Rattle.std.proofs.Common.{◌≡◌, length, replicate}
 use Rattle.ls_search_laws.specs.Search.{LeadsTo}
 use Rattle.ls_transitions.specs.Tables.{Grows}

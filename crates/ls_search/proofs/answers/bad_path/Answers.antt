@@ -1,3 +1,5 @@
+-- Why `bad_path` in src/answers.rt keeps its clause `some`.
+
 use Rattle.std.proofs.Common.{◌<◌, List, length, map, ap, ◌∙◌, arith}
 use Rattle.ls_search_laws.specs.Noticing.{Noticed}
 use Rattle.ls_transitions.specs.Seen.{table_of}

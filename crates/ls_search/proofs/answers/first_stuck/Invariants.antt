@@ -1,3 +1,5 @@
+-- What the loop `at` of `first_stuck` in src/answers.rt keeps.
+
 use Rattle.std.proofs.Common.{◌≡◌, ℕ, ◌<◌, Some, false}
 use Rattle.std.specs.Prelude.{slice_get}
 use Rattle.ls_search.specs.declared.places.Seen.{Seen}

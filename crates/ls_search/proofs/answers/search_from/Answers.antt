@@ -1,3 +1,5 @@
+-- Why `search_from` in src/answers.rt keeps its contract and what it calls with.
+
 use Rattle.std.proofs.Common.{◌≡◌, true, Vec, Global, ℕ, List, length, map, Some, ap, rules, subst}
 use Rattle.std.specs.Prelude.{slice_get}
 use Rattle.std.specs.List.{fold}

@@ -1,3 +1,5 @@
+-- Why `start` in src/answers.rt keeps its clauses `sound` and `root`.
+
 use Rattle.std.proofs.Common.{List, map, refl, sym, ap, ◌∙◌, subst}
 use Rattle.ls_checked.specs.Plain.{plain_file}
 use Rattle.ls_checked.specs.PlainProgram.{plain_program}

@@ -1,3 +1,5 @@
+-- Why `stuck_path` in src/answers.rt keeps its clause `some`.
+
 use Rattle.std.proofs.Common.{◌≡◌, ◌<◌, List, length, map, Some, sym, ap, ◌∙◌, arith}
 use Rattle.std.specs.Prelude.{slice_get}
 use Rattle.ls_checked.specs.Plain.{plain_file}

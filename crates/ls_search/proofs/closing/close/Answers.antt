@@ -1,3 +1,5 @@
+-- Why `close` in src/closing.rt keeps its loop `at`.
+
 use Rattle.std.proofs.Common.{List, arith}
 use Rattle.ls_search_laws.specs.Noticing.{Noticed}
 use Rattle.ls_search.specs.SeenSearch.{pairs_of}

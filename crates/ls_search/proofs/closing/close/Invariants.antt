@@ -1,3 +1,5 @@
+-- What the loop `at` of `close` in src/closing.rt keeps.
+
 use Rattle.std.proofs.Common.{◌≡◌, ◌≤◌, length}
 use Rattle.ls_checked.specs.Plain.{plain_file}
 use Rattle.ls_checked.specs.PlainProgram.{plain_program}

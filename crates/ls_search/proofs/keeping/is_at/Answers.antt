@@ -1,3 +1,5 @@
+-- Why `is_at` in src/keeping.rt keeps its contract.
+
 use Rattle.std.proofs.Common.{◌≡◌, ◌<◌, length, get_or, refl, rules}
 use Rattle.std.proofs.lemmas.Option.{slice_get_read}
 use Rattle.ls_search.proofs.keeping.is_at.Goals as goal

@@ -1,3 +1,5 @@
+-- Why `expand` in src/listing.rt keeps its contract, its loop and what it calls with.
+
 use Rattle.std.proofs.Common.{◌≡◌, ◌<◌, ◌≤◌, List, length, map, Some, [], refl, sym, ap, ◌∙◌, arith, false}
 use Rattle.std.specs.Prelude.{slice_get}
 use Rattle.ls_checked.specs.CheckedTree.{File}

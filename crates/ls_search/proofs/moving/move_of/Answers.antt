@@ -1,3 +1,5 @@
+-- Why `move_of` in src/moving.rt keeps its clause `stride`.
+
 use Rattle.std.proofs.Common.{◌≡◌, Some, sym, ap, ◌∙◌}
 use Rattle.std.specs.Prelude.{slice_get}
 use Rattle.std.proofs.lemmas.Result.{IfOk-weaker}

@@ -1,3 +1,5 @@
+-- Why `keep_noted` in src/noting.rt keeps its clause `keeps`.
+
 use Rattle.std.proofs.Common.{[], ◌∷◌, ◌++◌, ap, ◌∙◌}
 use Rattle.ls_transitions.proofs.Keeping.{keeps_more}
 use Rattle.ls_search.proofs.noting.keep_noted.Goals as goal

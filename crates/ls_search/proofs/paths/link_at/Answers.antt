@@ -1,3 +1,5 @@
+-- Why `link_at` in src/paths.rt keeps its clauses `none` and `some`.
+
 use Rattle.std.proofs.Common.{length, refl}
 use Rattle.std.proofs.lemmas.Option.{slice_get_read}
 use Rattle.ls_search.proofs.paths.link_at.Goals as goal

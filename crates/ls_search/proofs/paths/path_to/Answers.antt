@@ -1,3 +1,5 @@
+-- Why `path_to` in src/paths.rt keeps its contract and its loop `link`.
+
 use Rattle.std.proofs.Common.{◌≡◌, ◌≤◌, ℕ, List, map, Some, sym, ◌∙◌, subst}
 use Rattle.std.specs.Prelude.{slice_get}
 use Rattle.ls_checked.specs.Plain.{plain_file}

@@ -1,3 +1,5 @@
+-- What the loop `link` of `path_to` in src/paths.rt keeps, and why the loop ends.
+
 use Rattle.std.proofs.Common.{◌≡◌, ◌<◌, Some, length}
 use Rattle.std.specs.Prelude.{slice_get}
 use Rattle.ls_checked.specs.Plain.{plain_file}

@@ -1,3 +1,5 @@
+-- What `push_times` in src/paths.rt keeps.
+
 use Rattle.std.proofs.Common.{◌≡◌, ◌++◌, replicate}
 use Rattle.ls_search.proofs.paths.push_times.Given as goal
 

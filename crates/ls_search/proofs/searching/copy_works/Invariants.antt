@@ -1,3 +1,5 @@
+-- What the loop `work` of `copy_works` in src/searching.rt keeps.
+
 use Rattle.std.proofs.Common.{◌≡◌, take}
 use Rattle.ls_search.proofs.searching.copy_works.Given as goal
 

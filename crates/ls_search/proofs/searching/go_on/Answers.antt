@@ -1,3 +1,5 @@
+-- Why `go_on` in src/searching.rt keeps its clauses `node` and `grows`.
+
 use Rattle.std.proofs.Common.{◌<◌, ℕ, List, length, map, sym, ap, ◌∙◌, subst}
 use Rattle.std.proofs.lemmas.List.{length-set}
 use Rattle.ls_transitions.specs.Seen.{table_of}

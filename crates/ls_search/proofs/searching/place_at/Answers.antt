@@ -1,3 +1,5 @@
+-- Why `place_at` in src/searching.rt keeps its contract.
+
 use Rattle.std.proofs.Common.{get_or, refl}
 use Rattle.std.proofs.lemmas.Option.{slice_get-get_or}
 use Rattle.ls_search.proofs.searching.place_at.Goals as goal

@@ -1,3 +1,5 @@
+-- Why `reach` in src/searching.rt keeps its contract and what it calls with.
+
 use Rattle.std.proofs.Common.{inl, inr, arith, ◌≡◌, ◌+◌, List, length, map, Some, refl, sym, ap, ◌∙◌, subst}
 use Rattle.std.specs.Prelude.{slice_get}
 use Rattle.ls_checked.specs.Plain.{plain_file}

@@ -1,9 +1,11 @@
+-- Why `renumber` in src/searching.rt keeps its clauses `other` and `there`.
+
 use Rattle.std.proofs.Common.{ℕ, List, Option, subst}
 use Rattle.std.specs.Prelude.{IfSome}
 use Rattle.ls_transitions.specs.Tables.{Table}
 use Rattle.ls_transitions.specs.Seen.{table_of}
-use Rattle.ls_renumbering.specs.Renumbered.{IsRenumbered}
-use Rattle.ls_renumbering.specs.declared.renumbering.Renumbered.{Renumbered}
+use Rattle.ls_renaming.specs.Renumbered.{IsRenumbered}
+use Rattle.ls_renaming.specs.declared.renumbering.Renumbered.{Renumbered}
 use Rattle.ls_search.proofs.Others.{other_renumbered, other_stays, there_renumbered}
 use Rattle.ls_search.proofs.Strides.{there_still}
 use Rattle.ls_search.proofs.searching.renumber.Goals as goal

@@ -1,3 +1,5 @@
+-- What the loop `last` of `count_steps` in src/steps.rt keeps, and why the loop ends.
+
 use Rattle.std.proofs.Common.{◌≤◌, ◌+◌, ◌<◌, length}
 use Rattle.ls_search.proofs.steps.count_steps.Given as goal
 

@@ -1,3 +1,5 @@
+-- Why `last_step` in src/steps.rt keeps its clauses `none` and `some`.
+
 use Rattle.std.proofs.Common.{length, refl}
 use Rattle.std.proofs.lemmas.Option.{slice_get_read}
 use Rattle.ls_search.proofs.Tracks.{path_none, path_on}

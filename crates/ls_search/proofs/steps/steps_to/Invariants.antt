@@ -1,3 +1,5 @@
+-- What the loop `last` of `steps_to` in src/steps.rt keeps, and why the loop ends.
+
 use Rattle.std.proofs.Common.{◌≡◌, ◌<◌, ◌++◌, [], length, get_or, reverse}
 use Rattle.ls_search.specs.Listed.{paths_of}
 use Rattle.ls_search.proofs.steps.steps_to.Given as goal

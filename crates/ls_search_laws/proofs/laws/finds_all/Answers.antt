@@ -1,3 +1,5 @@
+-- Why `finds_all` in src/laws.rt keeps its contract.
+
 use Rattle.ls_search_laws.proofs.Search.{finds_all}
 use Rattle.ls_search_laws.proofs.laws.finds_all.Goals as goal
 

@@ -1,3 +1,5 @@
+-- Why `finds_ends` in src/laws.rt keeps its contract.
+
 use Rattle.ls_search_laws.proofs.Search.{finds_ends}
 use Rattle.ls_search_laws.proofs.laws.finds_ends.Goals as goal
 

@@ -1,3 +1,5 @@
+-- Why `finds_none_bad` in src/laws.rt keeps its contract.
+
 use Rattle.ls_search_laws.proofs.Search.{finds_none_bad}
 use Rattle.ls_search_laws.proofs.laws.finds_none_bad.Goals as goal
 

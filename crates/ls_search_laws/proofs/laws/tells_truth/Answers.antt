@@ -1,3 +1,5 @@
+-- Why `tells_truth` in src/laws.rt keeps its contract.
+
 use Rattle.ls_search_laws.proofs.Telling.{tells_truth}
 use Rattle.ls_search_laws.proofs.laws.tells_truth.Goals as goal
 

@@ -1,3 +1,5 @@
+-- What the loop `event` of `calls_of` in src/calls.rt keeps.
+
 use Rattle.std.proofs.Common.{◌≡◌, ◌++◌, drop}
 use Rattle.std.specs.Prelude.{map, string_bytes}
 use Rattle.std.specs.List.{filter_map}

@@ -1,3 +1,5 @@
+-- What `find_hopeless` in src/finding.rt keeps, and why it ends.
+
 use Rattle.std.proofs.Common.{◌≤◌, ◌<◌, ◌-◌, length, map, take, string_bytes}
 use Rattle.ls_linearizable.specs.Linearizable.{IsLinearizable}
 use Rattle.ls_serial_orders.specs.Known.{file_of, program_of}

@@ -1,3 +1,5 @@
+-- Why `has_order_exactly` in src/laws.rt keeps its contract.
+
 use Rattle.ls_serial_orders.proofs.Ordering.{order_exactly}
 use Rattle.ls_serial_orders.proofs.laws.has_order_exactly.Goals as goal
 

@@ -1,3 +1,5 @@
+-- What the loop `i` of `are_values` in src/naming.rt keeps.
+
 use Rattle.std.proofs.Common.{◌≡◌, take}
 use Rattle.ls_serial_orders.proofs.naming.are_values.Given as goal
 

@@ -1,3 +1,5 @@
+-- Why `event_of` in src/naming.rt keeps its clause `none` and its loop `number`.
+
 use Rattle.std.proofs.Common.{◌≡◌, ap, arith, length, map, slice_get, subst, Some}
 use Rattle.std.proofs.lemmas.List.{length-map}
 use Rattle.ls_checked.specs.PlainProgram.{plain_program, plain_thread}

@@ -1,3 +1,5 @@
+-- What the loop `number` of `event_of` in src/naming.rt keeps.
+
 use Rattle.std.proofs.Common.{◌≡◌, ◌<◌, ℕ, Some}
 use Rattle.std.specs.Prelude.{slice_get}
 use Rattle.ls_checked.specs.CheckedProgram.{ThreadProgram}

@@ -1,3 +1,5 @@
+-- Why `run_of` in src/naming.rt keeps its contract and its loop `event`.
+
 use Rattle.std.proofs.Common.{◌+◌, ◌<◌, ◌∙◌, ◌++◌, ◌∷◌, [], ap, arith, length, map, subst, sym, take}
 use Rattle.ls_checked.specs.PlainProgram.{plain_program}
 use Rattle.ls_report.specs.Plain.{plain_event}

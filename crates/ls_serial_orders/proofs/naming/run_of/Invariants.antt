@@ -1,3 +1,5 @@
+-- What the loop `event` of `run_of` in src/naming.rt keeps.
+
 use Rattle.std.proofs.Common.{map, take}
 use Rattle.ls_checked.specs.PlainProgram.{plain_program}
 use Rattle.ls_report.specs.Plain.{plain_event}

@@ -1,3 +1,5 @@
+-- Why `outcome_text` in src/telling.rt keeps its contract.
+
 use Rattle.std.proofs.Common.{◌∙◌, ap, map, subst, sym, string_bytes, List, String, Global}
 use Rattle.ls_checked.specs.PlainProgram.{plain_program}
 use Rattle.ls_report.specs.Lines.{event_text}

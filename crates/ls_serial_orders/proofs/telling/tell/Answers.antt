@@ -1,3 +1,5 @@
+-- Why `tell` in src/telling.rt keeps its contract and what `tell_known` requires.
+
 use Rattle.std.proofs.Common.{string_bytes}
 use Rattle.ls_checked.specs.Plain.{plain_file}
 use Rattle.ls_checked.specs.PlainProgram.{plain_program}

@@ -1,3 +1,5 @@
+-- Why `endless_runs` in src/endless.rt keeps its clause `all` and its loop `at`.
+
 use Rattle.std.proofs.Common.{◌≡◌, ◌∙◌, ◌<◌, ap, arith, subst, sym, Some, slice_get}
 use Rattle.std.proofs.lemmas.List.{length-map}
 use Rattle.ls_checked.specs.CheckedTree.{File}

@@ -1,3 +1,5 @@
+-- What the loop `at` of `endless_runs` in src/endless.rt keeps.
+
 use Rattle.std.proofs.Common.{◌≡◌, true}
 use Rattle.ls_checked.specs.Plain.{plain_file}
 use Rattle.ls_checked.specs.PlainProgram.{plain_program}

@@ -1,3 +1,5 @@
+-- Why `try_threads` in src/endless.rt keeps its clause `tried` and its loop `thread`.
+
 use Rattle.std.proofs.Common.{arith}
 use Rattle.ls_checked.specs.CheckedTree.{File}
 use Rattle.ls_checked.specs.CheckedProgram.{Program}

@@ -1,3 +1,5 @@
+-- Why `follow` in src/following.rt keeps its contract and its loop `steps`.
+
 use Rattle.std.proofs.Common.{◌++◌, ◌+◌, arith, replicate, subst, sym}
 use Rattle.ls_checked.specs.CheckedTree.{File}
 use Rattle.ls_checked.specs.CheckedProgram.{Program}

@@ -1,3 +1,5 @@
+-- What the loop `steps` of `follow` in src/following.rt keeps.
+
 use Rattle.std.proofs.Common.{◌++◌, replicate}
 use Rattle.ls_checked.specs.Plain.{plain_file}
 use Rattle.ls_checked.specs.PlainProgram.{plain_program}

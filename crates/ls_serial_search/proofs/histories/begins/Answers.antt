@@ -1,3 +1,5 @@
+-- Why `begins` in src/histories.rt keeps its contract.
+
 use Rattle.std.proofs.Common.{◌≡◌, ◌∙◌, ◌++◌, length, drop, take, sym, ap}
 use Rattle.std.proofs.lemmas.List.{take-append-drop}
 use Rattle.ls_serial_search.proofs.histories.begins.Goals as goal

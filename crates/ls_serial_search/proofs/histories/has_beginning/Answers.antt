@@ -1,3 +1,5 @@
+-- Why `has_beginning` in src/histories.rt keeps its contract.
+
 use Rattle.std.proofs.Common.{subst}
 use Rattle.ls_events.specs.Beginnings.{IsBeginning}
 use Rattle.ls_serial_search.proofs.Kept.{begun_at}

@@ -1,3 +1,5 @@
+-- Why `keep` in src/histories.rt keeps its contract.
+
 use Rattle.std.proofs.Common.{◌≡◌, ◌∙◌, List, ap, subst, sym}
 use Rattle.ls_events.specs.declared.event.Event.{Event}
 use Rattle.ls_checked.specs.CheckedTree.{File}

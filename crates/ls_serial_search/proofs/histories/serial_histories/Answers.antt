@@ -1,3 +1,5 @@
+-- Why `serial_histories` in src/histories.rt keeps its contract and its loop.
+
 use Rattle.std.proofs.Common.{◌≡◌, ◌+◌, ◌-◌, length, refl, arith, subst, sym}
 use Rattle.ls_checked.specs.CheckedTree.{File}
 use Rattle.ls_checked.specs.CheckedProgram.{Program}

@@ -1,3 +1,5 @@
+-- What the loop `at` of `serial_histories` in src/histories.rt keeps, and why the loop ends.
+
 use Rattle.ls_checked.specs.Plain.{plain_file}
 use Rattle.ls_checked.specs.PlainProgram.{plain_program}
 use Rattle.ls_serial_search.specs.Histories.{lists_of}

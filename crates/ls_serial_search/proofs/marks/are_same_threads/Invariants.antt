@@ -1,3 +1,5 @@
+-- What the loop `i` of `are_same_threads` in src/marks.rt keeps.
+
 use Rattle.std.proofs.Common.{◌≡◌, drop}
 use Rattle.std.specs.Prelude.{map}
 use Rattle.ls_source.specs.SeenThread.{thread_of}

@@ -1,3 +1,5 @@
+-- What the loop `thread` of `copy_threads` in src/marks.rt keeps.
+
 use Rattle.std.proofs.Common.{◌≡◌, take}
 use Rattle.std.specs.Prelude.{map}
 use Rattle.ls_source.specs.SeenThread.{thread_of}

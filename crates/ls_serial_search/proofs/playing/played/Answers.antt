@@ -1,3 +1,5 @@
+-- Why `played` in src/playing.rt keeps its loop `thread`.
+
 use Rattle.std.proofs.Common.{rules, subst, sym}
 use Rattle.ls_checked.specs.CheckedTree.{File}
 use Rattle.ls_checked.specs.CheckedProgram.{Program}

@@ -1,3 +1,5 @@
+-- What the loop `thread` of `played` in src/playing.rt keeps.
+
 use Rattle.std.proofs.Common.{take}
 use Rattle.ls_checked.specs.Plain.{plain_file}
 use Rattle.ls_checked.specs.PlainProgram.{plain_program}

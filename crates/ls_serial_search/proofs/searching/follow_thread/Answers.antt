@@ -1,3 +1,5 @@
+-- Why `follow_thread` in src/searching.rt keeps its clauses `more`, `long` and `tree`.
+
 use Rattle.std.proofs.Common.{arith, subst}
 use Rattle.ls_checked.specs.Plain.{plain_file}
 use Rattle.ls_checked.specs.PlainProgram.{plain_program}

@@ -1,3 +1,5 @@
+-- Why `follow_threads` in src/searching.rt keeps its clause `tree` and its loop `thread`.
+
 use Rattle.ls_checked.specs.Plain.{plain_file}
 use Rattle.ls_checked.specs.PlainProgram.{plain_program}
 use Rattle.ls_serial_search.specs.Open.{HasLongCall}

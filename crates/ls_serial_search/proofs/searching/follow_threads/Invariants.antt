@@ -1,3 +1,5 @@
+-- What the loop `thread` of `follow_threads` in src/searching.rt keeps.
+
 use Rattle.std.proofs.Common.{◌≡◌, ℕ, true, false, Contains, Some, slice_get}
 use Rattle.ls_checked.specs.Plain.{plain_file}
 use Rattle.ls_checked.specs.PlainProgram.{plain_program}

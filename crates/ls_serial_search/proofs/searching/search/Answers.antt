@@ -1,3 +1,5 @@
+-- Why `search` in src/searching.rt keeps its clause `complete` and its loop `at`.
+
 use Rattle.std.proofs.Common.{◌<◌, arith, subst}
 use Rattle.std.proofs.lemmas.List.{length-map}
 use Rattle.ls_checked.specs.CheckedTree.{File}

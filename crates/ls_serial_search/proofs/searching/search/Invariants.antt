@@ -1,3 +1,5 @@
+-- What the loop `at` of `search` in src/searching.rt keeps, and why the loop ends.
+
 use Rattle.std.proofs.Common.{◌≡◌, ◌-◌, false}
 use Rattle.ls_checked.specs.Plain.{plain_file}
 use Rattle.ls_checked.specs.PlainProgram.{plain_program}

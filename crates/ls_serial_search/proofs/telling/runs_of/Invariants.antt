@@ -1,3 +1,5 @@
+-- What the loop `at` of `runs_of` in src/telling.rt keeps, and why the loop ends.
+
 use Rattle.std.proofs.Common.{◌≤◌, drop, length}
 use Rattle.ls_checked.specs.Plain.{plain_file}
 use Rattle.ls_checked.specs.PlainProgram.{plain_program}

@@ -1,3 +1,5 @@
+-- Why `serial_runs` in src/telling.rt keeps its contract.
+
 use Rattle.std.proofs.Common.{subst}
 use Rattle.ls_checked.specs.Plain.{plain_file}
 use Rattle.ls_checked.specs.PlainProgram.{plain_program}

@@ -1,3 +1,5 @@
+-- Why `example` in src/laws.rt keeps its contract.
+
 use Rattle.ls_soundness.proofs.Cases.{well_typed, well_typed_program, no_name, no_method, no_argument, no_int}
 use Rattle.ls_soundness.proofs.laws.example.Goals as goal
 

@@ -1,3 +1,5 @@
+-- Why `next_in_call` in src/laws.rt keeps its clauses `making`, `calling` and `on_null`.
+
 use Rattle.ls_soundness.proofs.ThreadCalls.{next_in_making, next_in_calling, next_on_null}
 use Rattle.ls_soundness.proofs.laws.next_in_call.Goals as goal
 

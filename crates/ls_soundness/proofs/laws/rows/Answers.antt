@@ -1,3 +1,5 @@
+-- Why `rows` in src/laws.rt keeps its clauses `arguments`, `others` and `pairs`.
+
 use Rattle.ls_soundness.proofs.Cases.{arguments, no_arguments, pairs}
 use Rattle.ls_soundness.proofs.laws.rows.Goals as goal
 

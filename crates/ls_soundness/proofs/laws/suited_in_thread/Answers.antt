@@ -1,3 +1,5 @@
+-- Why `suited_in_thread` in src/laws.rt keeps its clauses `making` and `calling`.
+
 use Rattle.ls_soundness.proofs.ThreadCalls.{in_making, in_calling}
 use Rattle.ls_soundness.proofs.laws.suited_in_thread.Goals as goal
 

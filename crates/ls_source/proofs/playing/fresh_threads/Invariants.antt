@@ -1,3 +1,5 @@
+-- What the loop `program` of `fresh_threads` in src/playing.rt keeps.
+
 use Rattle.std.proofs.Common.{◌≡◌, take}
 use Rattle.std.specs.Prelude.{map}
 use Rattle.ls_checked.specs.PlainProgram.{plain_call}

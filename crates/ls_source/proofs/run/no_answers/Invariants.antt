@@ -1,3 +1,5 @@
+-- What the loop `thread` of `no_answers` in src/run.rt keeps.
+
 use Rattle.std.proofs.Common.{◌≡◌, take, []}
 use Rattle.std.specs.Prelude.{map}
 use Rattle.ls_source.specs.SeenRun.{lists_of}

@@ -1,3 +1,5 @@
+-- Why `play` in src/run.rt keeps its loop `thread`.
+
 use Rattle.std.proofs.Common.{rules, refl}
 use Rattle.ls_checked.specs.Plain.{plain_file}
 use Rattle.ls_checked.specs.PlainProgram.{plain_program}

@@ -1,10 +1,12 @@
+-- Why `simplest_by` in src/simplifying.rt keeps its clause `fewest`.
+
 use Rattle.std.proofs.Common.{◌≡◌, ℕ, Bool, true, false, refl}
 use Rattle.ls_checked.specs.CheckedTree.{File}
 use Rattle.ls_checked.specs.CheckedProgram.{Program}
 use Rattle.ls_checked.specs.Plain.{plain_file}
 use Rattle.ls_checked.specs.PlainProgram.{plain_program}
 use Rattle.ls_meaning.specs.Runs.{source_history}
-use Rattle.ls_rests_observer.specs.Laws.{is_bad}
+use Rattle.ls_source_judge.specs.Laws.{is_bad}
 use Rattle.ls_source_judge.proofs.simplifying.simplest_by.Goals as goal
 
 pub returns-clause-fewest : goal.returns-clause-fewest

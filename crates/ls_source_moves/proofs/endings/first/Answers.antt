@@ -1,3 +1,5 @@
+-- Why `first` in src/endings.rt keeps its contract.
+
 use Rattle.std.proofs.Common.{sym, ◌∙◌}
 use Rattle.ls_checked.specs.Plain.{plain_statement}
 use Rattle.ls_source_pending.specs.Seen.{frames_of}

@@ -1,3 +1,5 @@
+-- Why `advance` in src/moves.rt keeps its clause `ok`.
+
 use Rattle.ls_source_moves.proofs.moves.advance.Goals as goal
 
 pub returns-in-Evaluates-clause-ok : goal.returns-in-Evaluates-clause-ok

@@ -1,3 +1,5 @@
+-- Why `take_move` in src/moves.rt keeps its contract and what it calls with.
+
 use Rattle.std.proofs.Common.{arith}
 use Rattle.ls_source_moves.proofs.moves.take_move.Goals as goal
 

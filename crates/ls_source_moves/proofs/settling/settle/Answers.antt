@@ -1,7 +1,9 @@
+-- Why `settle` in src/settling.rt keeps its contract.
+
 use Rattle.std.proofs.Common.{◌<◌, sym, ap, subst, ◌∙◌}
 use Rattle.ls_checked.specs.Plain.{plain_file}
 use Rattle.ls_source_pending.specs.Pending.{State}
-use Rattle.ls_source_pending.specs.Machine.{meaning}
+use Rattle.ls_source_pending.specs.Meaning.{meaning}
 use Rattle.ls_source_pending.specs.SeenPending.{state_of}
 use Rattle.ls_source_moves.proofs.Fusion.{moved_keeps}
 use Rattle.ls_source_moves.proofs.Weights.{burden}

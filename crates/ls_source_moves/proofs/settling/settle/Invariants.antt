@@ -1,7 +1,9 @@
+-- What `settle` in src/settling.rt keeps, and why it ends.
+
 use Rattle.std.proofs.Common.{◌≡◌}
 use Rattle.ls_checked.specs.Plain.{plain_file}
 use Rattle.ls_meaning.specs.Course.{Answers}
-use Rattle.ls_source_pending.specs.Machine.{meaning, Rest}
+use Rattle.ls_source_pending.specs.Meaning.{meaning, Rest}
 use Rattle.ls_source_pending.specs.SeenPending.{state_of}
 use Rattle.ls_source_moves.proofs.Weights.{burden}
 use Rattle.ls_source_moves.proofs.settling.settle.Given as goal

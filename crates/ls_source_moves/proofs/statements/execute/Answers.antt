@@ -1,3 +1,5 @@
+-- Why `execute` in src/statements.rt keeps its contract and what it calls with.
+
 use Rattle.ls_source_moves.proofs.statements.execute.Goals as goal
 
 pub wait_or_go-requires : goal.wait_or_go-requires

@@ -1,3 +1,5 @@
+-- Why `go_on` in src/statements.rt keeps its contract and what it calls with.
+
 use Rattle.std.proofs.Common.{arith}
 use Rattle.ls_source_moves.proofs.statements.go_on.Goals as goal
 

@@ -1,3 +1,5 @@
+-- Why `add_row` in src/telling.rt keeps its clause `some`.
+
 use Rattle.std.proofs.Common.{◌≡◌, ◌∷◌, [], ◌++◌, ℕ, List, map, sym, subst}
 use Rattle.std.specs.Prelude.{IfSome}
 use Rattle.ls_events.specs.declared.event.Event.{Event}

@@ -1,3 +1,5 @@
+-- Why `chosen_rows` in src/telling.rt keeps its contract, its loop and what it calls with.
+
 use Rattle.std.proofs.Common.{◌<◌, ◌∙◌, ℕ, List, Some, length, map, ap, arith}
 use Rattle.ls_events.specs.declared.event.Event.{Event}
 use Rattle.ls_history_numbers.proofs.Lists.{below}

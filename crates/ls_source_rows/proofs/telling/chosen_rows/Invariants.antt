@@ -1,3 +1,5 @@
+-- What the loop `number` of `chosen_rows` in src/telling.rt keeps.
+
 use Rattle.std.proofs.Common.{map}
 use Rattle.ls_source_rows.proofs.Choosing.{AreRows}
 use Rattle.ls_source_rows.proofs.telling.chosen_rows.Given as goal

@@ -1,3 +1,5 @@
+-- Why `number_states` in src/telling.rt keeps its clauses `many` and `each` and its loop `at`.
+
 use Rattle.std.proofs.Common.{◌≡◌, ◌<◌, ◌∷◌, [], length, arith, ap, ◌∙◌, length-append}
 use Rattle.ls_history_numbers.proofs.Lists.{below}
 use Rattle.ls_source_rows.proofs.Pushing.{HasNumber, told_more}

@@ -1,3 +1,5 @@
+-- What the loop `at` of `number_states` in src/telling.rt keeps.
+
 use Rattle.std.proofs.Common.{◌≡◌, ◌<◌, ℕ, Some, length}
 use Rattle.std.specs.Prelude.{slice_get}
 use Rattle.ls_source_rows.proofs.Pushing.{HasNumber}

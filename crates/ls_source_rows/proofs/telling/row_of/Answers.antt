@@ -1,3 +1,5 @@
+-- Why `row_of` in src/telling.rt keeps its contract and what `history_at` requires.
+
 use Rattle.std.proofs.Common.{◌<◌, ◌∙◌, List, Some, length, map, sym, ap, subst}
 use Rattle.std.specs.Prelude.{slice_get}
 use Rattle.ls_events.specs.declared.event.Event.{Event}

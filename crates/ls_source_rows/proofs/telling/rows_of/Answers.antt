@@ -1,3 +1,5 @@
+-- Why `rows_of` in src/telling.rt keeps its contract and what `choose` and `chosen_rows` require.
+
 use Rattle.std.proofs.Common.{◌≡◌, ◌<◌, ◌∙◌, List, length, map, sym, ap, arith}
 use Rattle.std.specs.Prelude.{slice_get}
 use Rattle.std.proofs.lemmas.List.{length-map}

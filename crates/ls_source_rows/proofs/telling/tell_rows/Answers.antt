@@ -1,3 +1,5 @@
+-- Why `tell_rows` in src/telling.rt keeps its contract and what it calls with.
+
 use Rattle.std.proofs.Common.{◌≡◌, List, Some, length, map, rules, subst, Vec, Global}
 use Rattle.ls_events.specs.declared.event.Event.{Event}
 use Rattle.ls_checked.specs.CheckedTree.{File}
@@ -8,7 +10,7 @@ use Rattle.ls_transitions.specs.Seen.{table_of}
 use Rattle.ls_search.specs.declared.places.Node.{Node}
 use Rattle.ls_search.specs.declared.places.Seen.{Seen}
 use Rattle.ls_search_laws.specs.Histories.{one_more}
-use Rattle.ls_state_space.proofs.Judging.{nameless_hides}
+use Rattle.ls_search.proofs.Judging.{nameless_hides}
 use Rattle.ls_source_rows.specs.Listed.{TellListed}
 use Rattle.ls_source_rows.specs.Rows.{TellStates}
 use Rattle.ls_source_rows.specs.declared.rows.Row.{Row}

@@ -1,3 +1,5 @@
+-- Why `close` in src/closing.rt keeps its contract and its loop `at`.
+
 use Rattle.std.proofs.Common.{◌+◌, List, length, ap, ◌∙◌, arith}
 use Rattle.ls_search_laws.specs.Configuration.{Configuration}
 use Rattle.ls_transitions.specs.Seen.{table_of}

@@ -1,3 +1,5 @@
+-- Why `expand` in src/closing.rt keeps its contract, its loop `thread` and what `look` requires.
+
 use Rattle.std.proofs.Common.{◌≡◌, ◌<◌, ◌+◌, ◌++◌, ◌∷◌, ℕ, List, [], length, Some, refl, sym, ap, ◌∙◌, subst, arith}
 use Rattle.std.specs.Prelude.{slice_get}
 use Rattle.ls_checked.specs.CheckedTree.{File}

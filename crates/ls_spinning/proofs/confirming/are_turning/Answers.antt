@@ -1,3 +1,5 @@
+-- Why `are_turning` in src/confirming.rt keeps its contract.
+
 use Rattle.std.proofs.Common.{List, ap, ◌∙◌}
 use Rattle.std.specs.Prelude.{slice_get}
 use Rattle.ls_checked.specs.Plain.{plain_file}

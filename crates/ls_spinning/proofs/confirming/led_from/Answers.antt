@@ -1,3 +1,5 @@
+-- Why `led_from` in src/confirming.rt keeps its contract and what `close` requires.
+
 use Rattle.std.proofs.Common.{rules, ◌≡◌, ℕ, List, Some, length, sym, ap, ◌∙◌, subst}
 use Rattle.std.specs.Prelude.{slice_get}
 use Rattle.std.proofs.lemmas.List.{length-map}
@@ -5,7 +7,7 @@ use Rattle.ls_checked.specs.CheckedTree.{File}
 use Rattle.ls_checked.specs.CheckedProgram.{Program}
 use Rattle.ls_checked.specs.Plain.{plain_file}
 use Rattle.ls_checked.specs.PlainProgram.{plain_program, plain_thread}
-use Rattle.ls_run_search.specs.Runs.{progress_at}
+use Rattle.ls_search.specs.Runs.{progress_at}
 use Rattle.ls_search_laws.specs.Configuration.{Configuration}
 use Rattle.ls_search.specs.Places.{configuration_at}
 use Rattle.ls_source.specs.Progress.{Progress}

@@ -1,3 +1,5 @@
+-- Why `playing_after` in src/confirming.rt keeps its loop `thread`.
+
 use Rattle.std.proofs.Common.{rules, take, subst}
 use Rattle.ls_checked.specs.CheckedTree.{File}
 use Rattle.ls_checked.specs.CheckedProgram.{Program}
@@ -5,7 +7,7 @@ use Rattle.ls_checked.specs.Plain.{plain_file}
 use Rattle.ls_checked.specs.PlainProgram.{plain_program}
 use Rattle.ls_source.specs.Progress.{Progress}
 use Rattle.ls_source.specs.Stands.{StandsFor}
-use Rattle.ls_run_search.specs.Runs.{progress_at}
+use Rattle.ls_search.specs.Runs.{progress_at}
 use Rattle.ls_spinning.proofs.Staying.{gone_next}
 use Rattle.ls_spinning.proofs.confirming.playing_after.Goals as goal
 

@@ -1,3 +1,5 @@
+-- What the loop `at` of `turn_all` in src/confirming.rt keeps.
+
 use Rattle.std.proofs.Common.{◌≡◌, ◌<◌, ℕ, Some, false, true}
 use Rattle.std.specs.Prelude.{slice_get}
 use Rattle.ls_spinning.specs.declared.graph.Seen.{Seen}

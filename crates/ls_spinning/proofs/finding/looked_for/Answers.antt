@@ -1,3 +1,5 @@
+-- Why `looked_for` in src/finding.rt keeps its contract.
+
 use Rattle.ls_checked.specs.Plain.{plain_file}
 use Rattle.ls_checked.specs.PlainProgram.{plain_program}
 use Rattle.ls_spinning.proofs.Hearing.{never_turns}

@@ -1,3 +1,5 @@
+-- Why `edge_before` in src/leading.rt keeps its contract.
+
 use Rattle.std.proofs.Common.{◌+◌, ◌-◌, ◌<◌, length, arith}
 use Rattle.std.proofs.lemmas.Option.{slice_get-get_or}
 use Rattle.ls_spinning.proofs.leading.edge_before.Goals as goal

@@ -1,3 +1,5 @@
+-- What the loop `at` of `first_left` in src/leading.rt keeps.
+
 use Rattle.std.proofs.Common.{◌≡◌, ◌<◌, ℕ, Some, true}
 use Rattle.std.specs.Prelude.{slice_get}
 use Rattle.ls_spinning.specs.declared.graph.Seen.{Seen}

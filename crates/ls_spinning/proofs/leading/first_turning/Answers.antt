@@ -1,3 +1,5 @@
+-- Why `first_turning` in src/leading.rt keeps its contract.
+
 use Rattle.std.proofs.Common.{◌≡◌, ℕ, List, Bool, Some, true, map, sym, ap, ◌∙◌, subst}
 use Rattle.std.specs.Prelude.{slice_get}
 use Rattle.ls_spinning.specs.Heard.{AreHeard, EachIsHeard}

@@ -1,3 +1,5 @@
+-- What the loop `one` of `loud_of` in src/leading.rt keeps.
+
 use Rattle.std.proofs.Common.{◌≡◌, map, take}
 use Rattle.ls_spinning.specs.declared.graph.Seen.{Seen}
 use Rattle.ls_spinning.proofs.leading.loud_of.Given as goal

@@ -1,3 +1,5 @@
+-- Why `spread` in src/leading.rt keeps its loop `after`.
+
 use Rattle.ls_spinning.proofs.Marking.{heard_more}
 use Rattle.ls_spinning.proofs.leading.spread.Goals as goal
 

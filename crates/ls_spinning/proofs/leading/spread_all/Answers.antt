@@ -1,3 +1,5 @@
+-- Why `spread_all` in src/leading.rt keeps its contract and its loop `preserved`.
+
 use Rattle.ls_spinning.proofs.leading.spread_all.Goals as goal
 
 pub loop-preserved : goal.loop-preserved

@@ -1,3 +1,5 @@
+-- What `spread_all` in src/leading.rt keeps.
+
 use Rattle.std.proofs.Common.{List}
 use Rattle.ls_spinning.specs.Heard.{AreHeard}
 use Rattle.ls_spinning.specs.declared.graph.Seen.{Seen}

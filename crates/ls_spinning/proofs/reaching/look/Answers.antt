@@ -1,3 +1,5 @@
+-- Why `look` in src/reaching.rt keeps its contract and what `step_from` and `reach` require.
+
 use Rattle.std.proofs.Common.{◌≡◌, ℕ, List, Some, refl, sym, ap, ◌∙◌, subst}
 use Rattle.std.specs.Prelude.{slice_get}
 use Rattle.ls_checked.specs.CheckedTree.{File}

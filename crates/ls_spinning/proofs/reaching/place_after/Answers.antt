@@ -1,3 +1,5 @@
+-- Why `place_after` in src/reaching.rt keeps its clause `grows`.
+
 use Rattle.ls_transitions.specs.Seen.{table_of}
 use Rattle.ls_transitions.proofs.Growing.{grows_on}
 use Rattle.ls_spinning.proofs.reaching.place_after.Goals as goal

@@ -1,3 +1,5 @@
+-- Why `reach` in src/reaching.rt keeps its contract and what `place_after` requires.
+
 use Rattle.std.proofs.Common.{◌≡◌, ℕ, List, Some, sym, ap, ◌∙◌}
 use Rattle.std.specs.Prelude.{slice_get}
 use Rattle.ls_checked.specs.CheckedTree.{File}

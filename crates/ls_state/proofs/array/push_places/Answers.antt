@@ -1,3 +1,5 @@
+-- Why `push_places` in src/array.rt keeps its contract.
+
 use Rattle.std.proofs.Common.{arith}
 use Rattle.std.proofs.lemmas.Grind.{common_steps}
 use Rattle.ls_state.proofs.Places.{places_of_map}

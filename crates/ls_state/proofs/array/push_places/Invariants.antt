@@ -1,3 +1,5 @@
+-- What the loop `place` of `push_places` in src/array.rt keeps.
+
 use Rattle.std.proofs.Common.{◌≡◌, ◌++◌, string_bytes}
 use Rattle.ls_state.specs.Parts.{places_text}
 use Rattle.ls_state.proofs.Places.{listed, places_in}

@@ -1,3 +1,5 @@
+-- What the loop `thread` of `push_threads` in src/asking.rt keeps.
+
 use Rattle.std.proofs.Common.{◌≡◌, ◌++◌, drop, map, string_bytes}
 use Rattle.ls_checked.specs.PlainProgram.{plain_thread}
 use Rattle.ls_state.specs.Parts.{numbered}

@@ -1,3 +1,5 @@
+-- What the loop `field` of `push_fields` in src/objects.rt keeps.
+
 use Rattle.std.proofs.Common.{◌≡◌, ◌++◌, drop, string_bytes}
 use Rattle.ls_state.specs.Parts.{numbered}
 use Rattle.ls_state.specs.Objects.{field_part}

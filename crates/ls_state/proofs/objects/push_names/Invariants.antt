@@ -1,3 +1,5 @@
+-- What the loop `number` of `push_names` in src/objects.rt keeps.
+
 use Rattle.std.proofs.Common.{◌≡◌, ◌++◌, drop, map, string_bytes}
 use Rattle.ls_checked.specs.PlainProgram.{plain_name}
 use Rattle.ls_state.specs.Parts.{numbered}

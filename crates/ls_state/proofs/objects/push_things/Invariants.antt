@@ -1,3 +1,5 @@
+-- What the loop `place` of `push_things` in src/objects.rt keeps.
+
 use Rattle.std.proofs.Common.{◌≡◌, ◌+◌, ◌++◌, drop, map, string_bytes}
 use Rattle.ls_source_store.specs.SeenThing.{thing_of}
 use Rattle.ls_state.specs.Parts.{numbered}

@@ -1,3 +1,5 @@
+-- Why `gathered` in src/gathering.rt keeps its loop `row`.
+
 use Rattle.std.proofs.lemmas.List.{get_or_default}
 use Rattle.ls_tallies.specs.Places.{rows_of}
 use Rattle.ls_tallies.proofs.MergeLemmas.{gathered_more, total_more}

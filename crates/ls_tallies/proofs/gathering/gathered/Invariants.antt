@@ -1,3 +1,5 @@
+-- What the loop `row` of `gathered` in src/gathering.rt keeps.
+
 use Rattle.std.proofs.Common.{◌≡◌, ◌+◌, drop, map}
 use Rattle.ls_tallies.specs.Places.{IsIndexed, rows_of}
 use Rattle.ls_tallies.specs.Plain.{plain_row}

@@ -1,3 +1,5 @@
+-- Why `put_place` in src/gathering.rt keeps its contract.
+
 use Rattle.std.proofs.lemmas.Map.Text.{btree_map_updates_str}
 use Rattle.ls_tallies.proofs.gathering.put_place.Goals as goal
 

@@ -1,3 +1,5 @@
+-- Why `merged` in src/merging.rt keeps its contract.
+
 use Rattle.std.proofs.Common.{map, refl, subst, is_lt, IsPermutation}
 use Rattle.std.proofs.lemmas.List.Sorted.{IsPermutation-map}
 use Rattle.ls_tallies.specs.Plain.{plain_row}

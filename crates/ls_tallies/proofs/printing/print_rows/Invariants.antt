@@ -1,3 +1,5 @@
+-- What the loop `row` of `print_rows` in src/printing.rt keeps.
+
 use Rattle.std.proofs.Common.{◌≡◌, ◌++◌, drop, map, string_bytes}
 use Rattle.ls_tallies.specs.Plain.{plain_row}
 use Rattle.ls_tallies.specs.Printing.{rows_text}

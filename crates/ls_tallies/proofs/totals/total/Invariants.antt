@@ -1,3 +1,5 @@
+-- What the loop `row` of `total` in src/totals.rt keeps.
+
 use Rattle.std.proofs.Common.{◌≡◌, ◌+◌, drop, map}
 use Rattle.ls_tallies.specs.Plain.{plain_row}
 use Rattle.ls_tallies.specs.Tallies.{total_of}

@@ -1,3 +1,5 @@
+-- Why `answer` in src/answer.rt keeps its contract.
+
 use Rattle.std.proofs.Common.{map, subst, sym, Some, Err}
 use Rattle.std.specs.Prelude.{string_bytes}
 use Rattle.std.proofs.lemmas.Result.{err_from_is_err_and}
@@ -13,4 +15,4 @@ returns-in_err-line g c =
 
 pub returns : goal.returns
 returns g c = c.answer_line.ensures.decides (map string_bytes c.args.words.now)
-    (subst (λ ws. AsksFor ws (Some c.in_ok-line.line)) c.asking.ensures c.in_ok-line.ensures) (sym c.names_in.ensures)
+    (subst (λ ws. AsksFor ws (Some c.in_ok-line.line)) c.asking.ensures c.in_ok-line.ensures) (sym c.file_names_in.ensures)

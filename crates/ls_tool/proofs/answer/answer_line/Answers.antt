@@ -1,3 +1,5 @@
+-- Why `answer_line` in src/answer.rt keeps its clauses `decides` and `taken`.
+
 use Rattle.std.proofs.Common.{subst, sym, Err}
 use Rattle.ls_faults.specs.Given.{GivesText}
 use Rattle.ls_tool.specs.Output.{AnswersText, RefusesAs, names_of}

@@ -1,6 +1,8 @@
+-- Why `answer_text` in src/answer.rt keeps its clause `gives`.
+
 use Rattle.std.proofs.Common.{◌∙◌, ap, map, subst}
 use Rattle.ls_faults.specs.Given.{GivesText}
-use Rattle.ls_parts.specs.Cutting.{plain_text}
+use Rattle.ls_items.specs.Cutting.{plain_text}
 use Rattle.ls_tool.specs.Output.{Answers}
 use Rattle.ls_tool.proofs.Inputs.{on_parts}
 use Rattle.ls_tool.proofs.answer.answer_text.Goals as goal

@@ -1,6 +1,8 @@
+-- What the loop `part` of `copied` in src/explained.rt keeps.
+
 use Rattle.std.proofs.Common.{◌≡◌, map, take}
 use Rattle.std.specs.Prelude.{string_bytes}
-use Rattle.ls_parts.specs.Cutting.{plain_text}
+use Rattle.ls_items.specs.Cutting.{plain_text}
 use Rattle.ls_tool.proofs.explained.copied.Given as goal
 
 abbrev pub invariant-loop-part : goal.invariant-loop-part

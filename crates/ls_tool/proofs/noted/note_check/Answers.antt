@@ -1,3 +1,5 @@
+-- Why `note_check` in src/noted.rt keeps its contract.
+
 use Rattle.std.proofs.Common.{◌∙◌}
 use Rattle.std.proofs.lemmas.Result.{err_from_is_err_and}
 use Rattle.ls_tool.proofs.CheckNotes.{history_fails, note_given, order_fails}

@@ -1,3 +1,5 @@
+-- Why `said_of` in src/noted.rt keeps its clauses `decides` and `taken`.
+
 use Rattle.std.proofs.Common.{◌∙◌, ap, subst, sym, Ok, Err}
 use Rattle.std.specs.Prelude.{string_bytes}
 use Rattle.ls_faults.specs.Given.{GivesText}

@@ -1,3 +1,5 @@
+-- Why `answer_telling` in src/running.rt keeps its clause `progress`.
+
 use Rattle.std.proofs.Common.{◌∙◌, refl, rules, sym}
 use Rattle.ls_tool.proofs.Telling.{has_programs_none, has_told_none, programs_told, progresses, progresses_not}
 use Rattle.ls_tool.proofs.running.answer_telling.Goals as goal

@@ -1,3 +1,5 @@
+-- Why `respond` in src/running.rt keeps its contract.
+
 use Rattle.std.proofs.Common.{map, subst, sym, Some, Err}
 use Rattle.std.specs.Prelude.{string_bytes}
 use Rattle.std.proofs.lemmas.Result.{err_from_is_err_and}
@@ -37,7 +39,7 @@ pub returns : goal.returns
 returns g c =
     let words = map string_bytes c.args.words.now in
     let asks = subst (λ ws. AsksFor ws (Some c.in_ok-line.line)) c.asking.ensures c.in_ok-line.ensures in
-    let decided = Decided _ (c.answer_telling.ensures.decides words asks (sym c.names_in.ensures)) in
+    let decided = Decided _ (c.answer_telling.ensures.decides words asks (sym c.file_names_in.ensures)) in
     record {
       responds = of_bytes (g.R.Read.remaining c.args.reader.now) c.in_ok-input.input.items
           (λ input. Responds words input c.answer_telling.result) c.in_ok-input.ensures.ok

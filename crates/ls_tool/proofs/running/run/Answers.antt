@@ -1,3 +1,5 @@
+-- Why `run` in src/running.rt keeps its clauses `ends` and `unread`.
+
 use Rattle.std.proofs.Common.{map, refl, subst}
 use Rattle.std.proofs.KnownBytes.{Keeps-refl}
 use Rattle.std.specs.Prelude.{string_bytes}

@@ -1,3 +1,5 @@
+-- Why `tell_beside` in src/running.rt keeps its clause `told`.
+
 use Rattle.std.proofs.Common.{◌∙◌, subst, sym, true}
 use Rattle.std.proofs.KnownBytes.{Appends-nil}
 use Rattle.ls_outlets.specs.Written.{IsWritten}

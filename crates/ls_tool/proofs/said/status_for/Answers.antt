@@ -1,3 +1,5 @@
+-- Why `status_for` in src/said.rt keeps its clause `apart`.
+
 use Rattle.std.proofs.Common.{◌∙◌, sym}
 use Rattle.ls_tool.proofs.Statuses.{not_two}
 use Rattle.ls_tool.proofs.said.status_for.Goals as goal

@@ -1,3 +1,5 @@
+-- Why `folded_trace` in src/folding.rt keeps its contract and its loop `place`.
+
 use Rattle.std.proofs.Common.{◌+◌, ◌++◌, rules, ap, refl, ◌∙◌, take, get_or, string_bytes}
 use Rattle.std.specs.Prelude.{flat_map, map, nat_le}
 use Rattle.std.proofs.lemmas.List.{take_min}

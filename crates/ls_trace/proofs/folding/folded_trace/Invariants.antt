@@ -1,3 +1,5 @@
+-- What the loop `place` of `folded_trace` in src/folding.rt keeps.
+
 use Rattle.std.proofs.Common.{◌≡◌, ◌+◌, ◌≤◌, ℕ, drop, get_or, string_bytes}
 use Rattle.std.specs.Prelude.{flat_map, map}
 use Rattle.ls_labels.specs.Names.{names_of}

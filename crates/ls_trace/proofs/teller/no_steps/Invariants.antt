@@ -1,3 +1,5 @@
+-- What the loop `thread` of `no_steps` in src/teller.rt keeps.
+
 use Rattle.std.proofs.Common.{◌≡◌, take}
 use Rattle.std.specs.Prelude.{map}
 use Rattle.ls_trace.proofs.teller.no_steps.Given as goal

@@ -1,3 +1,5 @@
+-- Why `trace` in src/telling.rt keeps its contract and its loop `place`.
+
 use Rattle.std.proofs.Common.{◌≡◌, ◌+◌, ◌++◌, rules, ap, refl, sym, ◌∙◌, take, get_or, string_bytes}
 use Rattle.std.proofs.lemmas.List.{take_min}
 use Rattle.ls_labels.specs.Names.{names_of}

@@ -1,3 +1,5 @@
+-- What the loop `place` of `trace` in src/telling.rt keeps.
+
 use Rattle.std.proofs.Common.{◌≡◌, ◌+◌, drop, string_bytes}
 use Rattle.ls_labels.specs.Names.{names_of}
 use Rattle.ls_trace.specs.Lines.{lines}

@@ -1,3 +1,5 @@
+-- Why `keep_store` in src/pools.rt keeps its clause `keeps`.
+
 use Rattle.std.proofs.Common.{[], ◌∷◌, ◌++◌, ap, ◌∙◌}
 use Rattle.ls_source_store.specs.SeenStore.{store_of}
 use Rattle.ls_transitions.proofs.Keeping.{keeps_more}

@@ -1,3 +1,5 @@
+-- Why `keep_work` in src/pools.rt keeps its clause `keeps`.
+
 use Rattle.std.proofs.Common.{[], ◌∷◌, ◌++◌, ap, ◌∙◌}
 use Rattle.ls_source.specs.SeenThread.{thread_of}
 use Rattle.ls_transitions.proofs.Keeping.{keeps_more}

@@ -1,3 +1,5 @@
+-- What the loop `i` of `are_same_entries` in src/stores.rt keeps.
+
 use Rattle.std.proofs.Common.{◌≡◌}
 use Rattle.ls_transitions.proofs.stores.are_same_entries.Given as goal
 

@@ -1,3 +1,5 @@
+-- Why `are_same_items` in src/stores.rt keeps its contract.
+
 use Rattle.ls_transitions.proofs.Items.{same_items}
 use Rattle.ls_transitions.proofs.stores.are_same_items.Goals as goal
 

@@ -1,3 +1,5 @@
+-- What the loop `i` of `are_same_things` in src/stores.rt keeps.
+
 use Rattle.std.proofs.Common.{◌≡◌, drop}
 use Rattle.std.specs.Prelude.{map}
 use Rattle.ls_source_store.specs.SeenThing.{thing_of}

@@ -1,3 +1,5 @@
+-- What the loop `i` of `are_same_calls` in src/threads.rt keeps.
+
 use Rattle.std.proofs.Common.{◌≡◌, drop}
 use Rattle.std.specs.Prelude.{map}
 use Rattle.ls_checked.specs.PlainProgram.{plain_call}

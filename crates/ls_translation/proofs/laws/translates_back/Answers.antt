@@ -1,3 +1,5 @@
+-- Why `translates_back` in src/laws.rt keeps its contract.
+
 use Rattle.ls_translation.proofs.RoundTripLemmas.{runs_back}
 use Rattle.ls_translation.proofs.laws.translates_back.Goals as goal
 

@@ -1,3 +1,5 @@
+-- Why `act` in src/machine_steps.rt keeps its clause `run`.
+
 use Rattle.std.proofs.lemmas.Result.{on_ok_weaker}
 use Rattle.ls_source.specs.Shown.{progress_of}
 use Rattle.ls_translation.proofs.Following.{act_goes}

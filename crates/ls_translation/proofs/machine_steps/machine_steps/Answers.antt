@@ -1,3 +1,5 @@
+-- Why `machine_steps` in src/machine_steps.rt keeps its clauses `unfit` and `steps` and its loop `step`.
+
 use Rattle.std.proofs.Common.{◌≡◌, ℕ, ◌≤◌, length, map, rules, arith, ap, subst, ◌∙◌}
 use Rattle.std.proofs.lemmas.List.{length-map}
 use Rattle.ls_checked.specs.CheckedTree.{File}
@@ -9,7 +11,7 @@ use Rattle.ls_source.specs.Shown.{progress_of}
 use Rattle.ls_preservation.specs.Translations.{most_silent, steps_all}
 use Rattle.ls_image.specs.Images.{code_of_image, program_of_image}
 use Rattle.ls_meaning.specs.Runs.{start}
-use Rattle.ls_types.specs.CheckedFile as checked
+use Rattle.ls_types_checked.specs.CheckedFile as checked
 use Rattle.ls_translation.specs.Room.{IsFirstUnfit}
 use Rattle.ls_translation.specs.Texts.{file_of, program_of}
 use Rattle.ls_translation.proofs.Following.{is_begun, is_followed, whole_steps}

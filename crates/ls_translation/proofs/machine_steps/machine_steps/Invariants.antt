@@ -1,3 +1,5 @@
+-- What the loop `step` of `machine_steps` in src/machine_steps.rt keeps.
+
 use Rattle.std.proofs.Common.{drop, take}
 use Rattle.ls_meaning.specs.Runs.{start}
 use Rattle.ls_preservation.specs.Translations.{steps_all}

@@ -1,3 +1,5 @@
+-- Why `to_machine` in src/machine_steps.rt keeps its clauses `history` and `alike`.
+
 use Rattle.std.proofs.Common.{ap, ◌∙◌}
 use Rattle.ls_code.specs.Machine.{loaded}
 use Rattle.ls_translation.specs.Texts.{file_of, program_of}

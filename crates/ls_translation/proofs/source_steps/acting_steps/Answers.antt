@@ -1,3 +1,5 @@
+-- Why `acting_steps` in src/source_steps.rt keeps its loop `thread`.
+
 use Rattle.std.proofs.Common.{rules, arith}
 use Rattle.ls_translation.proofs.Acting.{acting_more, one_more}
 use Rattle.ls_translation.proofs.source_steps.acting_steps.Goals as goal

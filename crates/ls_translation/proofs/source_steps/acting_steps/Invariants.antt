@@ -1,3 +1,5 @@
+-- What the loop `thread` of `acting_steps` in src/source_steps.rt keeps.
+
 use Rattle.std.proofs.Common.{◌≡◌, ◌≤◌, ◌++◌, drop, length}
 use Rattle.ls_translation.specs.Acting.{acting}
 use Rattle.ls_translation.proofs.source_steps.acting_steps.Given as goal

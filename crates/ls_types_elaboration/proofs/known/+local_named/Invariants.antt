@@ -1,3 +1,5 @@
+-- Why the cycle `local_named` in src/known.rt ends.
+
 use Rattle.std.proofs.Common.{length}
 use Rattle.ls_types_elaboration.proofs.known.+local_named.Given as goal
 

@@ -1,3 +1,5 @@
+-- Why `number_of` in src/known.rt keeps its clause `found`.
+
 use Rattle.std.proofs.Common.{◌∙◌}
 use Rattle.ls_types_elaboration.proofs.Named.{number_found}
 use Rattle.ls_types_elaboration.proofs.known.number_of.Goals as goal

@@ -1,3 +1,5 @@
+-- What the loop `d` of `digits_of` in src/numbers.rt keeps.
+
 use Rattle.std.proofs.Common.{◌≡◌, ◌≤◌, drop}
 use Rattle.ls_types_elaboration.specs.TypedExpressions.{digits_value}
 use Rattle.ls_types_elaboration.proofs.numbers.digits_of.Given as goal

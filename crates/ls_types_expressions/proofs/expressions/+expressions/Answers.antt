@@ -1,3 +1,5 @@
+-- Why the functions of the cycle `expressions` in src/expressions.rt keep their contracts.
+
 use Rattle.std.proofs.Common.{rules, arith, ◌≡◌, ◌+◌, ap, ◌∙◌}
 use Rattle.ls_types_elaboration.specs.Trees as trees
 use Rattle.ls_types_elaboration.specs.Placed.{placed, placed_name, placed_all, placed_target, call_of}

@@ -1,3 +1,5 @@
+-- Why the cycle `expressions` in src/expressions.rt ends.
+
 use Rattle.std.proofs.Common.{◌+◌, ◌*◌}
 use Rattle.ls_types_elaboration.specs.Placed.{placed, placed_all, placed_target}
 use Rattle.ls_types_expressions.proofs.Nodes.{nodes, all_nodes, call_nodes}

@@ -1,3 +1,5 @@
+-- What the loop `c` of `checked_classes` in src/classes.rt keeps.
+
 use Rattle.std.proofs.Common.{◌≡◌, take, map}
 use Rattle.ls_checked.specs.Plain.{plain_class}
 use Rattle.ls_types_elaboration.specs.Elaboration.{checked_class}

@@ -1,3 +1,5 @@
+-- What the loop `s` of the cycle `completion` in src/completion.rt keeps.
+
 use Rattle.std.proofs.Common.{◌≡◌, ◌&&◌, ◌++◌, drop, map}
 use Rattle.ls_checked.specs.Plain.{plain_statement}
 use Rattle.ls_types_elaboration.specs.TypedStatements.{sequence}

@@ -1,3 +1,5 @@
+-- What the loop `n` of `has_innermost` in src/completion.rt keeps.
+
 use Rattle.std.proofs.Common.{◌≡◌, drop}
 use Rattle.ls_types_files.specs.Left.{has}
 use Rattle.ls_types_files.proofs.completion.has_innermost.Given as goal

@@ -1,3 +1,5 @@
+-- What the loop `n` of `outward` in src/completion.rt keeps.
+
 use Rattle.std.proofs.Common.{◌≡◌, ◌++◌, drop}
 use Rattle.ls_types_files.specs.Left.{outward}
 use Rattle.ls_types_files.proofs.completion.outward.Given as goal

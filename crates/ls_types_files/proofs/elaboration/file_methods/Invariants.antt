@@ -1,3 +1,5 @@
+-- What the loop `own` of `file_methods` in src/elaboration.rt keeps.
+
 use Rattle.std.proofs.Common.{◌≡◌, drop, map}
 use Rattle.ls_types_elaboration.specs.Elaborated.{each}
 use Rattle.ls_checked.specs.Plain.{plain_method}

@@ -1,3 +1,5 @@
+-- What the loop `m` of `class_methods` in src/methods.rt keeps.
+
 use Rattle.std.proofs.Common.{◌≡◌, drop, map}
 use Rattle.ls_types_elaboration.specs.Elaborated.{each}
 use Rattle.ls_checked.specs.Plain.{plain_method}

@@ -1,3 +1,5 @@
+-- What the loop `m` of `has_constructor` in src/methods.rt keeps.
+
 use Rattle.std.proofs.Common.{◌≡◌, drop, map}
 use Rattle.ls_types_elaboration.specs.TypedMethods.{has_constructor}
 use Rattle.ls_types_elaboration.specs.PlacedStatements.{placed_member}

@@ -1,3 +1,5 @@
+-- What the loop `c` of `class_names` in src/signs.rt keeps.
+
 use Rattle.std.proofs.Common.{◌≡◌, drop, map}
 use Rattle.ls_types_elaboration.specs.Elaborated.{each}
 use Rattle.ls_types_elaboration.specs.Signs.{one_name}

@@ -1,3 +1,5 @@
+-- Why `field_met` in src/signs.rt keeps its contract.
+
 use Rattle.std.proofs.Common.{rules}
 use Rattle.ls_types_elaboration.specs.PlacedStatements.{placed_declarator}
 use Rattle.ls_types_files.proofs.Declarations.{field_twice, field_over, field_added}

@@ -1,3 +1,5 @@
+-- What the loop `d` of `fields_met` in src/signs.rt keeps.
+
 use Rattle.std.proofs.Common.{◌≡◌, drop, map}
 use Rattle.ls_types_elaboration.specs.Elaborated.{each}
 use Rattle.ls_types_elaboration.specs.Signs.{field_met}

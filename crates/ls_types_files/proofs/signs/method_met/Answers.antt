@@ -1,3 +1,5 @@
+-- Why `method_met` in src/signs.rt keeps its contract.
+
 use Rattle.std.proofs.Common.{rules}
 use Rattle.ls_types_elaboration.specs.Placed.{placed_name}
 use Rattle.ls_types_files.proofs.Declarations.{method_twice, method_over, method_added}

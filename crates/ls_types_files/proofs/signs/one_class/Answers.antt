@@ -1,3 +1,5 @@
+-- Why `one_class` in src/signs.rt keeps its contract.
+
 use Rattle.std.proofs.Common.{rules, map}
 use Rattle.std.proofs.lemmas.Result.{err_from_is_err_and}
 use Rattle.std.specs.Prelude.{string_bytes}

@@ -1,3 +1,5 @@
+-- What the loop `m` of `one_class` in src/signs.rt keeps.
+
 use Rattle.std.proofs.Common.{◌≡◌, drop, map}
 use Rattle.ls_types_elaboration.specs.Elaborated.{each}
 use Rattle.std.specs.Prelude.{string_bytes}

@@ -1,3 +1,5 @@
+-- Why `one_name` in src/signs.rt keeps its contract.
+
 use Rattle.std.proofs.Common.{rules}
 use Rattle.ls_types_elaboration.specs.PlacedStatements.{placed_class}
 use Rattle.ls_types_files.proofs.Declarations.{name_twice, name_over, name_added}

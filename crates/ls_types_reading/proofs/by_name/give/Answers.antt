@@ -1,3 +1,5 @@
+-- Why `give` in src/by_name.rt keeps its clause `given`.
+
 use Rattle.std.proofs.Common.{rules}
 use Rattle.ls_types_reading.proofs.ByName.{given_new, given_twice}
 use Rattle.ls_types_reading.proofs.by_name.give.Goals as goal

@@ -1,3 +1,5 @@
+-- Why `value_named` in src/by_name.rt keeps its contract.
+
 use Rattle.std.proofs.Common.{◌∙◌}
 use Rattle.ls_types_reading.proofs.ByName.{value_found}
 use Rattle.ls_types_reading.proofs.by_name.value_named.Goals as goal

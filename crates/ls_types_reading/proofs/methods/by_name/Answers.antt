@@ -1,3 +1,5 @@
+-- Why `by_name` in src/methods.rt keeps its contract and its loop `m`.
+
 use Rattle.std.proofs.Common.{rules, ◌≡◌, ◌∙◌, refl, ap, sym, map, []}
 use Rattle.std.proofs.lemmas.List.{drop_all}
 use Rattle.ls_types_elaboration.specs.Known.{method_named}

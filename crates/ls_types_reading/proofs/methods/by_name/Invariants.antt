@@ -1,3 +1,5 @@
+-- What the loop `m` of `by_name` in src/methods.rt keeps.
+
 use Rattle.std.proofs.Common.{◌≡◌, drop, map}
 use Rattle.ls_types_elaboration.specs.Known.{method_named}
 use Rattle.ls_types_elaboration.specs.Tables.{method_sign_of}

@@ -1,3 +1,5 @@
+-- Why `of_each` in src/methods.rt keeps its loop `c`.
+
 use Rattle.std.proofs.Common.{rules, ◌∙◌, ap, map}
 use Rattle.ls_types_elaboration.specs.Known.{method_named}
 use Rattle.ls_types_elaboration.specs.Tables.{method_sign_of}

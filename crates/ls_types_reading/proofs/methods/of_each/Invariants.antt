@@ -1,3 +1,5 @@
+-- What the loop `c` of `of_each` in src/methods.rt keeps.
+
 use Rattle.std.proofs.Common.{◌≡◌, take, map}
 use Rattle.ls_types_elaboration.specs.Tables.{class_sign_of}
 use Rattle.ls_types_reading.specs.MethodsByName.{finds, declares}

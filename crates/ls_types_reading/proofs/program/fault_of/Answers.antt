@@ -1,3 +1,5 @@
+-- Why `fault_of` in src/program.rt keeps its clause `stands`.
+
 use Rattle.std.proofs.Common.{subst}
 use Rattle.ls_lexer.specs.Places.{Refused}
 use Rattle.ls_types_reading.proofs.Standing.{bad_byte, open_comment, bad_number}

@@ -1,3 +1,5 @@
+-- Why the cycle `thread_named` in src/steps.rt ends.
+
 use Rattle.std.proofs.Common.{length}
 use Rattle.ls_types_reading.proofs.steps.+thread_named.Given as goal
 

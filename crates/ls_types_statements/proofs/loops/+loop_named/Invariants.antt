@@ -1,3 +1,5 @@
+-- Why the cycle `loop_named` in src/loops.rt ends.
+
 use Rattle.std.proofs.Common.{length}
 use Rattle.ls_types_statements.proofs.loops.+loop_named.Given as goal
 

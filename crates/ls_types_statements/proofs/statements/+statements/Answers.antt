@@ -1,3 +1,5 @@
+-- Why the functions of the cycle `statements` in src/statements.rt keep their contracts.
+
 use Rattle.std.proofs.Common.{rules, arith, ◌≡◌, ◌+◌, ap, sym, ◌∙◌, map, drop}
 use Rattle.ls_types_elaboration.specs.Trees as trees
 use Rattle.ls_types_elaboration.specs.Trees.{Items}

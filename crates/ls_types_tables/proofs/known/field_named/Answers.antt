@@ -1,3 +1,5 @@
+-- Why `field_named` in src/known.rt keeps its clause `found`.
+
 use Rattle.ls_types_tables.proofs.Keys.{field_there, field_missing}
 use Rattle.ls_types_tables.proofs.known.field_named.Goals as goal
 

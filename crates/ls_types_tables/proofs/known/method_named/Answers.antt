@@ -1,3 +1,5 @@
+-- Why `method_named` in src/known.rt keeps its contract.
+
 use Rattle.std.proofs.Common.{◌∙◌, ap, option_map}
 use Rattle.ls_types_tables.specs.ByName.{method_entry}
 use Rattle.ls_types_tables.proofs.Keys.{plain_method, table_method}

@@ -1,3 +1,5 @@
+-- Why `number_of` in src/known.rt keeps its clause `found`.
+
 use Rattle.std.proofs.Common.{◌∙◌}
 use Rattle.ls_types_tables.proofs.Keys.{position_number}
 use Rattle.ls_types_tables.proofs.known.number_of.Goals as goal

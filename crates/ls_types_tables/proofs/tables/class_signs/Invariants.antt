@@ -1,3 +1,5 @@
+-- What the loop `tables` of `class_signs` in src/tables.rt keeps.
+
 use Rattle.std.proofs.Common.{◌≡◌, map}
 use Rattle.ls_types_elaboration.specs.Tables.{class_sign_of}
 use Rattle.ls_types_tables.specs.ByName.{class_entry_of}

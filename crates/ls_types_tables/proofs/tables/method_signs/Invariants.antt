@@ -1,3 +1,5 @@
+-- What the loop `name` of `method_signs` in src/tables.rt keeps.
+
 use Rattle.std.proofs.Common.{◌≡◌, ◌++◌, map}
 use Rattle.std.specs.Prelude.{string_bytes}
 use Rattle.ls_types_elaboration.specs.Tables.{method_sign_of}

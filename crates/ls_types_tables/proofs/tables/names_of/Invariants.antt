@@ -1,3 +1,5 @@
+-- What the loop `name` of `names_of` in src/tables.rt keeps.
+
 use Rattle.std.proofs.Common.{◌≡◌, ◌++◌}
 use Rattle.ls_types_tables.proofs.tables.names_of.Given as goal
 

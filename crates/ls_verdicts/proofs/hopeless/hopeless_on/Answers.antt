@@ -1,3 +1,5 @@
+-- Why `hopeless_on` in src/hopeless.rt keeps its clauses `some` and `none` and what `judge` requires.
+
 use Rattle.std.proofs.Common.{◌∙◌, IfNone, IfSome, ap, sym, subst}
 use Rattle.std.specs.Prelude.{map}
 use Rattle.ls_checked.specs.PlainProgram.{plain_program}

@@ -1,3 +1,5 @@
+-- What the loop `event` of `named_events` in src/naming.rt keeps.
+
 use Rattle.std.proofs.Common.{◌≡◌, ◌++◌, drop}
 use Rattle.std.specs.Prelude.{map}
 use Rattle.std.specs.List.{filter_map}

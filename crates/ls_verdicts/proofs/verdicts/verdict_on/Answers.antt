@@ -1,3 +1,5 @@
+-- Why `verdict_on` in src/verdicts.rt keeps its contract and what `judge` requires.
+
 use Rattle.std.proofs.Common.{◌∙◌, ap, sym, subst}
 use Rattle.std.specs.Prelude.{map}
 use Rattle.ls_checked.specs.PlainProgram.{plain_program}

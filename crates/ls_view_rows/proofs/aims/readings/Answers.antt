@@ -1,3 +1,5 @@
+-- Why `readings` in src/aims.rt keeps its clauses `divided`, `said` and `half_quoted`.
+
 use Rattle.std.proofs.Common.{refl}
 use Rattle.ls_view_rows.proofs.aims.readings.Goals as goal
 

@@ -1,3 +1,5 @@
+-- Why `schedules` in src/aims.rt keeps its clauses `steps`, `missed` and `lost`.
+
 use Rattle.std.proofs.Common.{refl}
 use Rattle.std.specs.Fmt.{digits}
 use Rattle.std.specs.Int.{int_wrap}

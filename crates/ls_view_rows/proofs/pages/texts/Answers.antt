@@ -1,3 +1,5 @@
+-- Why `texts` in src/pages.rt keeps its clauses `escapes` and `others`.
+
 use Rattle.std.proofs.Common.{refl}
 use Rattle.std.specs.Str.{chars}
 use lib.Utf8.{encode}

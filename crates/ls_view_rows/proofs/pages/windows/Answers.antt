@@ -1,3 +1,5 @@
+-- Why `windows` in src/pages.rt keeps its contract.
+
 use Rattle.std.proofs.Common.{refl}
 use Rattle.std.specs.Fmt.{digits}
 use Rattle.std.specs.Int.{int_wrap}

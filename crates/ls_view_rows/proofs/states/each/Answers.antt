@@ -1,3 +1,5 @@
+-- Why `each` in src/states.rt keeps its clauses `range`, `end` and `graph`.
+
 use Rattle.std.proofs.Common.{refl}
 use Rattle.std.specs.Fmt.{digits}
 use Rattle.ls_meaning.specs.Methods.{invoke, depth_limit}

@@ -1,3 +1,5 @@
+-- Why `things` in src/states.rt keeps its clauses `things`, `names` and `graph`.
+
 use Rattle.std.proofs.Common.{refl}
 use Rattle.std.specs.Fmt.{digits}
 use Rattle.ls_view_rows.proofs.states.things.Goals as goal

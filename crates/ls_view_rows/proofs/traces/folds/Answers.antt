@@ -1,3 +1,5 @@
+-- Why `folds` in src/traces.rt keeps its clauses `reads`, `waits` and `turns`.
+
 use Rattle.std.proofs.Common.{refl}
 use Rattle.std.specs.Fmt.{digits}
 use Rattle.std.specs.Int.{int_wrap}

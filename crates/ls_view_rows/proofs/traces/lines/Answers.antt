@@ -1,3 +1,5 @@
+-- Why `lines` in src/traces.rt keeps its clauses `first_lines` and `lines_in_a_range`.
+
 use Rattle.std.proofs.Common.{refl}
 use Rattle.std.specs.Fmt.{digits}
 use Rattle.std.specs.Int.{int_wrap}

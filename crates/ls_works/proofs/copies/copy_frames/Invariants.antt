@@ -1,3 +1,5 @@
+-- What the loop `frame` of `copy_frames` in src/copies.rt keeps.
+
 use Rattle.std.proofs.Common.{◌≡◌, take}
 use Rattle.std.specs.Prelude.{map}
 use Rattle.ls_source_pending.specs.Seen.{frame_of}

@@ -1,3 +1,5 @@
+-- What the loop `i` of the cycle `statements` in src/statements.rt keeps.
+
 use Rattle.std.proofs.Common.{◌≡◌, drop}
 use Rattle.ls_checked.specs.Plain.{statements_of}
 use Rattle.ls_works.proofs.statements.+statements.Given as goal

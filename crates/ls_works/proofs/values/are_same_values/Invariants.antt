@@ -1,3 +1,5 @@
+-- What the loop `i` of `are_same_values` in src/values.rt keeps.
+
 use Rattle.std.proofs.Common.{◌≡◌, take}
 use Rattle.ls_works.proofs.values.are_same_values.Given as goal
 

@@ -1,3 +1,5 @@
+-- What the loop `i` of `are_same_frames` in src/work.rt keeps.
+
 use Rattle.std.proofs.Common.{◌≡◌, drop}
 use Rattle.std.specs.Prelude.{map}
 use Rattle.ls_source_pending.specs.Seen.{frame_of}

@@ -1,3 +1,5 @@
+-- What the loop `thread` of `Runner::after` in src/runner.rt keeps.
+
 use Rattle.std.proofs.Common.{◌≡◌, drop}
 use Rattle.ls_labels.specs.Names.{names_of}
 use Rattle.ls_aim.specs.Runs.{after, run_of}

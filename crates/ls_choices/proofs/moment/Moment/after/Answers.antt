@@ -1,3 +1,5 @@
+-- Why `Moment::after` in src/moment.rt keeps its loop `thread`.
+
 use Rattle.std.proofs.Common.{rules, ◌<◌, length, subst, sym, take}
 use Rattle.ls_labels.specs.Names.{names_of}
 use Rattle.ls_choices.specs.Schedules.{told_after}

@@ -1,3 +1,5 @@
+-- What the loop `thread` of `Moment::after` in src/moment.rt keeps.
+
 use Rattle.std.proofs.Common.{take}
 use Rattle.ls_labels.specs.Names.{names_of}
 use Rattle.ls_choices.specs.Schedules.{told_after}

@@ -1,3 +1,5 @@
+-- Why `Moment::new` in src/moment.rt keeps its contract.
+
 use Rattle.std.proofs.Common.{[], ap, ◌∙◌}
 use Rattle.ls_trace.proofs.Calls.{zeros, zeros_is}
 use Rattle.ls_choices.proofs.moment.Moment.new.Goals as goal

@@ -1,3 +1,5 @@
+-- Why `Moment::step` in src/moment.rt keeps its contract.
+
 use Rattle.std.proofs.Common.{ap, ◌∙◌}
 use Rattle.ls_labels.specs.Names.{Names}
 use Rattle.ls_source.specs.Progress.{Progress, gone_on}

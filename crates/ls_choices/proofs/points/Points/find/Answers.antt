@@ -1,3 +1,5 @@
+-- Why `Points::find` in src/points.rt keeps its contract.
+
 use Rattle.std.proofs.Common.{◌∙◌, ap, sym, Some}
 use Rattle.std.specs.Prelude.{slice_get}
 use Rattle.std.proofs.lemmas.Option.{slice_get-get_or}

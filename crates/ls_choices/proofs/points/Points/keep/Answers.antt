@@ -1,3 +1,5 @@
+-- Why `Points::keep` in src/points.rt keeps its clauses `found`, `seen`, `keeps` and `few`.
+
 use Rattle.std.proofs.Common.{[], ◌∷◌, ◌∙◌, ap, arith, length, length-append}
 use Rattle.ls_choices.specs.declared.points.Point.{Point}
 use Rattle.ls_choices.proofs.Seeing.{found_pushed, keeps_pushed, seen_pushed}

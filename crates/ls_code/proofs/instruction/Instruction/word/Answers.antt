@@ -1,3 +1,5 @@
+-- Why `Instruction::word` in src/instruction.rt keeps its clause `decodes`.
+
 use Rattle.std.proofs.Common.{◌<◌, ◌^◌}
 use Rattle.ls_code.specs.Instructions.{operand_of}
 use Rattle.ls_code.proofs.Instructions.{decoded-encoded}

@@ -1,3 +1,5 @@
+-- What the loop `last` of `Path::len` in src/links.rt keeps, and why the loop ends.
+
 use Rattle.std.proofs.Common.{◌≡◌, ◌<◌, ◌+◌, [], length, get_or}
 use Rattle.ls_explore.specs.Paths.{paths_of}
 use Rattle.ls_explore.proofs.links.Path.len.Given as goal

@@ -1,3 +1,5 @@
+-- What `Path::thread` in src/links.rt keeps.
+
 use Rattle.std.proofs.Common.{◌≡◌, ◌<◌, ◌++◌, ℕ, List, [], length, get_or}
 use Rattle.ls_explore.specs.Paths.{paths_of}
 use Rattle.ls_explore.proofs.links.Path.thread.Given as goal

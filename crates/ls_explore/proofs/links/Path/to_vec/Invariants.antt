@@ -1,3 +1,5 @@
+-- What the loop `last` of `Path::to_vec` in src/links.rt keeps, and why the loop ends.
+
 use Rattle.std.proofs.Common.{◌≡◌, ◌<◌, ◌++◌, [], length, get_or, reverse}
 use Rattle.ls_explore.specs.Paths.{paths_of}
 use Rattle.ls_explore.proofs.links.Path.to_vec.Given as goal

@@ -1,3 +1,5 @@
+-- Why `Nodes::keep` in src/searching.rt keeps its clauses `kept`, `grown` and `saved`.
+
 use Rattle.std.proofs.Common.{◌≡◌, inr, ℕ, List, [], ◌∷◌, ◌++◌, get_or, ap, ◌∙◌}
 use Rattle.ls_machine.specs.Saved.{standing}
 use Rattle.ls_explore.specs.Searches.{paths_of}

@@ -1,3 +1,5 @@
+-- Why `Nodes::new` in src/searching.rt keeps its clause `paths`.
+
 use Rattle.std.proofs.Common.{◌∙◌, ◌++◌, [], ◌∷◌, ap}
 use Rattle.ls_explore.proofs.Paths.{paths_first}
 use Rattle.ls_explore.proofs.searching.Nodes.new.Goals as goal

@@ -1,3 +1,5 @@
+-- Why the functions of the cycle `Line::push_number` in src/line.rt keep their contracts.
+
 use Rattle.std.proofs.Common.{◌≡◌, ◌∙◌, ◌+◌, ◌<◌, ◌%◌, ◌/◌, ◌++◌, ◌∷◌, [], ap, sym, arith, append_assoc, length}
 use Rattle.std.specs.Fmt.{decimal}
 use Rattle.std.proofs.lemmas.Fmt.{decimal_digit, decimal_nonempty, decimal_step}

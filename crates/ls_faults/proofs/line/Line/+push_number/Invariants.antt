@@ -1,3 +1,5 @@
+-- Why the cycle `Line::push_number` in src/line.rt ends.
+
 use Rattle.ls_faults.proofs.line.Line.+push_number.Given as goal
 
 abbrev pub decreases-push_number : goal.decreases-push_number

@@ -1,3 +1,5 @@
+-- What the loop `byte` of `Line::push_text` in src/line.rt keeps.
+
 use Rattle.std.proofs.Common.{◌≡◌, ◌++◌, take}
 use Rattle.ls_faults.proofs.line.Line.push_text.Given as goal
 

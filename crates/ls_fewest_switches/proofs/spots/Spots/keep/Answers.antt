@@ -1,3 +1,5 @@
+-- Why `Spots::keep` in src/spots.rt keeps its clause `there`.
+
 use Rattle.std.proofs.Common.{length, refl, ap, ◌∙◌, arith}
 use Rattle.std.specs.Prelude.{slice_get}
 use Rattle.ls_search.proofs.Pairs.{last_there}

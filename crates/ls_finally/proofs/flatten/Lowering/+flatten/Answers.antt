@@ -1,3 +1,5 @@
+-- Why the functions of the cycle `Lowering::flatten` in src/flatten.rt keep their contracts.
+
 use Rattle.std.proofs.Common.{◌≡◌, ◌+◌, ◌*◌, ◌∷◌, drop, ap, sym, subst, rules, arith, List}
 use Rattle.std.specs.Prelude.{IfOk, OnOk}
 use Rattle.ls_lowered.specs.declared.tree.Statement.{Statement}

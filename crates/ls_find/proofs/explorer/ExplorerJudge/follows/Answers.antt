@@ -1,3 +1,5 @@
+-- Why `ExplorerJudge::follows` in src/explorer.rt keeps its contract.
+
 use Rattle.std.proofs.Common.{subst}
 use Rattle.ls_checked.specs.PlainProgram.{plain_program}
 use Rattle.ls_image.specs.Images.{program_of_image}

@@ -1,3 +1,5 @@
+-- Why the functions of the cycle `Counting::count` in src/counting.rt keep their contracts.
+
 use Rattle.std.proofs.Common.{◌≡◌, ℕ, ◌+◌, ◌*◌, ◌∷◌, ◌++◌, ◌≤◌, suc, append_assoc, drop, ap, subst, sym, ◌∙◌, rules}
 use Rattle.std.proofs.Common.{arith, List, OnOk, length}
 use Rattle.std.specs.Prelude.{min}

@@ -1,3 +1,5 @@
+-- What the loop `s` of the cycle `Counting::count` in src/counting.rt keeps, and why the cycle ends.
+
 use Rattle.std.proofs.Common.{◌≡◌, ◌+◌, ◌*◌, ◌++◌, ◌≤◌, drop}
 use Rattle.std.specs.Prelude.{min}
 use Rattle.ls_lowered.specs.Plain.{plain_statement, statements_of}

@@ -1,3 +1,5 @@
+-- Why `Counting::add_blocks` in src/counting.rt keeps its clause `length`.
+
 use Rattle.std.proofs.Common.{◌≡◌, ℕ, ◌+◌, ◌*◌, ◌≤◌, List, ap, subst, ◌∙◌, arith}
 use Rattle.std.specs.Prelude.{min}
 use Rattle.ls_linker.specs.declared.ways.Way.{Way}

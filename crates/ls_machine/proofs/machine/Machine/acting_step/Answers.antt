@@ -1,3 +1,5 @@
+-- Why `Machine::acting_step` in src/machine.rt keeps its contract and what `is_due`, `thread` and `act` require.
+
 use Rattle.std.proofs.Common.{◌≡◌, ◌<◌, length, get_or, true, refl, ap, sym, subst, ◌∙◌, rules, false, arith}
 use Rattle.std.proofs.lemmas.List.{get_or_read}
 use Rattle.std.specs.Vec.{with_item}

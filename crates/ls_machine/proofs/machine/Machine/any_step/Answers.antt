@@ -1,3 +1,5 @@
+-- Why `Machine::any_step` in src/machine.rt keeps its contract and what it calls with.
+
 use Rattle.std.proofs.Common.{◌≡◌, ◌<◌, length, get_or, true, refl, ap, sym, subst, ◌∙◌, rules, arith, false}
 use Rattle.std.proofs.lemmas.List.{get_or_read}
 use Rattle.std.specs.Vec.{with_item}

@@ -1,3 +1,5 @@
+-- Why `Machine::moves_silently` in src/machine/running.rt keeps its clauses `silent` and `did` and what it calls with.
+
 use Rattle.std.proofs.Common.{◌≡◌, ◌<◌, ◌≤◌, length, get_or, set, true, refl, ap, sym, subst, ◌∙◌, rules, arith}
 use Rattle.std.proofs.lemmas.List.{get_or_read}
 use Rattle.std.specs.Vec.{with_item}
@@ -95,6 +97,10 @@ returns-then-move_silently-clause-silent c = λ _. subst (λ (m : Machine).
       limit = c.self.inside.limit;
     }) ≡ (machine_step m c.args.number).machine)
     c.self.view_is (sym (ap (λ (s : Stepped). s.machine) (stepped c)))
+
+pub returns-then-move_silently-clause-did : goal.returns-then-move_silently-clause-did
+returns-then-move_silently-clause-did c = λ _. subst (λ (m : Machine). (machine_step m c.args.number).did ≡ did.Silent)
+    c.self.view_is (ap (λ (s : Stepped). s.did) (stepped c))
 
 pub is_due-requires : goal.is_due-requires
 is_due-requires c = omega (arith, c.if-number-len.false, c.len.ensures, c.deref.ensures.len)

@@ -1,3 +1,5 @@
+-- What the loop `at` of `Machine::run` in src/machine/running.rt keeps, and why the loop ends.
+
 use Rattle.std.proofs.Common.{◌≡◌, ◌-◌, drop, length}
 use Rattle.ls_code.specs.Machine.{machine_run}
 use Rattle.ls_machine.proofs.machine.Machine.run.Given as goal

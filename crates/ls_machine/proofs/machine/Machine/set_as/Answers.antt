@@ -1,3 +1,5 @@
+-- Why `Machine::set_as` in src/machine/saving.rt keeps what `left` and `history` require.
+
 use Rattle.std.proofs.Common.{◌<◌, ◌∙◌, List, length, map, ap, sym, subst, rules, arith, vec_len}
 use Rattle.std.proofs.lemmas.List.{with_items_is}
 use Rattle.std.specs.List.{sum_by}

@@ -1,3 +1,5 @@
+-- Why `Machine::set_back` in src/machine.rt keeps its contract.
+
 use Rattle.std.proofs.Common.{◌≡◌, ◌∙◌, List, length, map, refl, ap, sym, subst, rules, arith, vec_len, false}
 use Rattle.std.proofs.lemmas.List.{with_items_is}
 use Rattle.std.specs.Vec.{with_items}

@@ -1,3 +1,5 @@
+-- Why `Machine::stay` in src/machine/running.rt keeps its clause `same` and what `is_due`, `thread` and `stay` require.
+
 use Rattle.std.proofs.Common.{◌≡◌, ◌<◌, length, get_or, true, false, refl, sym, subst, ◌∙◌, rules, arith}
 use Rattle.std.proofs.lemmas.List.{get_or_read}
 use Rattle.std.specs.Vec.{with_item}

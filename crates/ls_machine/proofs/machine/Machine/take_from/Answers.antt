@@ -1,3 +1,5 @@
+-- Why `Machine::take_from` in src/machine/running.rt keeps its clause `same`.
+
 use Rattle.std.proofs.Common.{◌+◌, refl, arith}
 use Rattle.ls_machine.proofs.Stays.{step_from, turn_from}
 use Rattle.ls_machine.proofs.machine.Machine.take_from.Goals as goal

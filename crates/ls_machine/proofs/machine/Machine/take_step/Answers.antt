@@ -1,3 +1,5 @@
+-- Why `Machine::take_step` in src/machine/running.rt keeps its contract.
+
 use Rattle.std.proofs.Common.{[], sym, ap, ◌∙◌}
 use Rattle.ls_code.specs.Machine.{Machine, machine_step}
 use Rattle.ls_machine.proofs.machine.Machine.take_step.Goals as goal

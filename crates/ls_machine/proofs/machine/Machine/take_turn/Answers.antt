@@ -1,3 +1,5 @@
+-- Why `Machine::take_turn` in src/machine/running.rt keeps its contract and its loop `left`.
+
 use Rattle.std.proofs.Common.{◌≡◌, ◌-◌, refl, sym, ◌∙◌, arith}
 use Rattle.ls_machine.proofs.Stays.{turn_rest, turn_one}
 use Rattle.ls_machine.proofs.machine.Machine.take_turn.Goals as goal

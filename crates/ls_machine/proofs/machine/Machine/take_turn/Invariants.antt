@@ -1,3 +1,5 @@
+-- What the loop `left` of `Machine::take_turn` in src/machine/running.rt keeps, and why the loop ends.
+
 use Rattle.std.proofs.Common.{◌≡◌, ℕ, List}
 use Rattle.ls_code.specs.Machine.{machine_run}
 use Rattle.ls_machine.specs.Staying.{turns}

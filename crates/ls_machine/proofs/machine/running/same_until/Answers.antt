@@ -1,3 +1,5 @@
+-- Why `same_until` in src/machine/running.rt keeps its loop `at`.
+
 use Rattle.std.proofs.Common.{◌+◌, arith}
 use Rattle.ls_machine.proofs.Stays.{same_more}
 use Rattle.ls_machine.proofs.machine.running.same_until.Goals as goal

@@ -1,3 +1,5 @@
+-- What the loop `at` of `same_until` in src/machine/running.rt keeps.
+
 use Rattle.std.proofs.Common.{◌≡◌, ◌-◌, drop}
 use Rattle.ls_machine.specs.Staying.{turns}
 use Rattle.ls_machine.proofs.machine.running.same_until.Given as goal

@@ -1,3 +1,5 @@
+-- What the loop `i` of `are_saved` in src/machine/saving.rt keeps.
+
 use Rattle.std.proofs.Common.{◌≡◌, map, take}
 use Rattle.ls_machine.proofs.machine.saving.are_saved.Given as goal
 

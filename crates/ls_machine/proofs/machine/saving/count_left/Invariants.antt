@@ -1,3 +1,5 @@
+-- What the loop `thread` of `count_left` in src/machine/saving.rt keeps.
+
 use Rattle.std.proofs.Common.{◌≡◌, take}
 use Rattle.std.specs.List.{sum_by}
 use Rattle.ls_machine_threads.specs.Memory.{events_left}

@@ -1,3 +1,5 @@
+-- Why `set_threads` in src/machine/saving.rt keeps its clauses `calls`, `locals` and `operands` and its loop `i`.
+
 use Rattle.std.proofs.Common.{◌<◌, ◌∙◌, List, length, ap, arith}
 use Rattle.std.proofs.Math.Seq.{map-set_same}
 use Rattle.std.proofs.lemmas.List.{length-set}

@@ -1,3 +1,5 @@
+-- What the loop `i` of `set_threads` in src/machine/saving.rt keeps.
+
 use Rattle.std.proofs.Common.{◌≡◌, map, take, length}
 use Rattle.ls_machine.proofs.machine.saving.set_threads.Given as goal
 

@@ -1,3 +1,5 @@
+-- Why `Frame::set_local` in src/frame.rt keeps its contract.
+
 use Rattle.std.proofs.Common.{◌≡◌, ◌<◌, length, take, arith, refl, ap, min, length-take}
 use Rattle.ls_machine_moves.specs.Frames.{Kept}
 use Rattle.ls_machine_moves.proofs.Operands.{take_set_below}

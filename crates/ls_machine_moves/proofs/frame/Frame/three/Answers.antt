@@ -1,3 +1,5 @@
+-- Why `Frame::three` in src/frame.rt keeps its contract.
+
 use Rattle.std.proofs.Common.{◌<◌, length, drop, sym, arith, length-drop}
 use Rattle.ls_machine_moves.proofs.Operands.{three_short}
 use Rattle.ls_machine_moves.proofs.frame.Frame.three.Goals as goal

@@ -1,3 +1,5 @@
+-- Why `Frame::two` in src/frame.rt keeps its contract.
+
 use Rattle.std.proofs.Common.{◌<◌, length, drop, sym, arith, length-drop}
 use Rattle.ls_machine_moves.proofs.Operands.{two_short}
 use Rattle.ls_machine_moves.proofs.frame.Frame.two.Goals as goal

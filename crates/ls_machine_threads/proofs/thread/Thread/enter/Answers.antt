@@ -1,3 +1,5 @@
+-- Why `Thread::enter` in src/thread.rt keeps its clauses `after` and `flow` and what `enter_above` requires.
+
 use Rattle.std.proofs.Common.{◌≡◌, ℕ, ◌+◌, ◌-◌, ◌==◌, ◌<◌, ◌≤◌, List, ◌∷◌, length, map, drop, set, get_or, Some, false}
 use Rattle.std.proofs.Common.{true, slice_get, nat_lt, ap, sym, subst, refl, ◌∙◌, arith}
 use Rattle.std.proofs.lemmas.Bool.{ne_eqb, lt-ltb}

@@ -1,3 +1,5 @@
+-- Why `Thread::leave_with` in src/thread.rt keeps its contract.
+
 use Rattle.std.proofs.Common.{◌+◌, ◌<◌, length, arith}
 use Rattle.ls_machine_threads.proofs.Rooms.{innermost, left_alone}
 use Rattle.ls_machine_threads.proofs.thread.Thread.leave_with.Goals as goal

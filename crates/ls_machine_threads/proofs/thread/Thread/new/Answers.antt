@@ -1,3 +1,5 @@
+-- Why `Thread::new` in src/thread.rt keeps its contract.
+
 use Rattle.std.proofs.Common.{◌≡◌, ◌++◌, ◌∷◌, [], List, length, drop, get_or, refl, arith}
 use Rattle.std.proofs.lemmas.List.{get_or_push, drop_all, length_push}
 use Rattle.ls_machine_moves.specs.Frames.{Kept, no_frame}

@@ -1,3 +1,5 @@
+-- Why `Thread::saved` in src/thread/saving.rt keeps its contract.
+
 use Rattle.std.proofs.Common.{◌≡◌, ◌+◌, ◌-◌, ◌∷◌, ◌∙◌, List, length, take, drop, map, get_or, refl, ap, subst, arith}
 use Rattle.std.proofs.lemmas.List.{length-drop, take_all}
 use Rattle.ls_machine_moves.specs.Frames.{Kept, no_frame}

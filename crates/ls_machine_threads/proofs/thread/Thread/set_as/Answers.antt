@@ -1,3 +1,5 @@
+-- Why `Thread::set_as` in src/thread/saving.rt keeps its contract.
+
 use Rattle.std.proofs.Common.{◌-◌, ◌∙◌, length, refl, ap, sym, subst, arith}
 use Rattle.std.proofs.lemmas.List.{with_items_is}
 use Rattle.ls_machine_threads.specs.Memory.{HaveRooms}

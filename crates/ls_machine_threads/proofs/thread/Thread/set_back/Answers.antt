@@ -1,3 +1,5 @@
+-- Why `Thread::set_back` in src/thread.rt keeps its contract.
+
 use Rattle.std.proofs.Common.{◌≡◌, ◌<◌, [], length, drop, set, get_or, refl, ◌∙◌, subst, arith, lit<, false}
 use Rattle.std.proofs.lemmas.List.{drop-set-lt, drop_all, get_or-set_same}
 use Rattle.std.specs.Vec.{with_item}

@@ -1,3 +1,5 @@
+-- Why `Thread::throw` in src/thread.rt keeps its clause `thrown`.
+
 use Rattle.std.proofs.Common.{◌≡◌, ◌<◌, List, length, ◌∷◌, Option, None, Some, MatchOption, IsTrue, Bool, false, true}
 use Rattle.std.proofs.Common.{refl, subst}
 use Rattle.std.proofs.lemmas.Bool.{both_ways}

@@ -1,3 +1,5 @@
+-- What the loop `i` of `saved_frames` in src/thread/saving.rt keeps.
+
 use Rattle.std.proofs.Common.{◌≡◌, map, take}
 use Rattle.ls_machine_threads.proofs.thread.saving.saved_frames.Given as goal
 

@@ -1,3 +1,5 @@
+-- Why `set_frames` in src/thread/saving.rt keeps its clause `rooms` and its loop `i`.
+
 use Rattle.std.proofs.Common.{◌≡◌, ◌⊎◌, ℕ, ◌+◌, ◌<◌, ◌^◌, List, length, set, get_or, ap, sym, subst, ◌∙◌, arith}
 use Rattle.std.proofs.lemmas.List.{get_or_default, length-set}
 use Rattle.ls_code.specs.Frame.{Frame}

@@ -1,3 +1,5 @@
+-- What the loop `i` of `set_frames` in src/thread/saving.rt keeps.
+
 use Rattle.std.proofs.Common.{◌≡◌, ℕ, ◌+◌, ◌<◌, ◌^◌, map, take, drop, length, get_or}
 use Rattle.ls_machine_moves.specs.Frames.{no_frame}
 use Rattle.ls_machine_threads.specs.Memory.{HaveRooms}

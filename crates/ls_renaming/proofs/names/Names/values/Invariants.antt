@@ -1,5 +1,7 @@
+-- What the loop `value` of `Names::values` in src/names.rt keeps.
+
 use Rattle.std.proofs.Common.{◌≡◌, take}
-use Rattle.ls_work_laws.specs.Frames.{renamed_values}
+use Rattle.ls_works.specs.Frames.{renamed_values}
 use Rattle.ls_renaming.specs.Seen.{names_of}
 use Rattle.ls_renaming.proofs.names.Names.values.Given as goal
 

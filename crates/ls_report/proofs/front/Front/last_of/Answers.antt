@@ -1,3 +1,5 @@
+-- Why `Front::last_of` in src/front.rt keeps its contract.
+
 use Rattle.std.proofs.Common.{◌≡◌, ◌∙◌, ap, rules, slice_get, None}
 use Rattle.std.specs.Option.{option_and_then, option_copied}
 use Rattle.ls_report.proofs.Fronts.{looked_up}

@@ -1,3 +1,5 @@
+-- Why `Front::push` in src/front.rt keeps its clause `indexed`.
+
 use Rattle.std.proofs.Common.{◌≡◌, ◌∙◌, ap, cond, length, rules, Some}
 use Rattle.std.specs.Str.{bytes_eq}
 use Rattle.ls_report.specs.Events.{Text}

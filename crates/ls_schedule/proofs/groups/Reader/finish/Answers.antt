@@ -1,3 +1,5 @@
+-- Why `Reader::finish` in src/groups.rt keeps its contract.
+
 use Rattle.std.proofs.Common.{◌∙◌, ◌<◌, length, Err, ap, sym, arith}
 use Rattle.std.proofs.lemmas.Grind.{common_steps}
 use Rattle.ls_schedule.specs.declared.fault.ScheduleFault.TheVariants as fault

@@ -1,3 +1,5 @@
+-- Why `Reader::pass` in src/groups.rt keeps its clause `passes` and what `pass_word` requires.
+
 use Rattle.std.proofs.Common.{◌∙◌, map, sym, arith}
 use Rattle.ls_schedule.specs.Answers.{so_far}
 use Rattle.ls_schedule.specs.Reading.{thread_name}

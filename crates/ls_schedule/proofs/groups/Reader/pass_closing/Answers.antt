@@ -1,3 +1,5 @@
+-- Why `Reader::pass_closing` in src/groups.rt keeps its clause `passes`.
+
 use Rattle.std.proofs.Common.{arith}
 use Rattle.ls_schedule.specs.Answers.{so_far}
 use Rattle.ls_schedule.proofs.Digits.{fails_of}

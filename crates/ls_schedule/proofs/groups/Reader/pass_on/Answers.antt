@@ -1,3 +1,5 @@
+-- Why `Reader::pass_on` in src/groups.rt keeps its clause `passes`.
+
 use Rattle.std.proofs.Common.{map}
 use Rattle.ls_schedule.specs.Reading.{thread_name}
 use Rattle.ls_schedule.proofs.groups.Reader.pass_on.Goals as goal

@@ -1,3 +1,5 @@
+-- Why `Reader::pass_opening` in src/groups.rt keeps its clause `passes`.
+
 use Rattle.std.proofs.Common.{◌<◌, ◌≤◌, length, arith}
 use Rattle.ls_schedule.specs.Answers.{so_far}
 use Rattle.ls_schedule.proofs.Digits.{fails_of}

@@ -1,3 +1,5 @@
+-- Why `Reader::pass_word` in src/groups.rt keeps its clause `passes`.
+
 use Rattle.std.proofs.Common.{length, map}
 use Rattle.ls_schedule.specs.Answers.{so_far}
 use Rattle.ls_schedule.specs.Reading.{thread_name}

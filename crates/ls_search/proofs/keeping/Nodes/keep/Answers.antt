@@ -1,3 +1,5 @@
+-- Why `Nodes::keep` in src/keeping.rt keeps its clause `there`.
+
 use Rattle.std.proofs.Common.{length, refl, ap, ◌∙◌}
 use Rattle.std.specs.Prelude.{slice_get}
 use Rattle.ls_search.proofs.Pairs.{last_there}

@@ -1,3 +1,5 @@
+-- Why `Playing::control_at` in src/playing.rt keeps its contract.
+
 use Rattle.std.proofs.Common.{◌≡◌, ◌<◌, length, get_or, sym, ap, subst, ◌∙◌}
 use Rattle.std.proofs.lemmas.Bool.{ltb-true}
 use Rattle.std.specs.Prelude.{is_some}

@@ -1,3 +1,5 @@
+-- Why `Playing::next_at_once` in src/playing.rt keeps its clause `next`.
+
 use Rattle.std.proofs.Common.{ap, ◌∙◌}
 use Rattle.ls_events.specs.declared.action.Action.TheVariants.{Enter, Turn}
 use Rattle.ls_meaning.specs.Threads.{Goes}

@@ -1,3 +1,5 @@
+-- Why `Playing::next_of_thread` in src/playing.rt keeps its clause `next`.
+
 use Rattle.std.proofs.Common.{◌≡◌, ◌<◌, length, get_or, Some, sym, ap, subst, ◌∙◌}
 use Rattle.std.proofs.lemmas.Bool.{ltb-true}
 use Rattle.std.specs.Prelude.{is_some, slice_get, map, option_map}

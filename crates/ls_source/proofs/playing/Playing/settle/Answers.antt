@@ -1,3 +1,5 @@
+-- Why `Playing::settle` in src/playing.rt keeps its clauses `stands` and `threads`.
+
 use Rattle.std.proofs.Common.{◌<◌, length, rules, refl, ◌∙◌}
 use Rattle.std.proofs.lemmas.List.{length-set}
 use Rattle.ls_source.proofs.Standing.{has_settled}

@@ -1,3 +1,5 @@
+-- Why `Playing::step` in src/playing.rt keeps its clause `run` and what `act` requires.
+
 use Rattle.std.proofs.Common.{arith, rules, ◌≡◌, ◌≤◌, true, length, ap, subst}
 use Rattle.std.proofs.lemmas.List.{length-map}
 use Rattle.ls_checked.specs.PlainProgram.{plain_program, plain_thread}

@@ -1,9 +1,11 @@
+-- Why `SourceRun::has_started` in src/run.rt keeps its contract.
+
 use Rattle.std.proofs.Common.{◌≡◌}
 use Rattle.ls_meaning.specs.Runs.{has_started}
 use Rattle.ls_source.specs.Progress.{Progress}
 use Rattle.ls_source.specs.Shown.{progress_of}
 use Rattle.ls_source.specs.Stands.{StandsFor}
-use Rattle.ls_source.proofs.Stages.{ok_follows}
+use Rattle.ls_source.proofs.StoresAndEvents.{ok_follows}
 use Rattle.ls_source.proofs.Standing.{of_run}
 use Rattle.ls_source.proofs.run.SourceRun.has_started.Goals as goal
 

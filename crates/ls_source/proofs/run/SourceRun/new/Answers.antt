@@ -1,3 +1,5 @@
+-- Why `SourceRun::new` in src/run.rt keeps its contract.
+
 use Rattle.std.proofs.Common.{◌≡◌, ap, ◌∙◌}
 use Rattle.ls_checked.specs.Plain.{plain_file}
 use Rattle.ls_checked.specs.PlainProgram.{plain_program}

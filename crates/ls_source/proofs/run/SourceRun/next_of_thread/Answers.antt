@@ -1,3 +1,5 @@
+-- Why `SourceRun::next_of_thread` in src/run.rt keeps its contract.
+
 use Rattle.std.proofs.Common.{◌≡◌}
 use Rattle.ls_meaning.specs.Runs.{answers_of}
 use Rattle.ls_meaning.specs.Threads.{next}
@@ -5,7 +7,7 @@ use Rattle.ls_source.specs.Progress.{Progress}
 use Rattle.ls_source.specs.SeenThread.{plain_next}
 use Rattle.ls_source.specs.Shown.{progress_of}
 use Rattle.ls_source.specs.Stands.{StandsFor}
-use Rattle.ls_source.proofs.Stages.{ok_follows}
+use Rattle.ls_source.proofs.StoresAndEvents.{ok_follows}
 use Rattle.ls_source.proofs.Standing.{of_run}
 use Rattle.ls_source.proofs.run.SourceRun.next_of_thread.Goals as goal
 

@@ -1,3 +1,5 @@
+-- Why `SourceRun::step` in src/run.rt keeps its clauses `did`, `run` and `refused`.
+
 use Rattle.std.proofs.Common.{arith, ◌≡◌, ◌≤◌, ◌<◌, ◌++◌, ◌∷◌, [], length, ap, sym}
 use Rattle.std.specs.Prelude.{slice_set}
 use Rattle.std.proofs.lemmas.List.{length-map}
@@ -9,7 +11,7 @@ use Rattle.ls_source.specs.SeenRun.{lists_of}
 use Rattle.ls_source.specs.Shown.{progress_of}
 use Rattle.ls_source.specs.Stands.{StandsFor}
 use Rattle.ls_source.proofs.Histories.{none_is_idle, idle_stays}
-use Rattle.ls_source.proofs.Stages.{stays, pushed}
+use Rattle.ls_source.proofs.StoresAndEvents.{stays, pushed}
 use Rattle.ls_source.proofs.Standing.{of_run, held_lists, held_kept, held_shows, had_still, had_more, did_next}
 use Rattle.ls_source.proofs.Standing.{waits_unanswered, idle_unanswered}
 use Rattle.ls_source.proofs.run.SourceRun.step.Goals as goal

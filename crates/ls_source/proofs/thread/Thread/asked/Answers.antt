@@ -1,3 +1,5 @@
+-- Why `Thread::asked` in src/thread.rt keeps its contract.
+
 use Rattle.std.proofs.Common.{◌<◌, drop, map, length, rules, sym, ap, ◌∙◌}
 use Rattle.ls_checked.specs.PlainProgram.{plain_program, plain_call}
 use Rattle.ls_source_pending.specs.SeenPending.{state_of}

@@ -1,3 +1,5 @@
+-- Why `Thread::go_on` in src/thread.rt keeps its contract.
+
 use Rattle.std.proofs.Common.{ap, ◌∙◌}
 use Rattle.ls_checked.specs.Plain.{plain_file}
 use Rattle.ls_source.specs.Calls.{thread_meaning}

@@ -1,3 +1,5 @@
+-- Why `Pending::apply` in src/calls.rt keeps its contract and what `call` and `construct` require.
+
 use Rattle.ls_source_pending.proofs.pending.Pending.apply.Goals as goal
 
 pub call-requires : goal.call-requires

@@ -1,3 +1,5 @@
+-- Why `Pending::call` in src/calls.rt keeps its contract and what `read_pair` requires.
+
 use Rattle.ls_source_pending.proofs.pending.Pending.call.Goals as goal
 
 pub read_pair-requires : goal.read_pair-requires

@@ -1,3 +1,5 @@
+-- Why `Pending::evaluate` in src/expressions.rt keeps its contract and what it calls with.
+
 use Rattle.ls_source_pending.proofs.pending.Pending.evaluate.Goals as goal
 
 pub target-requires : goal.target-requires

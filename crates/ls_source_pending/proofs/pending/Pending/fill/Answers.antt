@@ -1,3 +1,5 @@
+-- Why `Pending::fill` in src/operands.rt keeps its contract and what it calls with.
+
 use Rattle.ls_source_pending.proofs.pending.Pending.fill.Goals as goal
 
 pub index-requires : goal.index-requires

@@ -1,3 +1,5 @@
+-- Why `Pending::is_left` in src/pending.rt keeps its contract.
+
 use Rattle.std.proofs.Common.{sym, ap, ◌∙◌}
 use Rattle.ls_source_pending.specs.Filled.{is_some}
 use Rattle.ls_source_pending.proofs.Stacks.{gives_left, ends_left}

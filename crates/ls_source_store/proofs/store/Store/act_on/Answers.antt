@@ -1,3 +1,5 @@
+-- Why `Store::act_on` in src/store.rt keeps its clauses `effect`, `err` and `waits`.
+
 use Rattle.std.proofs.Common.{arith, ◌<◌, ◌≤◌, ◌-◌, length, ap, ◌∙◌}
 use Rattle.std.proofs.Math.Seq.{map-set_same}
 use Rattle.ls_source_store.specs.SeenThing.{thing_of}

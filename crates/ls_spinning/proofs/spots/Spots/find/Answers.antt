@@ -1,3 +1,5 @@
+-- Why `Spots::find` in src/spots.rt keeps its contract.
+
 use Rattle.std.proofs.Common.{List, subst}
 use Rattle.ls_spinning.specs.declared.spots.Spot.{Spot}
 use Rattle.ls_spinning.specs.Spots.{IsPlaceAt}

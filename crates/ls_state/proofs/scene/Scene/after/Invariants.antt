@@ -1,3 +1,5 @@
+-- What the loop `thread` of `Scene::after` in src/scene.rt keeps.
+
 use Rattle.std.proofs.Common.{◌≡◌, drop}
 use Rattle.ls_checked.specs.Plain.{plain_file}
 use Rattle.ls_checked.specs.PlainProgram.{plain_program}

@@ -1,3 +1,5 @@
+-- Why `Scene::step` in src/scene.rt keeps its clause `scene`.
+
 use Rattle.ls_source.specs.Shown.{progress_of}
 use Rattle.ls_state.specs.Seen.{names_in}
 use Rattle.ls_state.proofs.EachStep.{scene_step}

@@ -1,3 +1,5 @@
+-- Why `Gathering::join` in src/gathering.rt keeps its contract and what it calls with.
+
 use Rattle.std.proofs.Common.{◌≡◌, ◌∙◌, ap, arith, length, rules, set, sym, vec_len}
 use Rattle.std.proofs.lemmas.List.{map-set}
 use Rattle.ls_tallies.specs.Places.{place_in, rows_of}

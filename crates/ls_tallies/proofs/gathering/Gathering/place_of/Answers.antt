@@ -1,3 +1,5 @@
+-- Why `Gathering::place_of` in src/gathering.rt keeps its contract.
+
 use Rattle.std.proofs.Common.{◌∙◌}
 use Rattle.ls_tallies.proofs.gathering.Gathering.place_of.Goals as goal
 

@@ -1,3 +1,5 @@
+-- Why `Gathering::push` in src/gathering.rt keeps its clauses `rows` and `indexed`.
+
 use Rattle.std.proofs.Common.{◌≡◌, ◌∙◌, ap, cond, length, map, rules, sym, Some}
 use Rattle.std.proofs.lemmas.List.{length-map, map_push}
 use Rattle.std.specs.Str.{bytes_eq}

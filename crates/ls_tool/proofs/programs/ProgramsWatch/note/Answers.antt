@@ -1,3 +1,5 @@
+-- Why `ProgramsWatch::note` in src/programs.rt keeps its contract.
+
 use Rattle.std.proofs.Common.{subst}
 use Rattle.ls_tool.specs.Output.{HasToldPrograms}
 use Rattle.ls_tool.proofs.Telling.{has_programs_more}

@@ -1,3 +1,5 @@
+-- Why `ProgressWatch::note` in src/progress.rt keeps its contract.
+
 use Rattle.std.proofs.Common.{subst}
 use Rattle.ls_tool.specs.Output.{HasTold}
 use Rattle.ls_tool.proofs.Telling.{has_told_more}

@@ -1,3 +1,5 @@
+-- Why `Heads::new` in src/heads.rt keeps its loop `place`.
+
 use Rattle.std.proofs.lemmas.List.Elements.{All-push, All-same}
 use Rattle.ls_labels.specs.Names.{names_of}
 use Rattle.ls_trace.specs.Deeds.{IsOfKey}

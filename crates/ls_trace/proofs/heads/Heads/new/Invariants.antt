@@ -1,3 +1,5 @@
+-- What the loop `place` of `Heads::new` in src/heads.rt keeps.
+
 use Rattle.std.specs.Prelude.{All}
 use Rattle.ls_labels.specs.Names.{names_of}
 use Rattle.ls_trace.specs.Deeds.{IsOfKey}

@@ -1,3 +1,5 @@
+-- Why `Teller::push_acted` in src/teller.rt keeps its clause `out`.
+
 use Rattle.std.proofs.Common.{◌++◌, ap, ◌∙◌, string_bytes}
 use Rattle.std.proofs.lemmas.Result.{on_ok_weaker}
 use Rattle.ls_labels.specs.Labels.{label_at}

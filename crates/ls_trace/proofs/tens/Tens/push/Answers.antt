@@ -1,3 +1,5 @@
+-- Why `Tens::push` in src/tens.rt keeps its clause `out`.
+
 use Rattle.std.proofs.Common.{◌++◌, ap, ◌∙◌, arith, string_bytes}
 use Rattle.ls_trace.proofs.Digits.{told_in_parts}
 use Rattle.ls_trace.proofs.tens.Tens.push.Goals as goal

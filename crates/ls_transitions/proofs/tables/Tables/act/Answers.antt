@@ -1,3 +1,5 @@
+-- Why `Tables::act` in src/tables.rt keeps its clause `acted`.
+
 use Rattle.std.proofs.Common.{List, refl, sym, ap, ◌∙◌}
 use Rattle.std.specs.Prelude.{map}
 use Rattle.ls_events.specs.declared.value.Value.{Value}

@@ -1,3 +1,5 @@
+-- Why `Tables::keep_store` in src/tables.rt keeps its clause `grows`.
+
 use Rattle.std.proofs.Common.{refl}
 use Rattle.ls_transitions.proofs.tables.Tables.keep_store.Goals as goal
 

@@ -1,3 +1,5 @@
+-- Why `Tables::make` in src/tables.rt keeps its clause `made` and what `act` requires.
+
 use Rattle.std.proofs.Common.{sym, ap, ◌∙◌}
 use Rattle.std.proofs.lemmas.Result.{IfOk-weaker}
 use Rattle.ls_checked.specs.Plain.{plain_file}

@@ -1,3 +1,5 @@
+-- Why `Transitions::keep` in src/transitions.rt keeps its contract.
+
 use Rattle.std.proofs.Common.{[], ◌∷◌, ◌++◌, sym, ap, subst, ◌∙◌}
 use Rattle.ls_transitions.specs.SeenTables.{tables_of}
 use Rattle.ls_transitions.specs.Known.{AreKnown}

@@ -1,3 +1,5 @@
+-- Why `Transitions::make` in src/transitions.rt keeps what `keep` requires.
+
 use Rattle.ls_transitions.specs.SeenTables.{tables_of}
 use Rattle.ls_transitions.proofs.Knowing.{still_known, known_now}
 use Rattle.ls_transitions.proofs.transitions.Transitions.make.Goals as goal

@@ -1,3 +1,5 @@
+-- Why `Transitions::next` in src/transitions.rt keeps its clause `made`.
+
 use Rattle.std.proofs.Common.{sym, ap, ◌∙◌}
 use Rattle.std.specs.Prelude.{slice_get}
 use Rattle.ls_transitions.specs.SeenTables.{tables_of}

@@ -1,3 +1,5 @@
+-- Why `Transitions::store_number` in src/transitions.rt keeps its contract.
+
 use Rattle.ls_transitions.specs.SeenTables.{tables_of}
 use Rattle.ls_transitions.proofs.Knowing.{still_known}
 use Rattle.ls_transitions.proofs.transitions.Transitions.store_number.Goals as goal

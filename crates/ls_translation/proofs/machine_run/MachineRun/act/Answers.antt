@@ -1,3 +1,5 @@
+-- Why `MachineRun::act` in src/machine_run.rt keeps its clause `run` and its loop `taken`.
+
 use Rattle.std.proofs.Common.{◌-◌, ◌+◌, sym, ◌∙◌, arith}
 use Rattle.ls_translation.proofs.MachineRuns.{loud_ends, loud_step, silent_goes, silent_step}
 use Rattle.ls_translation.proofs.machine_run.MachineRun.act.Goals as goal

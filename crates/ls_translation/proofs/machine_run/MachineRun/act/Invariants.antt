@@ -1,3 +1,5 @@
+-- What the loop `taken` of `MachineRun::act` in src/machine_run.rt keeps.
+
 use Rattle.std.proofs.Common.{◌≡◌, ◌-◌}
 use Rattle.ls_preservation.specs.Translations.{until_acts}
 use Rattle.ls_translation.specs.MachineRuns.{gone}

@@ -1,3 +1,5 @@
+-- Why `MachineRun::finish` in src/machine_run.rt keeps its loop `taken`.
+
 use Rattle.std.proofs.Common.{◌-◌, ◌+◌, sym, ◌∙◌, arith}
 use Rattle.ls_translation.proofs.MachineRuns.{over_goes}
 use Rattle.ls_translation.proofs.machine_run.MachineRun.finish.Goals as goal

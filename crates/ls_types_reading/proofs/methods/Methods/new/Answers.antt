@@ -1,5 +1,7 @@
+-- Why `Methods::new` in src/methods.rt keeps its contract.
+
 use Rattle.std.proofs.Common.{◌∙◌, ap, map}
-use Rattle.ls_types.specs.CheckedFile.{signs_of}
+use Rattle.ls_types_checked.specs.CheckedFile.{signs_of}
 use Rattle.ls_types_reading.specs.MethodsByName.{declares}
 use Rattle.ls_types_reading.proofs.ByName.{class_finds}
 use Rattle.ls_types_reading.proofs.methods.Methods.new.Goals as goal

@@ -1,3 +1,5 @@
+-- Why `SetupNames::with` in src/setup_names.rt keeps its contract.
+
 use Rattle.std.proofs.Common.{rules}
 use Rattle.ls_types_reading.proofs.ByName.{setup_pushed}
 use Rattle.ls_types_reading.proofs.setup_names.SetupNames.with.Goals as goal

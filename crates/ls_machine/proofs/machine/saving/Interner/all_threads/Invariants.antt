@@ -1,3 +1,5 @@
+-- What the loop `i` of `Interner::all_threads` in src/machine/saving.rt keeps.
+
 use Rattle.std.proofs.Common.{◌≡◌, map, take}
 use Rattle.ls_machine.proofs.machine.saving.Interner.all_threads.Given as goal
 

@@ -1,9 +1,0 @@
-use Rattle.std.proofs.Common.{◌∙◌, ap}
-use Rattle.ls_batch_tally.specs.Numbers.{number_onto}
-use Rattle.ls_batch_tally.proofs.keys.history_key.Goals as goal
-
-pub returns : goal.returns
-returns c =
-    let events = c.in_ok-events.ensures in
-    let number = c.number_of-number.ensures ∙ ap (number_onto 0) (c.as_slice.ensures.value ∙ events) in
-    λ i. record { number = number i; events = events i }

@@ -1,6 +1,0 @@
-use Rattle.std.proofs.Common.{◌≡◌, drop}
-use Rattle.ls_batch_tally.specs.Numbers.{number_onto}
-use Rattle.ls_batch_tally.proofs.keys.number_of.Given as goal
-
-abbrev pub invariant-loop-event : goal.invariant-loop-event
-invariant-loop-event l = number_onto l.number (drop l.event-index l.events) ≡ number_onto 0 l.events

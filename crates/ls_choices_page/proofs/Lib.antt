@@ -1,4 +1,0 @@
-pub mod Numbered
-pub mod Numbering
-pub mod Doubting
-pub mod Joined

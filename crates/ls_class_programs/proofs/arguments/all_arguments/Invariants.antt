@@ -1,0 +1,13 @@
+-- What the loop `parameter` of `all_arguments` in src/arguments.rt keeps.
+
+use Rattle.std.proofs.Common.{◌≡◌, ◌≤◌, length, take, map, string_bytes}
+use Rattle.ls_tree.specs.Views.{bare_parameter}
+use Rattle.ls_class_programs.specs.Menus.{all_arguments}
+use Rattle.ls_class_programs.proofs.arguments.all_arguments.Given as goal
+
+abbrev pub invariant-loop-parameter : goal.invariant-loop-parameter
+invariant-loop-parameter l = record {
+  taken : map string_bytes l.all.items ≡
+      all_arguments l.most (map bare_parameter (take l.parameter-index l.parameters));
+  few : length l.all.items ≤ 1000;
+}

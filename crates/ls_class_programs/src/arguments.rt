@@ -1,0 +1,100 @@
+// Lists of arguments.
+
+ghost use Rattle.std.specs.Prelude.{◌≡◌, ◌<◌, ◌≤◌, ◌*◌, ◌++◌, ◌∷◌, [], IfErr, IfOk, IsErrOf, OnOk, codes, length, map};
+ghost use Rattle.std.specs.Prelude.{string_bytes};
+ghost use Rattle.ls_items.specs.Cutting.{plain_text};
+ghost use Rattle.ls_tree.specs.Views.{bare_parameter, bare_type};
+ghost use Rattle.ls_class_programs.specs.Limits.{AreTooMany};
+ghost use Rattle.ls_class_programs.specs.Menus.{all_arguments, and_then, arguments_of, with_argument};
+
+use crate::menu_fault::MenuFault;
+use ls_tree::tree::{Parameter, Type};
+use std::alloc::{AllocError, Global};
+
+/// The most integers that an argument may be.
+pub const MOST_VALUES: usize = 9;
+
+/// The most lists of arguments of a method.
+const MOST_LISTS: usize = 1000;
+
+static INTEGERS: [&str; 9] = ["1", "2", "3", "4", "5", "6", "7", "8", "9"];
+
+static BOOLEANS: [&str; 2] = ["false", "true"];
+
+/// What an argument of a type may be.
+fn arguments_of(most: usize, type_name: &Type) -> &'static [&'static str]
+    requires { most ≤ 9 }
+    ensures is { map plain_text result.now ≡ arguments_of most (bare_type type_name.now) }
+    ensures few { length result.now ≤ 9 }
+{
+    match type_name {
+        Type::Int => &INTEGERS[..most],
+        Type::Boolean => &BOOLEANS,
+        Type::BooleanArray | Type::Class(_) | Type::Markable(_) => &[],
+    }
+}
+
+/// Arguments, and one more.
+fn and_then(alloc: Global, begun: &str, argument: &str) -> Result<String, AllocError>
+    ensures { IfOk result (λ text. string_bytes text ≡ and_then begun.now argument.now) }
+{
+    let mut text = String::from_str(alloc, begun)?;
+    if !begun.is_empty() {
+        text.push_str(", ")?;
+    }
+    text.push_str(argument)?;
+    Ok(text)
+}
+
+/// Adds a list of arguments, with each of those arguments after it.
+fn push_each(
+    alloc: Global,
+    all: &mut Vec<String>,
+    begun: &str,
+    more: &[&str],
+) -> Result<(), AllocError>
+    ensures { OnOk result (map string_bytes all.new.items ≡ map string_bytes all.old.items ++
+        map (and_then begun.now) (map plain_text more.now)) }
+{
+    for argument in more {
+        let text = and_then(alloc, begun, argument)?;
+        all.push(text)?;
+    }
+    Ok(())
+}
+
+/// Each list of arguments, with each of those arguments after it.
+fn with_argument(alloc: Global, begun: &[String], more: &[&str]) -> Result<Vec<String>, AllocError>
+    ensures { IfOk result (λ all. map string_bytes all.items ≡
+        with_argument (map string_bytes begun.now) (map plain_text more.now)) }
+{
+    let mut all = Vec::new(alloc);
+    for text in begun {
+        push_each(alloc, &mut all, text.as_str(), more)?;
+    }
+    Ok(all)
+}
+
+/// All lists of arguments for parameters, where an int is one of the first so many integers.
+pub(crate) fn all_arguments(
+    alloc: Global,
+    most: usize,
+    parameters: &[Parameter],
+) -> Result<Vec<String>, MenuFault>
+    requires { most ≤ 9 }
+    ensures all { IfOk result (λ all. map string_bytes all.items ≡
+        all_arguments most (map bare_parameter parameters.now)) }
+    ensures many { IsErrOf result MenuFault.TooMany → AreTooMany most (map bare_parameter parameters.now) }
+{
+    let mut all = Vec::new(alloc);
+    all.push(String::new(alloc))?;
+    for parameter in parameters {
+        let more = arguments_of(most, &parameter.type_name);
+        if all.len() * more.len() > MOST_LISTS {
+            return Err(MenuFault::TooMany);
+        }
+        let longer = with_argument(alloc, all.as_slice(), more)?;
+        all = longer;
+    }
+    Ok(all)
+}

@@ -1,3 +1,0 @@
-pub mod Begins
-pub mod Leasts
-pub mod Acting

@@ -1,4 +1,0 @@
-use Rattle.ls_cuts.proofs.least.least_with.Goals as goal
-
-pub cut_on-requires : goal.cut_on-requires
-cut_on-requires c = (c.requires.events, c.requires.named)

@@ -1,9 +1,0 @@
-use Rattle.std.proofs.Common.{◌≡◌, ◌++◌, drop, string_bytes}
-use Rattle.ls_state.specs.Parts.{numbered}
-use Rattle.ls_drawing.specs.Drawing.{field_arrow}
-use Rattle.ls_drawing.proofs.drawing.push_field_arrows.Given as goal
-
-abbrev pub invariant-loop-field : goal.invariant-loop-field
-invariant-loop-field l =
-    string_bytes l.out ++ numbered (field_arrow l.object) l.field (drop l.field l.fields)
-    ≡ string_bytes l.fn.out ++ numbered (field_arrow l.object) 0 l.fields

@@ -1,0 +1,12 @@
+-- Why `stays_within` in src/room.rt keeps its contract.
+
+use Rattle.ls_explore.proofs.Stopping.{within_right}
+use Rattle.ls_explore.proofs.room.stays_within.Goals as goal
+
+pub returns : goal.returns
+returns c = λ file program code asks in_file in_program sound.
+    within_right file program code asks
+    (record {
+      renames = λ ρ r t had. c.next_renames.ensures file program in_file in_program ρ r t had;
+      sound = sound.sound;
+    })

@@ -1,8 +1,0 @@
-use Rattle.ls_checked.specs.Plain.{plain_file}
-use Rattle.ls_checked.specs.PlainProgram.{plain_program}
-use Rattle.ls_source.specs.Shown.{progress_of}
-use Rattle.ls_explore_images.proofs.Settings.{IsAfter}
-use Rattle.ls_explore_images.proofs.setting.setting_of.Given as goal
-
-abbrev pub invariant-loop-count : goal.invariant-loop-count
-invariant-loop-count l = IsAfter (plain_file l.file) (plain_program l.program) l.count (progress_of l.run)

@@ -1,8 +1,0 @@
-pub mod Additions
-pub mod Bodies
-pub mod Entries
-pub mod Guesses
-pub mod Lines
-pub mod Listed
-pub mod Ordered
-pub mod WordLemmas

@@ -1,5 +1,0 @@
-use Rattle.ls_find_ranges.proofs.Bodies.{strip_text}
-use Rattle.ls_find_ranges.proofs.programs.after.Goals as goal
-
-pub returns : goal.returns
-returns c = strip_text c.args.front.now c.args.text.now c.strip_prefix.result c.strip_prefix.ensures.cases

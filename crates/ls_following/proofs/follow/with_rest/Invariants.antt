@@ -1,8 +1,0 @@
-use Rattle.std.proofs.Common.{◌≡◌, ◌++◌, vec_capacity}
-use Rattle.ls_following.proofs.follow.with_rest.Given as goal
-
-abbrev pub invariant-loop-seat : goal.invariant-loop-seat
-invariant-loop-seat l = record {
-  seats : l.seats.items ≡ l.fn.joined.seats.items ++ l.yielded;
-  room : vec_capacity l.seats ≡ vec_capacity l.fn.joined.seats;
-}

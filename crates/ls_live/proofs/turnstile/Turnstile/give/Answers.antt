@@ -1,0 +1,14 @@
+-- Why `Turnstile::give` in src/turnstile.rt keeps what `store` requires.
+
+use Rattle.std.proofs.Common.{ap, ◌∙◌, sym, arith}
+use mathlib.Core.Option.{none}
+use Rattle.atomic_table.specs.Table.{step}
+use Rattle.ls_live.proofs.Moves.{give_moves}
+use Rattle.ls_live.proofs.turnstile.Turnstile.give.Goals as goal
+
+pub store-requires : goal.store-requires
+store-requires c = let i = c.self.invariant in let v = c.requires.view in (
+  c.requires.id ∙ ap (λ s. s.id) (sym c.self.view_is),
+  omega arith,
+  give_moves _ _ _ _ _ _ _ (step 0 0 0 0 none) v.0 v.1 c.requires.held v.2,
+)

@@ -1,3 +1,0 @@
-pub mod Books
-pub mod Due
-pub mod Threads

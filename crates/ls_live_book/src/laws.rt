@@ -1,8 +1,0 @@
-// Laws of the definitions.
-
-ghost use Rattle.ls_live_book.specs.Due.{DueIsNotIdle};
-
-/// If a thread is due, its step does something: the machine doesn't answer it `Idle`.
-pub fn due_is_not_idle()
-    ensures { DueIsNotIdle }
-{}

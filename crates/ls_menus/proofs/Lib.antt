@@ -1,4 +1,0 @@
-pub mod Steps
-pub mod Counted
-pub mod Choices
-pub mod Lines

@@ -1,9 +1,0 @@
-use Rattle.std.proofs.Common.{◌≡◌, false, map, take}
-use Rattle.std.specs.List.{list_any}
-use Rattle.ls_tree.specs.Views.{bare_modifiers}
-use Rattle.ls_menus.specs.Menus.{is_private}
-use Rattle.ls_menus.proofs.menus.are_locked_private.Given as goal
-
-abbrev pub invariant-loop-modifiers : goal.invariant-loop-modifiers
-invariant-loop-modifiers l =
-    list_any (list_any is_private) (map bare_modifiers (take l.modifiers-index l.locked)) ≡ false

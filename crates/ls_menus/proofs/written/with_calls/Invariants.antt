@@ -1,9 +1,0 @@
-use Rattle.std.proofs.Common.{◌≡◌, [], drop, map, string_bytes}
-use Rattle.ls_parts.specs.Cutting.{plain_text}
-use Rattle.ls_menus.specs.Written.{with_calls}
-use Rattle.ls_menus.proofs.written.with_calls.Given as goal
-
-abbrev pub invariant-loop-piece : goal.invariant-loop-piece
-invariant-loop-piece l =
-    with_calls (string_bytes l.out) (map plain_text (drop l.piece-index l.pieces)) ≡
-    with_calls [] (map plain_text l.pieces)

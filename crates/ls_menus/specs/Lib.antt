@@ -1,4 +1,0 @@
-pub mod Menus
-pub mod Meant
-pub mod Limits
-pub mod Written

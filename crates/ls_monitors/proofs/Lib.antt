@@ -1,5 +1,0 @@
-pub mod Parts
-pub mod Kept
-pub mod Named
-pub mod Leaving
-pub mod Held

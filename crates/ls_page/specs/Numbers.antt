@@ -1,0 +1,36 @@
+-- Texts by number.
+use Rattle.std.specs.Prelude.{◌≡◌, ℕ, List, [], ◌∷◌, Some, map, slice_get, string_bytes}
+use Rattle.std.specs.declared.vec.Vec.{Vec}
+use Rattle.std.specs.declared.alloc.Global.{Global}
+use Rattle.ls_events.specs.declared.event.Event.{Event}
+use Rattle.ls_checked.specs.CheckedProgram.{Program}
+use Rattle.ls_report.specs.Events.{Text}
+use Rattle.ls_report.specs.Printing.{run_text}
+use Rattle.ls_choices.specs.Rows.{Row}
+use Rattle.ls_page.specs.declared.table.Table.{Table}
+
+-- the texts of a table, by number
+abbrev pub texts_in : Table → List Text
+texts_in t = map string_bytes t.texts.items
+
+abbrev pub numbers_in : List (Vec ℕ Global) → List (List ℕ)
+numbers_in all = map (λ v. v.items) all
+
+-- these are the texts that have these numbers, one by one
+abbrev pub AreNumbers : List Text → List ℕ → List Text → Type 0
+AreNumbers table numbers texts = map (slice_get table) numbers ≡ map Some texts
+
+-- the same of lists
+abbrev pub AreAllNumbers : List Text → List (List ℕ) → List (List Text) → Type 0
+AreAllNumbers table numbers texts = map (map (slice_get table)) numbers ≡ map (map Some) texts
+
+-- what is told of the steps
+abbrev pub row_words : List Row → List Text
+row_words rows = map (λ row. row.words) rows
+
+-- what `source` prints of an event alone
+abbrev pub event_line : Program → Event → Text
+event_line program event = run_text program (event ∷ [])
+
+abbrev pub event_lines : Program → List Event → List Text
+event_lines program events = map (event_line program) events

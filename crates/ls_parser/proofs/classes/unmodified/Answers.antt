@@ -1,6 +1,0 @@
-use Rattle.ls_parser.proofs.Places.{without_result}
-use Rattle.ls_parser.proofs.classes.unmodified.Goals as goal
-
-pub returns-in-Some-clause-places : goal.returns-in-Some-clause-places
-returns-in-Some-clause-places c =
-    without_result c.method.result _ c.in-Some.ensures.placed c.new.ensures.items c.method.ensures.places

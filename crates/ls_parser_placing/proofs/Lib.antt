@@ -1,4 +1,0 @@
-pub mod Wholes
-pub mod Forgets
-pub mod Puts
-pub mod Views

@@ -1,4 +1,0 @@
-pub mod Unplaced
-pub mod Outlines
-pub mod Files
-pub mod Laws

@@ -1,4 +1,0 @@
-pub mod Temporaries
-pub mod Lowered
-pub mod ValueWords
-pub mod Calls

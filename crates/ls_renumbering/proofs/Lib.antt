@@ -1,3 +1,0 @@
-pub mod Apart
-pub mod Things
-pub mod Works

@@ -1,6 +1,0 @@
-use Rattle.std.proofs.Common.{drop}
-use Rattle.ls_renumbering.specs.Renumbered.{ArePlaced}
-use Rattle.ls_renumbering.proofs.renumbering.are_placed.Given as goal
-
-abbrev pub invariant-loop-place : goal.invariant-loop-place
-invariant-loop-place l = ArePlaced l.back l.place (drop l.place l.numbers) → ArePlaced l.back 0 l.numbers

@@ -1,6 +1,0 @@
-use Rattle.std.proofs.Common.{◌∙◌, sym}
-use Rattle.ls_rests_observer.proofs.Sets.{same_rests}
-use Rattle.ls_rests_observer.proofs.ordering.are_same_rests.Goals as goal
-
-pub returns : goal.returns
-returns c = λ yes events. same_rests c.args.rests.now c.args.others.now (sym c.eq.ensures ∙ yes) events

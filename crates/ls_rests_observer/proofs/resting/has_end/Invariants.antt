@@ -1,9 +1,0 @@
-use Rattle.std.proofs.Common.{◌≡◌, drop}
-use Rattle.ls_serial_observer.specs.Resting.{gives}
-use Rattle.ls_serial_observer.specs.Same.{same_event}
-use Rattle.ls_rests_observer.specs.Numbered.{events_at}
-use Rattle.ls_rests_observer.proofs.resting.has_end.Given as goal
-
-abbrev pub invariant-loop-i : goal.invariant-loop-i
-invariant-loop-i l =
-    gives same_event (events_at l.events (drop l.i l.rest)) l.end ≡ gives same_event (events_at l.events l.rest) l.end

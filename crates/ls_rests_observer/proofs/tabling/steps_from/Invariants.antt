@@ -1,8 +1,0 @@
-use Rattle.ls_rests_observer.specs.Stepped.{AreStepsOf, Grows}
-use Rattle.ls_rests_observer.proofs.tabling.steps_from.Given as goal
-
-abbrev pub invariant-loop-i : goal.invariant-loop-i
-invariant-loop-i l = record {
-  grows : Grows l.initial.known.items l.known.items;
-  steps : AreStepsOf l.events l.known.items l.at l.steps.items;
-}

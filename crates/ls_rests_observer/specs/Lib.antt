@@ -1,5 +1,0 @@
-pub mod Numbered
-pub mod Listed
-pub mod Stepped
-pub mod Watched
-pub mod Laws

@@ -1,2 +1,0 @@
-pub mod Progressing
-pub mod Numbers

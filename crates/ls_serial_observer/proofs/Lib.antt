@@ -1,5 +1,0 @@
-pub mod There
-pub mod Same
-pub mod Remaining
-pub mod Explaining
-pub mod Judging

@@ -1,8 +1,0 @@
-use Rattle.ls_serial_observer.proofs.Judging.{good_is, refuted_is_not}
-use Rattle.ls_serial_observer.proofs.laws.refuted_is_not_linearizable.Goals as goal
-
-pub returns-clause-exact : goal.returns-clause-exact
-returns-clause-exact c = refuted_is_not
-
-pub returns-clause-good : goal.returns-clause-good
-returns-clause-good c = good_is

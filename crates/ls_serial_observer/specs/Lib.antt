@@ -1,3 +1,0 @@
-pub mod Resting
-pub mod Judging
-pub mod Same

@@ -1,7 +1,0 @@
-use Rattle.std.proofs.Common.{◌≡◌, take}
-use Rattle.std.specs.Prelude.{map}
-use Rattle.ls_events.specs.declared.value.Value.TheVariants.{Reference}
-use Rattle.ls_source.proofs.stage.no_objects.Given as goal
-
-abbrev pub invariant-loop-name : goal.invariant-loop-name
-invariant-loop-name l = l.values.items ≡ map (λ n. Reference 0) (take l._name-index l.names)

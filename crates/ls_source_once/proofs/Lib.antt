@@ -1,4 +1,0 @@
-mod Stages
-mod Pushed
-mod Acting
-pub mod Once

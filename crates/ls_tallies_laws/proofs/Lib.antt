@@ -1,6 +1,0 @@
-pub mod Rows
-pub mod Seeds
-pub mod Merged
-pub mod Alone
-pub mod Apart
-pub mod Batched

@@ -1,4 +1,0 @@
-pub mod BlockLemmas
-pub mod HeadLemmas
-pub mod EntryLemmas
-pub mod Listed

@@ -1,9 +1,0 @@
-use Rattle.std.proofs.Common.{◌∙◌, ap}
-use Rattle.std.specs.Result.{result_ok}
-use Rattle.std.proofs.lemmas.Fmt.{parse-decimal}
-use Rattle.ls_tallies_reading.proofs.heads.number_in.Goals as goal
-
-pub returns : goal.returns
-returns c = λ n small e.
-    c.ok.ensures.value ∙ ap result_ok (parse-decimal 64 n c.args.text.now c.parse.result small small e
-    c.parse.ensures.value.0)

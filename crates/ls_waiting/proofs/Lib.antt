@@ -1,5 +1,0 @@
-pub mod Places
-pub mod Runs
-mod Splits
-mod Inside
-mod Pending

@@ -1,7 +1,0 @@
-use Rattle.std.proofs.Common.{Contains}
-use Rattle.ls_serial.specs.Serial.{IsCall}
-use Rattle.ls_waiting.proofs.Places.{AreSo}
-use Rattle.ls_waiting.proofs.explaining.are_called.Given as goal
-
-abbrev pub invariant-loop-place : goal.invariant-loop-place
-invariant-loop-place l = AreSo l.events (λ k y. IsCall y → Contains l.history y) l.place
