@@ -15,10 +15,10 @@ CRATES = HERE.parents[2] / "crates"
 OUT = pathlib.Path(sys.argv[1])
 NAMES = ("ls_lexer", "ls_events", "ls_tree", "ls_parser_tokens", "ls_parser_expressions", "ls_parser_declarations",
          "ls_parser_statements", "ls_parser", "ls_checked", "ls_types_elaboration", "ls_types_tables",
-         "ls_together", "ls_types_expressions", "ls_types_statements", "ls_types", "ls_types_files")
+         "ls_together", "ls_types_expressions", "ls_types_statements", "ls_types_checked", "ls_types_files")
 # crates whose code stands in their root
 ROOTS = ("ls_together",)
-KEPT = {"ls_events": ("value",), "ls_checked": ("tree",), "ls_types": ("checked",)}
+KEPT = {"ls_events": ("value",), "ls_checked": ("tree",), "ls_types_checked": ("checked",)}
 
 
 def plain(text):
@@ -29,6 +29,7 @@ def plain(text):
     text = re.sub(r"^( *///.*\n)+( *pub ghost )", r"\2", text, flags=re.M)
     text = re.sub(r"^ *(pub(\(crate\))? )?ghost .*\n", "", text, flags=re.M)
     text = re.sub(r"^ *(requires|ensures)\b.*\n", "", text, flags=re.M)
+    text = re.sub(r"(fn fmt)<W: Write>(\(&self, f: &mut Formatter)<W>", r"\1\2<'_>", text)
     text = re.sub(r"^use (std::alloc|thiserror|ls_types_laws).*\n", "", text, flags=re.M)
     text = re.sub(r"^ *elaborates_well_typed\(\);\n", "", text, flags=re.M)
     text = re.sub(r"^ *#\[error.*\n", "", text, flags=re.M)

@@ -15,7 +15,7 @@ mod ls_parser_expressions;
 mod ls_parser_tokens;
 mod ls_together;
 mod ls_tree;
-mod ls_types;
+mod ls_types_checked;
 mod ls_types_files;
 mod ls_types_tables;
 mod memory;
@@ -27,14 +27,14 @@ fn main() {
     let mut text = String::new();
     std::io::stdin().read_to_string(&mut text).expect("a text");
     let check = std::env::args().nth(1).as_deref() == Some("check");
-    let parsed = match ls_parser::parse::parse_text(Global, &text) {
+    let parsed = match ls_parser::parsing::parse_text(Global, &text) {
         Ok(parsed) => parsed,
         Err(fault) => return println!("{fault:?}"),
     };
     if !check {
         return println!("parsed");
     }
-    match ls_types_files::check::check(Global, parsed) {
+    match ls_types_files::checking::check(Global, parsed) {
         Ok(_) => println!("accepted"),
         Err(fault) => println!("{fault:?}"),
     }
