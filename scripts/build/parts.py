@@ -26,7 +26,9 @@ def homes(bodies, uses, count):
             users.setdefault(name, []).append(user)
 
     def first(name):
-        while len(users.get(name, ())) == 1:
+        passed = set()
+        while len(users.get(name, ())) == 1 and name not in passed:
+            passed.add(name)
             name = users[name][0]
         return name
 
