@@ -117,10 +117,18 @@ fn first_left<'a>(
     Ok(None)
 }
 
-/// So many steps of the setup, and then these.
-fn with_setup(alloc: Global, setup: usize, path: &[u8]) -> Result<Vec<u8>, AllocError> {
+/// So many steps of the setup, and then those that lead to the state at a place.
+fn steps_with_setup(
+    alloc: Global,
+    setup: usize,
+    nodes: &[Node],
+    at: usize,
+) -> Result<Vec<u8>, AllocError>
+    requires { at < length nodes.now }
+{
+    let path = steps_to(alloc, nodes, at)?;
     let mut steps = vec![in alloc; 0; setup]?;
-    steps.extend_from_slice(path)?;
+    steps.extend_from_slice(&path)?;
     Ok(steps)
 }
 
@@ -177,9 +185,6 @@ pub(crate) fn left_over(
     };
     match first_left(alloc, &mut transitions, &states)? {
         None => Ok(Left::Nothing),
-        Some(at) => {
-            let path = steps_to(alloc, &found.nodes, at)?;
-            Ok(Left::Steps(with_setup(alloc, setup, &path)?))
-        }
+        Some(at) => Ok(Left::Steps(steps_with_setup(alloc, setup, &found.nodes, at)?)),
     }
 }

@@ -17,6 +17,13 @@ use ls_lowered::fault::LowerFault;
 use ls_lowered::tree::{File, Method};
 use std::alloc::Global;
 
+// Puts a value in the place of another, which is dropped here, at a parameter's type.
+fn replace<T: Drop>(place: &mut T, value: T)
+    ensures { place.new ≡ value }
+{
+    *place = value;
+}
+
 // Leaves a method without `try`, if it has few enough copies. A method that needs no lowering stays as it is.
 fn lower_method(alloc: Global, method: &mut Method) -> Result<(), LowerFault>
     requires { locals_of (plain_method method.old) ≤ most_locals }
@@ -30,7 +37,8 @@ fn lower_method(alloc: Global, method: &mut Method) -> Result<(), LowerFault>
         free: method.arguments + method.locals,
         count: 0,
     };
-    method.body = lowering.flatten(alloc, &method.body)?;
+    let body = lowering.flatten(alloc, &method.body)?;
+    replace(&mut method.body, body);
     method.locals = lowering.free - method.arguments;
     Ok(())
 }

@@ -26,8 +26,8 @@ use Rattle.ls_emit.proofs.Placed.{row_at, Placed, placed}
 use Rattle.ls_linker.specs.Quick.{InFrame, FramesAreQuick}
 use Rattle.ls_code.specs.Exchanges.{Plan}
 use Rattle.ls_code.specs.Steps.{Move, Silent, Plans, thread_move, fetched_move}
-use Rattle.ls_linker.proofs.Silent.{IsASee, Ahead, Back, AllBehind, AllAt, RowsLead, turned, rows_lead}
-use Rattle.ls_linker.proofs.Silent.{method_ahead}
+use Rattle.ls_linker.proofs.Silent.{IsASee, Ahead, Back, AllBehind, AllAt, turned}
+use Rattle.ls_linker.proofs.SilentStatements.{RowsLead, rows_lead, method_ahead}
 use Rattle.ls_linker.proofs.Onward.{Onto, silent_on, find_leads}
 
 -- SEE is at a place

@@ -27,6 +27,8 @@ pub mod SizeCounts
 pub mod Counted
 pub mod WholeCounts
 pub mod Silent
+pub mod SilentExpressions
+pub mod SilentStatements
 pub mod Onward
 pub mod Framed
 pub mod OwnSteps

@@ -25,7 +25,8 @@ use Rattle.ls_code.specs.declared.instruction.Resume.TheVariants.{Settle}
 use Rattle.ls_code.specs.declared.instruction.ThreadInstruction.TheVariants as wide
 use Rattle.ls_code.specs.declared.instruction.Instruction.{Instruction}
 use Rattle.ls_code.specs.declared.instruction.Instruction.TheVariants as op
-use Rattle.ls_linker.proofs.Silent.{Ahead, RowsLead}
+use Rattle.ls_linker.proofs.Silent.{Ahead}
+use Rattle.ls_linker.proofs.SilentStatements.{RowsLead}
 
 -- the row that is found leads ahead
 test : (r : HandlerRow) (place : ℕ) → (nat_le r.from place && nat_lt place r.to) ≡ true → place < r.to
