@@ -1,3 +1,5 @@
+// How a class text is divided into tokens.
+
 use ls_lexer::lexing::lex;
 use ls_lexer::names::is_name;
 use ls_lexer::sign::Sign;
