@@ -101,13 +101,18 @@ counted_at ks =
     given (after_sign signs.Increment ks) (λ rest. Some (true, rest))
     (after_sign signs.Decrement ks >>= λ rest. Some (false, rest))
 
+-- a count after its target, or a call or the making of an object
+abbrev pub stepped_at : Expression → Reader Simple
+stepped_at target ks =
+    given (counted_at ks) (λ up. Some (Count up.0 false target, up.1))
+    (if is_call target then Some (Evaluate target, ks) else None)
+
 -- what comes after an expression without an operator, with that expression
 abbrev pub used_at : Reader Expression → Expression → Reader Simple
 used_at expression target ks =
     given (after_sign signs.Assign ks) (λ rest. expression rest >>= λ value. Some (Assign target value.0, value.1))
     (given (after_sign signs.PlusAssign ks) (λ rest. expression rest >>= λ value. Some (Add target value.0, value.1))
-    (given (counted_at ks) (λ up. Some (Count up.0 false target, up.1))
-    (if is_call target then Some (Evaluate target, ks) else None)))
+    (stepped_at target ks))
 
 abbrev pub simple_from : Reader Expression → Reader Expression → Reader Simple
 simple_from post expression ks =

@@ -15,7 +15,7 @@ ghost use Rattle.ls_parser_spelling.specs.StatementPlaces.{StatementAt};
 ghost use Rattle.ls_parser_tokens.specs.Answers.{ReadsAs, Finds};
 ghost use Rattle.ls_parser_tokens.specs.Reading.{one_more, behind_comma};
 ghost use Rattle.ls_parser_expressions.specs.ReadingExpressions.{expression_at, post_at};
-ghost use Rattle.ls_parser_statements.specs.ReadingStatements.{counted_at, used_at, simple_from, simple_at};
+ghost use Rattle.ls_parser_statements.specs.ReadingStatements.{counted_at, stepped_at, used_at, simple_from, simple_at};
 ghost use Rattle.ls_parser_statements.specs.ReadingStatements.{simples_at, simples_to, local_at, opening_at, head_in};
 ghost use Rattle.ls_parser_statements.specs.ReadingStatements.{perform_at};
 
@@ -61,8 +61,44 @@ pub fn is_call(tree: &Expression) -> bool
     )
 }
 
+// A simple form without a value, of which the target or the call is read.
+#[tactic(auto, using(crate::proofs::SimplePlaces::count_behind_is, crate::proofs::SimplePlaces::evaluate_is))]
+fn stepped<'t, 'a>(
+    context: Context,
+    target: Part<'t, 'a, Expression>,
+    limit: usize,
+) -> Result<Part<'t, 'a, Simple>, TextFault>
+    requires limit { limit + 1 < 2 ^ 64 }
+    requires height { (target.height ≡ expression_height (bare target.tree)) × (target.height ≤ limit) }
+    ensures read { ReadsAs (λ p. (bare_simple p.tree, lexemes p.rest.now)) result
+        (stepped_at (bare target.entry.tree) (lexemes target.entry.rest.now)) }
+    ensures places { IfOk result (λ p. (ss : List Spot) → At (placed target.entry.tree) ss (spots target.entry.rest.now)
+        → SimpleAt (placed_simple p.tree) ss (spots p.rest.now)) }
+    ensures height { IfOk result (λ p. (p.height ≡ simple_height (bare_simple p.tree)) × (p.height ≤ limit + 1)) }
+{
+    if let Some(count) = counted(target.rest) {
+        return Ok(Part {
+            tree: Simple::Count {
+                up: count.tree,
+                before: false,
+                target: target.tree,
+            },
+            height: target.height + 1,
+            rest: count.rest,
+        });
+    }
+    if !is_call(&target.tree) {
+        return Err(syntax(context, target.rest));
+    }
+    Ok(Part {
+        tree: Simple::Evaluate(target.tree),
+        height: target.height + 1,
+        rest: target.rest,
+    })
+}
+
 // A simple form, of which the target or the call is read: what comes after that is read here.
-#[tactic(auto, using(crate::proofs::SimplePlaces::assign_is, crate::proofs::SimplePlaces::add_is, crate::proofs::SimplePlaces::count_behind_is, crate::proofs::SimplePlaces::evaluate_is))]
+#[tactic(auto, using(crate::proofs::SimplePlaces::assign_is, crate::proofs::SimplePlaces::add_is))]
 fn used<'t, 'a>(
     context: Context,
     target: Part<'t, 'a, Expression>,
@@ -98,25 +134,7 @@ fn used<'t, 'a>(
             rest: value.rest,
         });
     }
-    if let Some(count) = counted(target.rest) {
-        return Ok(Part {
-            tree: Simple::Count {
-                up: count.tree,
-                before: false,
-                target: target.tree,
-            },
-            height: target.height + 1,
-            rest: count.rest,
-        });
-    }
-    if !is_call(&target.tree) {
-        return Err(syntax(context, target.rest));
-    }
-    Ok(Part {
-        tree: Simple::Evaluate(target.tree),
-        height: target.height + 1,
-        rest: target.rest,
-    })
+    stepped(context, target, limit)
 }
 
 // A simple form. The limit is that of the expressions in it.
