@@ -14,7 +14,7 @@ use Rattle.ls_parser_tokens.specs.Reading.{◌>>=◌, Reader, after_sign, after_
 use Rattle.ls_parser_expressions.specs.ReadingExpressions.{expression_at}
 use Rattle.ls_parser_declarations.specs.ReadingDeclarations.{declaration_at, starts_declaration}
 use Rattle.ls_parser_statements.specs.ReadingStatements.{declared_at, value_at, simple_at, simples_to, opening_at}
-use Rattle.ls_parser_statements.specs.ReadingStatements.{head_in, local_at}
+use Rattle.ls_parser_statements.specs.ReadingStatements.{head_in, local_at, turns_at}
 use Rattle.ls_parser_expressions.proofs.Repeats.{bind_some, some_is}
 use Rattle.ls_parser_expressions.proofs.Signs.{either, given_cases, sign_reads}
 use Rattle.ls_parser_expressions.proofs.Onto.{onto}
@@ -147,12 +147,16 @@ pub head_sound : (limit : ℕ) (ks : List Lexeme) (x : (Opening × Option Expres
 head_sound limit ks x e =
     let p = bind_some (after_sign signs.OpenParen ks) _ x e in
     let o = bind_some (opening_at (local_at limit) (simple_at limit) p.0) _ x p.2 in
-    let v = bind_some (value_at (expression_at limit) o.0.1) _ x o.2 in
-    let u = bind_some (simples_to signs.CloseParen (simple_at limit) v.0.1) _ x v.2 in
+    let w = bind_some (turns_at (simple_at limit) (expression_at limit) o.0.1) _ x o.2 in
+    let v = bind_some (value_at (expression_at limit) o.0.1) _ w.0 w.1 in
+    let u = bind_some (simples_to signs.CloseParen (simple_at limit) v.0.1) _ w.0 v.2 in
+    let same = some_is ((v.0.0, u.0.0), u.0.1) w.0 u.2 in
     let opening = opening_sound limit p.0 o.0 o.1 in
     let condition = value_sound limit o.0.1 v.0 v.1 in
     let updates = simples_sound limit signs.CloseParen v.0.1 u.0 u.1 in
-    subst (ReadsHead limit ks) (some_is ((o.0.0, v.0.0, u.0.0), u.0.1) x u.2) (record {
+    subst (ReadsHead limit ks)
+    (ap (λ (w : (Option Expression × List Simple) × List Lexeme). ((o.0.0, w.0.0, w.0.1), w.1)) same
+    ∙ some_is ((o.0.0, w.0.0.0, w.0.0.1), w.0.1) x w.2) (record {
       spelled = sign_reads signs.OpenParen ks p.0 p.1 ∙
           ap (cons (Marked signs.OpenParen))
           (opening.spelled ∙

@@ -142,6 +142,12 @@ opening_at declaration simple ks =
     then (declaration ks >>= λ d. Some (Declares d.0, d.1))
     else (simples_to signs.Semicolon simple ks >>= λ all. Some (Performs all.0, all.1))
 
+-- what comes after the opening of a `for`: a condition or none, and its updates
+abbrev pub turns_at : Reader Simple → Reader Expression → Reader (Option Expression × List Simple)
+turns_at simple expression ks =
+    value_at expression ks >>= λ condition.
+    simples_to signs.CloseParen simple condition.1 >>= λ updates. Some ((condition.0, updates.0), updates.1)
+
 -- the head of a `for`, in parentheses
 abbrev pub head_at : Reader Declaration →
     Reader Simple →
@@ -149,8 +155,7 @@ abbrev pub head_at : Reader Declaration →
     Reader (Opening × Option Expression × List Simple)
 head_at declaration simple expression ks =
     after_sign signs.OpenParen ks >>= λ rest. opening_at declaration simple rest >>= λ opening.
-    value_at expression opening.1 >>= λ condition.
-    simples_to signs.CloseParen simple condition.1 >>= λ updates. Some ((opening.0, condition.0, updates.0), updates.1)
+    turns_at simple expression opening.1 >>= λ turns. Some ((opening.0, turns.0.0, turns.0.1), turns.1)
 
 -- what comes after `for`
 abbrev pub for_at : Reader (Opening × Option Expression × List Simple) →

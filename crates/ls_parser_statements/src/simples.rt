@@ -11,13 +11,14 @@ ghost use Rattle.ls_tree.specs.PlacedStatements.{placed_simple, placed_opening, 
 ghost use Rattle.ls_parser_spelling.specs.Spelling.{count_sign};
 ghost use Rattle.ls_parser_spelling.specs.Places.{Spot, spots, sign, At};
 ghost use Rattle.ls_parser_spelling.specs.StatementPlaces.{SimpleAt, SomeSimplesAt, SimplesAt, OpeningAt, HeadAt};
-ghost use Rattle.ls_parser_spelling.specs.StatementPlaces.{StatementAt};
+ghost use Rattle.ls_parser_spelling.specs.StatementPlaces.{ReturnedAt, StatementAt};
+ghost use Rattle.ls_lexer.specs.declared.sign.Sign.TheVariants as signs;
 ghost use Rattle.ls_parser_tokens.specs.Answers.{ReadsAs, Finds};
 ghost use Rattle.ls_parser_tokens.specs.Reading.{one_more, behind_comma};
 ghost use Rattle.ls_parser_expressions.specs.ReadingExpressions.{expression_at, post_at};
 ghost use Rattle.ls_parser_statements.specs.ReadingStatements.{counted_at, stepped_at, used_at, simple_from, simple_at};
-ghost use Rattle.ls_parser_statements.specs.ReadingStatements.{simples_at, simples_to, local_at, opening_at, head_in};
-ghost use Rattle.ls_parser_statements.specs.ReadingStatements.{perform_at};
+ghost use Rattle.ls_parser_statements.specs.ReadingStatements.{simples_at, simples_to, local_at, opening_at, turns_at};
+ghost use Rattle.ls_parser_statements.specs.ReadingStatements.{head_in, perform_at};
 
 use crate::simple_statements::{local_declaration, value_part};
 use ls_lexer::fault::TextFault;
@@ -319,6 +320,34 @@ fn opening<'t, 'a>(
     })
 }
 
+// What comes after the opening of a `for`: a condition or none, and its updates.
+#[tactic(auto)]
+fn turns<'t, 'a>(
+    context: Context,
+    tokens: &'t [Token<'a>],
+    limit: usize,
+) -> Result<Part<'t, 'a, (Option<Expression>, Vec<Simple>)>, TextFault>
+    ensures read { ReadsAs
+        (λ p. ((option_map bare p.tree.0, map bare_simple p.tree.1.items), lexemes p.rest.now)) result
+        (turns_at (simple_at limit) (expression_at limit) (lexemes tokens.now)) }
+    ensures places { IfOk result
+        (λ p. (semicolon : Span) × (behind : List Spot) ×
+        ReturnedAt (option_map placed p.tree.0) semicolon (spots tokens.now) behind ×
+        SimplesAt signs.CloseParen (map placed_simple p.tree.1.items) behind (spots p.rest.now)) }
+    ensures height { IfOk result
+        (λ p. (p.height ≡
+        max (value_height (option_map bare p.tree.0)) (simples_height (map bare_simple p.tree.1.items))) ×
+        (p.height ≤ limit)) }
+{
+    let condition = value_part(context, tokens, limit)?;
+    let updates = simples(context, condition.rest, limit, Sign::CloseParen)?;
+    Ok(Part {
+        tree: (condition.tree, updates.tree),
+        height: condition.height.max(updates.height),
+        rest: updates.rest,
+    })
+}
+
 /// The head of a `for`, in parentheses.
 #[tactic(auto, using(crate::proofs::SimplePlaces::head_is))]
 pub fn head<'t, 'a>(
@@ -340,11 +369,10 @@ pub fn head<'t, 'a>(
 {
     let paren = expect(context, tokens, Sign::OpenParen)?;
     let opening = opening(context, paren.rest, limit)?;
-    let condition = value_part(context, opening.rest, limit)?;
-    let updates = simples(context, condition.rest, limit, Sign::CloseParen)?;
+    let turns = turns(context, opening.rest, limit)?;
     Ok(Part {
-        tree: (opening.tree, condition.tree, updates.tree),
-        height: opening.height.max(condition.height).max(updates.height),
-        rest: updates.rest,
+        tree: (opening.tree, turns.tree.0, turns.tree.1),
+        height: opening.height.max(turns.height),
+        rest: turns.rest,
     })
 }

@@ -5,5 +5,5 @@ use Rattle.ls_parser_statements.proofs.simples.head.Goals as goal
 
 pub returns-clause-places : goal.returns-clause-places
 returns-clause-places c =
-    head_is c.in_ok-paren.ensures.placed c.in_ok-opening.ensures.places c.in_ok-condition.ensures.places
-    c.in_ok-updates.ensures.places
+    let turns = c.in_ok-turns.ensures.places in
+    head_is c.in_ok-paren.ensures.placed c.in_ok-opening.ensures.places turns.2 turns.3
