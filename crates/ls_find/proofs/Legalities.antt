@@ -1,5 +1,5 @@
 -- Whether histories are legal, by the rows of a whole exploration.
-use Rattle.std.proofs.Common.{◌≡◌, ◌∙◌, ℕ, Bool, true, false, List, Contains, Some, ap, sym, subst}
+use Rattle.std.proofs.Common.{◌≡◌, ◌∙◌, ◌⊎◌, ℕ, Bool, true, false, List, Contains, Some, ap, inl, inr, sym, subst}
 use Rattle.std.specs.Prelude.{slice_get}
 use Rattle.ls_checked.specs.CheckedTree.{File}
 use Rattle.ls_checked.specs.CheckedProgram.{Program}
@@ -7,8 +7,9 @@ use Rattle.ls_events.specs.declared.event.Event.{Event}
 use Rattle.ls_explore.specs.Rows.{Told}
 use Rattle.ls_explore.specs.Tellings.{TellTruth, TellWhole, schedule_of}
 use Rattle.ls_explore_reports.specs.Verdicts.{EachIsLegal, HasLegalOrder}
-use Rattle.ls_find.specs.Sought.{AllLegal, AllNamed, AreNamed, EndsWell, IsEndVerdict, IsSetVerdict}
-use Rattle.ls_find.specs.Sought.{IsTurningVerdict, IsVerdictFor}
+use Rattle.ls_find.specs.Said.{IsVerdict, LongSchedule}
+use Rattle.ls_find.specs.Sought.{AllLegal, AllNamed, AreNamed, Cut, EndsWell, HasUnjudged, IsEndVerdict, IsSetVerdict}
+use Rattle.ls_find.specs.Sought.{IsTurningVerdict, IsUnknown, IsVerdictFor, Turns, Unjudged, Waits}
 use Rattle.ls_find.specs.Verdicts.{IsBad, IsGood, ShowsRow}
 use Rattle.ls_find.specs.declared.sought.Sought.{Sought}
 use Rattle.ls_find.specs.declared.verdict.Reason.{Reason}
@@ -18,7 +19,7 @@ use Rattle.ls_find.specs.declared.verdict.ProgramVerdict.TheVariants as verdicts
 use Rattle.ls_find.proofs.Shown.{got_there}
 use Rattle.ls_meaning.specs.Runs.{source_history}
 use Rattle.ls_verdicts.specs.Verdicts as sets
-use Rattle.ls_verdicts.specs.declared.verdicts.Verdict.TheVariants.{Illegal, Legal}
+use Rattle.ls_verdicts.specs.declared.verdicts.Verdict.TheVariants.{Illegal, Legal, NotOneSet, TooManyTrapped}
 
 pub not_both : {b : Bool} → b ≡ true → b ≡ false → ⊥
 not_both up down = cc
@@ -44,30 +45,54 @@ all_legal file program rows each whole legal =
 some_is : {X : Type 0} {x y : X} → Some x ≡ Some y → x ≡ y
 some_is e = cc
 
--- the row that is shown isn't legal, so neither is the history of its schedule
-pub shown_illegal : (file : File) (program : Program) (k : ℕ) (rows : List Told) (at : ℕ) → TellTruth file program k rows →
-    (r : Told) × (slice_get rows at ≡ Some r) × sets.IsVerdict program r.history Illegal →
-    (v : ProgramVerdict) → ShowsRow reasons.Illegal k rows at v → IsSetVerdict file program v
-shown_illegal file program k rows at truth is verdicts.Good shows = absurd shows
-shown_illegal file program k rows at truth is verdicts.Unknown shows = tt
-shown_illegal file program k rows at truth is (verdicts.Bad reason schedule) shows =
-    let r = shows.0 in
-    let same : is.0 ≡ r = some_is (sym is.1 ∙ shows.1) in
-    let history : is.0.history ≡ source_history file program schedule =
-    ap (λ (q : Told). q.history) same ∙ truth.told r (got_there rows at r shows.1) ∙
-    ap (source_history file program) (sym shows.2) in
-    subst (λ (said : Reason). IsBad said file program schedule) (sym shows.3)
-    (subst (λ (h : List Event). sets.IsVerdict program h Illegal) history is.2)
+module _ (file : File) (program : Program) (k : ℕ) (rows : List Told) (truth : TellTruth file program k rows) where
+  -- if the history of a row can't be judged, some schedule's can't
+  pub one_unjudged : (r : Told) → Contains rows r →
+      sets.IsVerdict program r.history NotOneSet ⊎ sets.IsVerdict program r.history TooManyTrapped →
+      HasUnjudged file program
+  one_unjudged r there unjudged = record {
+    schedule = schedule_of k r;
+    unjudged = subst (λ (h : List Event). sets.IsVerdict program h NotOneSet ⊎ sets.IsVerdict program h TooManyTrapped)
+        (truth.told r there) unjudged;
+  }
+
+  -- the row that is shown isn't legal, so neither is the history of its schedule
+  pub shown_illegal : (at : ℕ) →
+      (r : Told) × (slice_get rows at ≡ Some r) × sets.IsVerdict program r.history Illegal →
+      (v : ProgramVerdict) → ShowsRow reasons.Illegal k rows at v → (states : ℕ) → IsSetVerdict states file program v
+  shown_illegal at is v shows states = by_verdict v shows
+    where
+      illegal : IsBad reasons.Illegal file program (schedule_of k is.0)
+      illegal = subst (λ (h : List Event). sets.IsVerdict program h Illegal)
+          (truth.told is.0 (got_there rows at is.0 is.1)) is.2
+
+      by_verdict : (v : ProgramVerdict) → ShowsRow reasons.Illegal k rows at v → IsSetVerdict states file program v
+      by_verdict verdicts.Good shows = absurd shows
+      by_verdict verdicts.Unknown shows =
+          inl (LongSchedule reasons.Illegal (schedule_of k is.0) illegal (shows is.0 is.1))
+      by_verdict (verdicts.Bad reason schedule) shows =
+          let row : is.0 ≡ shows.0 = some_is (sym is.1 ∙ shows.1) in
+          subst (λ (said : Reason). IsBad said file program schedule) (sym shows.3)
+          (subst (IsBad reasons.Illegal file program) (ap (schedule_of k) row ∙ sym shows.2) illegal)
+
+-- what isn't known of a program isn't known of all that is looked for
+pub unknown_for : (sought : Sought) (states : ℕ) (file : File) (program : Program) →
+    IsVerdict states sought.waiting file program verdicts.Unknown → IsUnknown sought states file program
+unknown_for sought states file program (inl cut) = Cut cut
+unknown_for sought states file program (inr waits) = Waits waits
 
 -- both verdicts together
-pub with_set : (sought : Sought) (file : File) (program : Program) (v : ProgramVerdict) → IsGood sought.waiting file program →
-    IsSetVerdict file program v → IsEndVerdict sought file program v
-with_set sought file program verdicts.Good good legal = record { good = good; legal = λ e. legal }
-with_set sought file program verdicts.Unknown good legal = tt
-with_set sought file program (verdicts.Bad reason schedule) good bad = bad
+pub with_set : (sought : Sought) (states : ℕ) (file : File) (program : Program) (v : ProgramVerdict) →
+    sought.set ≡ true → IsGood sought.waiting file program → IsSetVerdict states file program v →
+    IsEndVerdict sought states file program v
+with_set sought states file program verdicts.Good asked good legal = record { good = good; legal = λ e. legal }
+with_set sought states file program verdicts.Unknown asked good (inl cut) = Cut cut
+with_set sought states file program verdicts.Unknown asked good (inr unjudged) = Unjudged asked good unjudged
+with_set sought states file program (verdicts.Bad reason schedule) asked good bad = bad
 
-pub with_turning : (sought : Sought) (file : File) (program : Program) (v : ProgramVerdict) → EndsWell sought file program →
-    IsTurningVerdict file program v → IsVerdictFor sought file program v
-with_turning sought file program verdicts.Good ends never = record { ends = ends; turns = λ e. never }
-with_turning sought file program verdicts.Unknown ends never = tt
-with_turning sought file program (verdicts.Bad reason schedule) ends bad = bad
+pub with_turning : (sought : Sought) (states : ℕ) (file : File) (program : Program) (v : ProgramVerdict) →
+    sought.turning ≡ true → EndsWell sought file program → IsTurningVerdict file program v →
+    IsVerdictFor sought states file program v
+with_turning sought states file program verdicts.Good asked ends never = record { ends = ends; turns = λ e. never }
+with_turning sought states file program verdicts.Unknown asked ends never = Turns asked ends
+with_turning sought states file program (verdicts.Bad reason schedule) asked ends bad = bad

@@ -1,4 +1,5 @@
 pub mod Flags
+mod Cuts
 pub mod Shown
 pub mod Waits
 pub mod Wholes

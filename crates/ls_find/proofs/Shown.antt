@@ -1,16 +1,17 @@
 -- What is shown of a whole exploration.
-use Rattle.std.proofs.Common.{◌≡◌, ◌∙◌, ℕ, zero, suc, Bool, List, [], ◌∷◌, Some, None, ap, arith, sym, subst}
+use Rattle.std.proofs.Common.{◌≡◌, ℕ, zero, suc, Bool, false, List, [], ◌∷◌, Some, None, arith, inl, refl, sym, subst}
 use Rattle.std.specs.Prelude.{Contains, slice_get, not, position}
+use Rattle.std.specs.List.{AllZip}
 use Rattle.ls_checked.specs.CheckedTree.{File}
 use Rattle.ls_checked.specs.CheckedProgram.{Program}
-use Rattle.ls_meaning.specs.Runs.{source_history}
 use Rattle.ls_events.specs.declared.event.Event.{Event}
 use Rattle.ls_explore.specs.Rows.{Told}
-use Rattle.ls_explore.specs.Tellings.{TellTruth, TellWhole}
+use Rattle.ls_explore.specs.Tellings.{TellTruth, TellWhole, schedule_of}
 use Rattle.ls_explore_reports.specs.Linearizable.{UnexplainedIsNot}
 use Rattle.ls_explore_reports.specs.Rows.{TellExplained}
 use Rattle.ls_linearizable.specs.Linearizable.{IsLinearizable}
-use Rattle.ls_find.specs.Verdicts.{IsBad, IsVerdict, ShowsRow}
+use Rattle.ls_find.specs.Said.{IsVerdict, LongSchedule}
+use Rattle.ls_find.specs.Verdicts.{IsBad, IsNotLinearizable, ShowsRow}
 use Rattle.ls_find.specs.declared.verdict.ProgramVerdict.{ProgramVerdict}
 use Rattle.ls_find.specs.declared.verdict.ProgramVerdict.TheVariants.{Bad, Good, Unknown}
 use Rattle.ls_find.specs.declared.verdict.Reason.{Reason}
@@ -35,16 +36,38 @@ got_there (q ∷ rows) (suc i) r at =
     let later = got_there rows i r at in
     (suc later.0, omega (arith, later.1), later.2)
 
--- the row that is shown isn't explained, so the history of its schedule isn't linearizable
-pub shown_verdict : (file : File) (program : Program) (k : ℕ) (rows : List Told) (flags : List Bool) (at : ℕ) →
-    UnexplainedIsNot → TellTruth file program k rows → TellWhole file program rows → TellExplained rows flags →
-    position not flags ≡ Some at → (waiting : Bool) (v : ProgramVerdict) → ShowsRow NotLinearizable k rows at v →
-    IsVerdict waiting file program v
-shown_verdict file program k rows flags at never truth whole explained is waiting Good shows = absurd shows
-shown_verdict file program k rows flags at never truth whole explained is waiting Unknown shows = tt
-shown_verdict file program k rows flags at never truth whole explained is waiting (Bad reason schedule) shows =
-    subst (λ (said : Reason). IsBad said file program schedule) (sym shows.3) (λ linear.
-    let history : shows.0.history ≡ source_history file program schedule =
-    truth.told shows.0 (got_there rows at shows.0 shows.1) ∙ ap (source_history file program) (sym shows.2) in
-    never file program rows flags at shows.0 whole explained shows.1 (one_down flags at is)
-    (subst (λ (h : List Event). IsLinearizable file program h) (sym history) linear))
+-- where a flag stands, a row stands too
+flag_there : (R : Told → Bool → Type 0) (rows : List Told) (flags : List Bool) (at : ℕ) (b : Bool) → AllZip R rows flags →
+    slice_get flags at ≡ Some b → (r : Told) × (slice_get rows at ≡ Some r)
+flag_there R [] [] zero b zip is = absurd (nothing is)
+  where
+    nothing : None ≡ Some b → ⊥
+    nothing e = cc
+flag_there R [] [] (suc at) b zip is = absurd (nothing is)
+  where
+    nothing : None ≡ Some b → ⊥
+    nothing e = cc
+flag_there R [] (g ∷ flags) at b zip is = absurd zip
+flag_there R (r ∷ rows) [] at b zip is = absurd zip
+flag_there R (r ∷ rows) (g ∷ flags) zero b zip is = (r, refl)
+flag_there R (r ∷ rows) (g ∷ flags) (suc at) b zip is = flag_there R rows flags at b zip.1 is
+
+module _ (file : File) (program : Program) (k : ℕ) (rows : List Told) (flags : List Bool) (at : ℕ) (never : UnexplainedIsNot)
+    (truth : TellTruth file program k rows) (whole : TellWhole file program rows) (explained : TellExplained rows flags)
+    (is : position not flags ≡ Some at) where
+  -- the row isn't explained, so the history of its schedule isn't linearizable
+  row_is_bad : (r : Told) → slice_get rows at ≡ Some r → IsNotLinearizable file program (schedule_of k r)
+  row_is_bad r there = λ linear.
+      never file program rows flags at r whole explained there (one_down flags at is)
+      (subst (λ (h : List Event). IsLinearizable file program h) (sym (truth.told r (got_there rows at r there))) linear)
+
+  -- so is the verdict that shows it
+  pub shown_verdict : (states : ℕ) (waiting : Bool) (v : ProgramVerdict) → ShowsRow NotLinearizable k rows at v →
+      IsVerdict states waiting file program v
+  shown_verdict states waiting Good shows = absurd shows
+  shown_verdict states waiting Unknown shows =
+      let there = flag_there _ rows flags at false explained (one_down flags at is) in
+      inl (LongSchedule NotLinearizable (schedule_of k there.0) (row_is_bad there.0 there.1) (shows there.0 there.1))
+  shown_verdict states waiting (Bad reason schedule) shows =
+      subst (λ (said : Reason). IsBad said file program schedule) (sym shows.3)
+      (subst (IsNotLinearizable file program) (sym shows.2) (row_is_bad shows.0 shows.1))

@@ -1,18 +1,19 @@
 -- Whether a thread waits for ever, by the rows of a whole exploration.
-use Rattle.std.proofs.Common.{◌≡◌, ◌∙◌, ℕ, List, [], Some, true, ap, sym, subst, arith}
-use Rattle.std.specs.Prelude.{slice_get}
+use Rattle.std.proofs.Common.{◌≡◌, ◌∙◌, ℕ, Bool, List, [], Some, true, ap, inl, inr, refl, sym, subst, arith}
+use Rattle.std.specs.Prelude.{◌≢◌, Contains, slice_get}
 use Rattle.ls_checked.specs.CheckedTree.{File}
 use Rattle.ls_checked.specs.CheckedProgram.{Program}
 use Rattle.ls_events.specs.declared.event.Event.{Event}
 use Rattle.ls_meaning.specs.Runs.{source_history}
-use Rattle.ls_explore.specs.Rows.{Told}
-use Rattle.ls_explore.specs.declared.rows.Ending.TheVariants.{Over}
+use Rattle.ls_explore.specs.Rows.{IsEnd, NoneEnds, Told}
+use Rattle.ls_explore.specs.declared.rows.Ending.{Ending}
+use Rattle.ls_explore.specs.declared.rows.Ending.TheVariants.{GoesOn, NotSeen, OutOfCells, Over}
 use Rattle.ls_explore.specs.Tellings.{TellTruth, TellWhole, schedule_of}
 use Rattle.ls_serial_search.specs.Endless.{AreEndlessRuns, TellEndlessRuns}
 use Rattle.ls_endless_calls.specs.Laws.{AmongNeverEnds, NoneWaitsForEver, NeverEndsSo, NeverEndsIsAmong}
 use Rattle.ls_endless_calls.specs.Waits.{IsPending}
-use Rattle.ls_find.specs.Verdicts.{AllExcused, AllLinearizable, HasWaiting, IsBad, IsVerdict, IsWaitingVerdict}
-use Rattle.ls_find.specs.Verdicts.{ShowsRow, WaitsAt}
+use Rattle.ls_find.specs.Said.{HasWaitingCall, IsVerdict, IsVerdictIfAny, IsWaitingVerdict, LongSchedule}
+use Rattle.ls_find.specs.Verdicts.{AllExcused, AllLinearizable, HasWaiting, IsBad, ShowsRow, WaitsAt}
 use Rattle.ls_find.specs.declared.verdict.Reason.{Reason}
 use Rattle.ls_find.specs.declared.verdict.Reason.TheVariants.{Waits}
 use Rattle.ls_find.specs.declared.verdict.ProgramVerdict.{ProgramVerdict}
@@ -35,35 +36,77 @@ none_waits file program rows runs among whole are excused schedule c over pendin
     subst (λ (h : List Event). NeverEndsSo file program h c) e.same
     (among file program runs e.row.history c are (excused e.row e.there e.ends c here))
 
--- if the runs are all, and a call that is pending where a row is over is the last of none, it waits for ever
-pub one_waits : (file : File) (program : Program) (k : ℕ) (rows : List Told) (runs : List (List Event)) (at : ℕ) →
-    NeverEndsIsAmong → TellTruth file program k rows → TellEndlessRuns file program runs → WaitsAt runs rows at →
-    (r : Told) × (slice_get rows at ≡ Some r) × (r.ending ≡ Over) → (v : ProgramVerdict) → ShowsRow Waits k rows at v →
-    IsWaitingVerdict file program v
-one_waits file program k rows runs at all truth tell w over Good shows = absurd shows
-one_waits file program k rows runs at all truth tell w over Unknown shows = tt
-one_waits file program k rows runs at all truth tell w over (Bad reason schedule) shows =
-    let r = shows.0 in
-    let same : w.row ≡ r = some_is (sym w.is ∙ shows.1) in
-    let there = got_there rows at r shows.1 in
-    let ends = some_is (sym over.1 ∙ shows.1) in
-    let told : w.row.history ≡ source_history file program (schedule_of k r) =
-    ap (λ (q : Told). q.history) same ∙ truth.told r there in
-    let u = w.waits.unexcused in
-    subst (λ (said : Reason). IsBad said file program schedule) (sym shows.3)
-    (subst (HasWaiting file program) (sym shows.2) (
-      u.call,
-      record {
-        over = truth.over r there (subst (λ (q : Told). q.ending ≡ Over) ends over.2);
-        pending = subst (λ (h : List Event). IsPending h u.call) told u.pending;
-        alone = λ so. u.unexcused (all file program runs w.row.history u.call tell
-            (subst (λ (h : List Event). NeverEndsSo file program h u.call) (sym told) so));
-      },
-    ))
+module _ (file : File) (program : Program) (k : ℕ) (rows : List Told) (runs : List (List Event)) (at : ℕ)
+    (truth : TellTruth file program k rows) (w : WaitsAt runs rows at) where
+  there : Contains rows w.row
+  there = got_there rows at w.row w.is
+
+  -- after the row's schedule the call is pending
+  pending : IsPending (source_history file program (schedule_of k w.row)) w.waits.unexcused.call
+  pending = subst (λ (h : List Event). IsPending h w.waits.unexcused.call) (truth.told w.row there)
+      w.waits.unexcused.pending
+
+  -- and no thread acts, if the row ends and isn't out of cells
+  pub call_waits : NoneEnds OutOfCells rows → HasWaitingCall file program
+  call_waits cells = record {
+    schedule = schedule_of k w.row;
+    over = truth.over w.row there (is_over w.row.ending w.waits.ends (cells w.row there));
+    call = w.waits.unexcused.call;
+    pending = pending;
+  }
+    where
+      is_over : (e : Ending) → IsEnd e → e ≢ OutOfCells → e ≡ Over
+      is_over Over ends not = refl
+      is_over OutOfCells ends not = absurd (not refl)
+      is_over GoesOn ends not = absurd ends
+      is_over NotSeen ends not = absurd ends
+
+  -- if the runs are all, and a call that is pending where a row is over is the last of none, it waits for ever
+  row_waits : NeverEndsIsAmong → TellEndlessRuns file program runs → w.row.ending ≡ Over →
+      HasWaiting file program (schedule_of k w.row)
+  row_waits all tell over = (
+    w.waits.unexcused.call,
+    record {
+      over = truth.over w.row there over;
+      pending = pending;
+      alone = λ so. w.waits.unexcused.unexcused (all file program runs w.row.history w.waits.unexcused.call tell
+          (subst (λ (h : List Event). NeverEndsSo file program h w.waits.unexcused.call) (sym (truth.told w.row there))
+          so));
+    },
+  )
+
+  pub one_waits : NeverEndsIsAmong → TellEndlessRuns file program runs →
+      (r : Told) × (slice_get rows at ≡ Some r) × (r.ending ≡ Over) → (v : ProgramVerdict) → ShowsRow Waits k rows at v →
+      (states : ℕ) → IsWaitingVerdict states file program v
+  one_waits all tell over v shows states = by_verdict v shows
+    where
+      same : over.0 ≡ w.row
+      same = some_is (sym over.1 ∙ w.is)
+
+      waits : HasWaiting file program (schedule_of k w.row)
+      waits = row_waits all tell (subst (λ (q : Told). q.ending ≡ Over) same over.2)
+
+      by_verdict : (v : ProgramVerdict) → ShowsRow Waits k rows at v → IsWaitingVerdict states file program v
+      by_verdict Good shows = absurd shows
+      by_verdict Unknown shows = inl (LongSchedule Waits (schedule_of k w.row) waits (shows w.row w.is))
+      by_verdict (Bad reason schedule) shows =
+          let row : w.row ≡ shows.0 = some_is (sym w.is ∙ shows.1) in
+          subst (λ (said : Reason). IsBad said file program schedule) (sym shows.3)
+          (subst (HasWaiting file program) (ap (schedule_of k) row ∙ sym shows.2) waits)
 
 -- both verdicts together
-pub both_verdicts : (file : File) (program : Program) (v : ProgramVerdict) → AllLinearizable file program →
-    IsWaitingVerdict file program v → IsVerdict true file program v
-both_verdicts file program Good linear none = record { linearizable = linear; waits = λ e. none }
-both_verdicts file program Unknown linear none = tt
-both_verdicts file program (Bad reason schedule) linear none = none
+pub both_verdicts : (file : File) (program : Program) (states : ℕ) (v : ProgramVerdict) → AllLinearizable file program →
+    IsWaitingVerdict states file program v → IsVerdict states true file program v
+both_verdicts file program states Good linear none = record { linearizable = linear; waits = λ e. none }
+both_verdicts file program states Unknown linear (inl cut) = inl cut
+both_verdicts file program states Unknown linear (inr waits) =
+    inr (record { asked = refl; linearizable = linear; waits = waits })
+both_verdicts file program states (Bad reason schedule) linear none = none
+
+-- what isn't decided by the states is said as by the rows
+pub either_verdict : (file : File) (program : Program) (states : ℕ) (waiting : Bool) (v : ProgramVerdict) →
+    IsVerdictIfAny waiting file program v → IsVerdict states waiting file program Unknown →
+    IsVerdict states waiting file program v
+either_verdict file program states waiting Good said unknown = said
+either_verdict file program states waiting Unknown said unknown = unknown
+either_verdict file program states waiting (Bad reason schedule) said unknown = said

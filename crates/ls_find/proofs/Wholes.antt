@@ -24,17 +24,17 @@ first_true : (s t : Bool) → (s && t) ≡ true → s ≡ true
 first_true true t is = refl
 first_true false t is = absurd (true≢false (sym is))
 
-passed_so : (sought : Sought) (classes : Text) (p : Programs) (f : Finding Why) (k : ℕ) (plan : Plan) →
+passed_so : (sought : Sought) (states : ℕ) (classes : Text) (p : Programs) (f : Finding Why) (k : ℕ) (plan : Plan) →
     (slice_get f.passed.items k ≡ Some Cut → ⊥) → (said : Passed) → slice_get f.passed.items k ≡ Some said →
-    IsPassed p (IsSound sought classes) (IsCut classes) plan said →
+    IsPassed p (IsSound sought classes) (IsCut sought states classes) plan said →
     Follows p (IsSound sought classes) plan ⊎ IsSound sought classes (text_of p plan)
-passed_so sought classes p f k plan uncut Double at is = inl is
-passed_so sought classes p f k plan uncut Good at is = inr is
-passed_so sought classes p f k plan uncut Cut at is = absurd (uncut at)
+passed_so sought states classes p f k plan uncut Double at is = inl is
+passed_so sought states classes p f k plan uncut Good at is = inr is
+passed_so sought states classes p f k plan uncut Cut at is = absurd (uncut at)
 
 -- a double follows the plan that stands before it, which is passed too
 pub each_passed_sound : OtherStandsBefore → EachPassedIsSound
-each_passed_sound stands menu b sought classes p to f some calls family found number one inside at none =
+each_passed_sound stands menu b sought states classes p to f some calls family found number one inside at none =
     by_number (suc number) number one (omega arith) inside at none
   where
     by_number : (l n : ℕ) (plan : Plan) → n < l → n < length f.passed.items → slice_get (plans p.family) n ≡ Some plan →
@@ -46,8 +46,8 @@ each_passed_sound stands menu b sought classes p to f some calls family found nu
         let passes = found.passed n said is in
         let zero_more : 0 + n ≡ n = omega arith in
         let same : passes.0 ≡ plan = some_is (sym passes.1 ∙ ap (slice_get (plans p.family)) zero_more ∙ there) in
-        elim (passed_so sought classes p f n plan (uncut n (omega arith)) said is
-        (subst (λ (q : Plan). IsPassed p (IsSound sought classes) (IsCut classes) q said) same passes.2)) [
+        elim (passed_so sought states classes p f n plan (uncut n (omega arith)) said is
+        (subst (λ (q : Plan). IsPassed p (IsSound sought classes) (IsCut sought states classes) q said) same passes.2)) [
           | inl follows ↦
               let before = stands menu b n plan some calls
               (subst (λ (g : Family). slice_get (plans g) n ≡ Some plan) family there)
@@ -60,7 +60,7 @@ each_passed_sound stands menu b sought classes p to f some calls family found nu
         ]
 
 pub each_sound : EachBelongs → EachPassedIsSound → EachIsSound
-each_sound belongs passed menu b sought classes p f some calls family whole plan is =
+each_sound belongs passed menu b sought states classes p f some calls family whole plan is =
     let many : 0 + length f.passed.items ≡ length (plans p.family) =
     subst (EndsSo p (IsWhy classes) (0 + length f.passed.items) (length (plans p.family))) whole.none
     whole.found.ends in
@@ -70,5 +70,5 @@ each_sound belongs passed menu b sought classes p f some calls family whole plan
     let there : slice_get (plans p.family) n ≡ Some plan =
     subst (λ (g : Family). slice_get (plans g) n ≡ Some plan) (sym family)
     (slice_get-get_or _ n plan at.1 ∙ ap (λ (q : Plan). Some q) at.2) in
-    passed menu b sought classes p (length (plans p.family)) f some calls family whole.found n plan
+    passed menu b sought states classes p (length (plans p.family)) f some calls family whole.found n plan
     (omega (arith, many, within)) there (λ k up. whole.uncut k)

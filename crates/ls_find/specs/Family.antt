@@ -12,12 +12,13 @@ use Rattle.ls_find.specs.declared.explorer.Why.{Why}
 use Rattle.ls_find.specs.declared.sought.Sought.{Sought}
 
 -- what a search of a class text's programs from one number to another says
-abbrev pub IsFound : Sought → Text → Programs → ℕ → ℕ → Finding Why → Type 0
-IsFound sought classes p from to f = IsFinding p (IsSound sought classes) (IsCut classes) (IsWhy classes) from to f
+abbrev pub IsFound : Sought → ℕ → Text → Programs → ℕ → ℕ → Finding Why → Type 0
+IsFound sought states classes p from to f =
+    IsFinding p (IsSound sought classes) (IsCut sought states classes) (IsWhy classes) from to f
 
 -- it has gone through all programs, with none that ends it, and none is cut
-pub record IsWhole (sought : Sought) (classes : Text) (p : Programs) (f : Finding Why) : Type 0 where
-  pub found : IsFound sought classes p 0 (length (plans p.family)) f
+pub record IsWhole (sought : Sought) (states : ℕ) (classes : Text) (p : Programs) (f : Finding Why) : Type 0 where
+  pub found : IsFound sought states classes p 0 (length (plans p.family)) f
   pub none : f.halted ≡ None
   pub uncut : (k : ℕ) → slice_get f.passed.items k ≡ Some Cut → ⊥
 
@@ -25,14 +26,14 @@ pub record IsWhole (sought : Sought) (classes : Text) (p : Programs) (f : Findin
 -- linearizable, no thread waits or turns for ever, and each history is legal as one of a set.
 abbrev pub EachIsSound : Type 0
 EachIsSound =
-    (menu : ℕ) (b : Bounds) (sought : Sought) (classes : Text) (p : Programs) (f : Finding Why) → 0 < menu → 0 < b.calls →
-    p.family ≡ family_of menu b → IsWhole sought classes p f → (plan : Plan) → IsPlanOf menu b plan →
+    (menu : ℕ) (b : Bounds) (sought : Sought) (states : ℕ) (classes : Text) (p : Programs) (f : Finding Why) → 0 < menu → 0 < b.calls →
+    p.family ≡ family_of menu b → IsWhole sought states classes p f → (plan : Plan) → IsPlanOf menu b plan →
     IsSound sought classes (text_of p plan)
 
 -- So is each that a search from the first number on has passed, if none up to that one is cut.
 abbrev pub EachPassedIsSound : Type 0
 EachPassedIsSound =
-    (menu : ℕ) (b : Bounds) (sought : Sought) (classes : Text) (p : Programs) (to : ℕ) (f : Finding Why) → 0 < menu →
-    0 < b.calls → p.family ≡ family_of menu b → IsFound sought classes p 0 to f → (n : ℕ) (plan : Plan) →
+    (menu : ℕ) (b : Bounds) (sought : Sought) (states : ℕ) (classes : Text) (p : Programs) (to : ℕ) (f : Finding Why) → 0 < menu →
+    0 < b.calls → p.family ≡ family_of menu b → IsFound sought states classes p 0 to f → (n : ℕ) (plan : Plan) →
     n < length f.passed.items → slice_get (plans p.family) n ≡ Some plan →
     ((k : ℕ) → k ≤ n → slice_get f.passed.items k ≡ Some Cut → ⊥) → IsSound sought classes (text_of p plan)

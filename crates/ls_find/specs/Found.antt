@@ -10,7 +10,7 @@ use Rattle.ls_state.specs.Scene.{scene_of}
 use Rattle.ls_translation.specs.Texts.{file_of, program_of}
 use Rattle.ls_fewest_switches.specs.Wording.{switches_text}
 use Rattle.ls_find.specs.Fewest.{IsFewest}
-use Rattle.ls_find.specs.Sought.{IsGoodFor}
+use Rattle.ls_find.specs.Sought.{IsGoodFor, IsUnknown}
 use Rattle.ls_find.specs.Verdicts.{IsBad}
 use Rattle.ls_find.specs.declared.sought.Sought.{Sought}
 use Rattle.ls_schedule.specs.Printing.{schedule_text}
@@ -28,9 +28,10 @@ abbrev pub IsSound : Sought → Text → Text → Type 0
 IsSound sought classes program =
     (i : Image) × Compiles classes program i × IsGoodFor sought (file_of i) (program_of i)
 
--- with this program it compiles, and no more is said
-abbrev pub IsCut : Text → Text → Type 0
-IsCut classes program = (i : Image) × Compiles classes program i
+-- with this program it compiles, and nothing is said of it, for a reason
+abbrev pub IsCut : Sought → ℕ → Text → Text → Type 0
+IsCut sought states classes program =
+    (i : Image) × Compiles classes program i × IsUnknown sought states (file_of i) (program_of i)
 
 -- why a schedule is shown; of threads that wait it is said for what they do
 abbrev pub reason_text : Reason → Names → List Text → List ℕ → Text

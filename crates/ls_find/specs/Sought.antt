@@ -1,10 +1,11 @@
 -- What is looked for in a program.
-use Rattle.std.specs.Prelude.{◌≡◌, ℕ, true, List, Contains, Some, slice_get}
+use Rattle.std.specs.Prelude.{◌≡◌, ◌⊎◌, ℕ, true, List, Contains, Some, slice_get}
 use Rattle.ls_checked.specs.CheckedTree.{File}
 use Rattle.ls_checked.specs.CheckedProgram.{Program}
 use Rattle.ls_endless_calls.specs.Turning.{NoneTurnsUnexcused}
 use Rattle.ls_explore.specs.Rows.{Told}
 use Rattle.ls_explore_reports.specs.Verdicts.{HasLegalOrder}
+use Rattle.ls_find.specs.Said.{IsCutShort, MayWait}
 use Rattle.ls_find.specs.Verdicts.{IsBad, IsGood}
 use Rattle.ls_find.specs.declared.legal.Legality.{Legality}
 use Rattle.ls_find.specs.declared.legal.Legality.TheVariants as legality
@@ -14,7 +15,7 @@ use Rattle.ls_find.specs.declared.verdict.ProgramVerdict.TheVariants as verdicts
 use Rattle.ls_meaning.specs.Runs.{source_history}
 use Rattle.ls_text_laws.specs.Histories.{IsReadable}
 use Rattle.ls_verdicts.specs.Verdicts.{IsHistoryOf, IsVerdict}
-use Rattle.ls_verdicts.specs.declared.verdicts.Verdict.TheVariants.{Illegal, Legal}
+use Rattle.ls_verdicts.specs.declared.verdicts.Verdict.TheVariants.{Illegal, Legal, NotOneSet, TooManyTrapped}
 
 -- the history of each schedule has a legal order
 abbrev pub AllLegal : File → Program → Type 0
@@ -26,10 +27,28 @@ pub record EndsWell (sought : Sought) (file : File) (program : Program) : Type 0
   pub good : IsGood sought.waiting file program
   pub legal : sought.set ≡ true → AllLegal file program
 
-abbrev pub IsEndVerdict : Sought → File → Program → ProgramVerdict → Type 0
-IsEndVerdict sought file program verdicts.Good = EndsWell sought file program
-IsEndVerdict sought file program verdicts.Unknown = Unit {0}
-IsEndVerdict sought file program (verdicts.Bad reason schedule) = IsBad reason file program schedule
+-- the history of some schedule can't be judged as one of a set: a call is no set call, or too many are trapped
+pub record HasUnjudged (file : File) (program : Program) : Type 0 where
+  pub schedule : List ℕ
+  pub unjudged : IsVerdict program (source_history file program schedule) NotOneSet ⊎
+      IsVerdict program (source_history file program schedule) TooManyTrapped
+
+-- When nothing is said of a program. Its schedules are cut short. Or all histories are linearizable, and a call may wait
+-- for ever. Or the same is so of sets, and a history can't be judged. Or all ends well, and threads may turn for ever.
+pub data IsUnknown (sought : Sought) (states : ℕ) (file : File) (program : Program) : Type 0 where
+  Cut : IsCutShort states file program → IsUnknown sought states file program
+  Waits : MayWait sought.waiting file program → IsUnknown sought states file program
+  Unjudged : sought.set ≡ true →
+      IsGood sought.waiting file program →
+      HasUnjudged file program →
+      IsUnknown sought states file program
+  Turns : sought.turning ≡ true → EndsWell sought file program → IsUnknown sought states file program
+
+-- what is said of all that ends
+abbrev pub IsEndVerdict : Sought → ℕ → File → Program → ProgramVerdict → Type 0
+IsEndVerdict sought states file program verdicts.Good = EndsWell sought file program
+IsEndVerdict sought states file program verdicts.Unknown = IsUnknown sought states file program
+IsEndVerdict sought states file program (verdicts.Bad reason schedule) = IsBad reason file program schedule
 
 -- and no threads turn for ever in calls that end where calls run one at a time, if these are looked for
 pub record IsGoodFor (sought : Sought) (file : File) (program : Program) : Type 0 where
@@ -42,16 +61,18 @@ IsTurningVerdict file program verdicts.Good = NoneTurnsUnexcused file program
 IsTurningVerdict file program verdicts.Unknown = Unit {0}
 IsTurningVerdict file program (verdicts.Bad reason schedule) = IsBad reason file program schedule
 
-abbrev pub IsVerdictFor : Sought → File → Program → ProgramVerdict → Type 0
-IsVerdictFor sought file program verdicts.Good = IsGoodFor sought file program
-IsVerdictFor sought file program verdicts.Unknown = Unit {0}
-IsVerdictFor sought file program (verdicts.Bad reason schedule) = IsBad reason file program schedule
+-- what is said of a program
+abbrev pub IsVerdictFor : Sought → ℕ → File → Program → ProgramVerdict → Type 0
+IsVerdictFor sought states file program verdicts.Good = IsGoodFor sought file program
+IsVerdictFor sought states file program verdicts.Unknown = IsUnknown sought states file program
+IsVerdictFor sought states file program (verdicts.Bad reason schedule) = IsBad reason file program schedule
 
--- each history is legal, or that of the schedule that is shown isn't
-abbrev pub IsSetVerdict : File → Program → ProgramVerdict → Type 0
-IsSetVerdict file program verdicts.Good = AllLegal file program
-IsSetVerdict file program verdicts.Unknown = Unit {0}
-IsSetVerdict file program (verdicts.Bad reason schedule) = IsBad reason file program schedule
+-- Each history is legal, or that of the schedule that is shown isn't. Nothing is said only where the schedules are cut
+-- short, or a history can't be judged.
+abbrev pub IsSetVerdict : ℕ → File → Program → ProgramVerdict → Type 0
+IsSetVerdict states file program verdicts.Good = AllLegal file program
+IsSetVerdict states file program verdicts.Unknown = IsCutShort states file program ⊎ HasUnjudged file program
+IsSetVerdict states file program (verdicts.Bad reason schedule) = IsBad reason file program schedule
 
 -- the history of each row has names
 abbrev pub AreNamed : Program → List Told → Type 0
@@ -66,4 +87,5 @@ abbrev pub IsLegality : Program → List Told → Legality → Type 0
 IsLegality program rows legality.AllLegal = (r : Told) → Contains rows r → IsVerdict program r.history Legal
 IsLegality program rows (legality.IllegalAt at) =
     (r : Told) × (slice_get rows at ≡ Some r) × IsVerdict program r.history Illegal
-IsLegality program rows legality.NotJudged = Unit {0}
+IsLegality program rows legality.NotJudged = (r : Told) × Contains rows r ×
+    (IsVerdict program r.history NotOneSet ⊎ IsVerdict program r.history TooManyTrapped)

@@ -1,7 +1,8 @@
 -- What an exploration says of a program.
-use Rattle.std.specs.Prelude.{◌≡◌, ℕ, Bool, true, List, Some, Contains, slice_get}
+use Rattle.std.specs.Prelude.{◌≡◌, ◌<◌, ℕ, Bool, true, List, Some, Contains, length, slice_get}
 use Rattle.ls_checked.specs.CheckedTree.{File}
 use Rattle.ls_checked.specs.CheckedProgram.{Program}
+use Rattle.ls_events.specs.Limits.{most_steps}
 use Rattle.ls_events.specs.declared.event.Event.{Event}
 use Rattle.ls_meaning.specs.Runs.{source_history}
 use Rattle.ls_endless_calls.specs.Turning.{HasTurning}
@@ -37,15 +38,12 @@ IsBad reasons.Waits file program schedule = HasWaiting file program schedule
 IsBad reasons.Illegal file program schedule = IsIllegal file program schedule
 IsBad reasons.Turns file program schedule = HasTurning file program schedule
 
-abbrev pub IsVerdict : Bool → File → Program → ProgramVerdict → Type 0
-IsVerdict waiting file program verdicts.Good = IsGood waiting file program
-IsVerdict waiting file program verdicts.Unknown = Unit {0}
-IsVerdict waiting file program (verdicts.Bad reason schedule) = IsBad reason file program schedule
-
--- For a reason it shows the schedule of the row at a place, after so many steps of the setup, or nothing.
+-- For a reason it shows the schedule of the row at a place, after so many steps of the setup; or nothing, if these are
+-- too many for a schedule.
 abbrev pub ShowsRow : Reason → ℕ → List Told → ℕ → ProgramVerdict → Type 0
 ShowsRow reason setup rows at verdicts.Good = ⊥
-ShowsRow reason setup rows at verdicts.Unknown = Unit {0}
+ShowsRow reason setup rows at verdicts.Unknown =
+    (r : Told) → slice_get rows at ≡ Some r → most_steps < length (schedule_of setup r)
 ShowsRow reason setup rows at (verdicts.Bad said schedule) =
     (r : Told) × (slice_get rows at ≡ Some r) × (schedule ≡ schedule_of setup r) × (said ≡ reason)
 
@@ -66,9 +64,3 @@ pub record WaitsAt (runs : List (List Event)) (rows : List Told) (at : ℕ) : Ty
   pub row : Told
   pub is : slice_get rows at ≡ Some row
   pub waits : HasUnexcused runs row
-
--- no call waits for ever, or one does after the schedule that is shown
-abbrev pub IsWaitingVerdict : File → Program → ProgramVerdict → Type 0
-IsWaitingVerdict file program verdicts.Good = NoneWaitsForEver file program
-IsWaitingVerdict file program verdicts.Unknown = Unit {0}
-IsWaitingVerdict file program (verdicts.Bad reason schedule) = IsBad reason file program schedule

@@ -50,7 +50,8 @@ fn judged(
 ) -> Result<Judgement<Why>, AllocError>
     requires { AllNamed (file_of image.now) (program_of image.now) }
     ensures { (classes program : List ℕ) → Compiles classes program image.now →
-        IfOk result (IsJudgement (IsSound sought classes program) (IsCut classes program) (IsWhy classes program)) }
+        IfOk result (IsJudgement (IsSound sought classes program) (IsCut sought states classes program)
+        (IsWhy classes program)) }
 {
     match sought_verdict(alloc, image, states, sought)? {
         ProgramVerdict::Good => Ok(Judgement::Good),
@@ -71,7 +72,7 @@ impl<'a> Judge for Explorer<'a> {
 
     ghost IsGood = { λ e program. IsSound e.sought e.classes.now program };
 
-    ghost IsCut = { λ e program. IsCut e.classes.now program };
+    ghost IsCut = { λ e program. IsCut e.sought e.states e.classes.now program };
 
     ghost Halts = { λ e program why. IsWhy e.classes.now program why };
 

@@ -1,14 +1,14 @@
 // Whether histories are legal as those of a set.
 
-ghost use Rattle.std.specs.Prelude.{IfOk};
+ghost use Rattle.std.specs.Prelude.{ℕ, IfOk};
 ghost use Rattle.ls_checked.specs.PlainProgram.{plain_program};
 ghost use Rattle.ls_explore.specs.Tellings.{TellTruth, TellWhole};
 ghost use Rattle.ls_find.specs.Sought.{AllNamed, AreNamed, IsLegality, IsSetVerdict};
 ghost use Rattle.ls_translation.specs.Texts.{file_of, program_of};
 
-use crate::verdict::{ProgramVerdict, Reason, bad_row};
+use crate::verdict::{ProgramVerdict, Reason, bad_row, unknown_by};
 use ls_checked::program::Program;
-use ls_explore::{ExploreFault, Nobody, Row, explore_source};
+use ls_explore::{Nobody, Row, explore_source};
 use ls_explore_reports::legal::every_schedule_is_legal;
 use ls_image::image::Image;
 use ls_verdicts::{Verdict as SetVerdict, verdict_on};
@@ -55,7 +55,7 @@ fn whole_legality(
     requires named { AllNamed (file_of image.now) (program_of image.now) }
     requires truth { TellTruth (file_of image.now) (program_of image.now) setup rows.now }
     requires whole { TellWhole (file_of image.now) (program_of image.now) rows.now }
-    ensures { IfOk result (IsSetVerdict (file_of image.now) (program_of image.now)) }
+    ensures { IfOk result (λ v. (states : ℕ) → IsSetVerdict states (file_of image.now) (program_of image.now) v) }
 {
     every_schedule_is_legal();
     match rows_legality(alloc, rows, image.program())? {
@@ -73,7 +73,7 @@ pub(crate) fn set_verdict(
     states: usize,
 ) -> Result<ProgramVerdict, AllocError>
     requires { AllNamed (file_of image.now) (program_of image.now) }
-    ensures { IfOk result (IsSetVerdict (file_of image.now) (program_of image.now)) }
+    ensures { IfOk result (IsSetVerdict states (file_of image.now) (program_of image.now)) }
 {
     match explore_source(alloc, image, states, &mut Nobody) {
         Ok(found) => {
@@ -82,7 +82,6 @@ pub(crate) fn set_verdict(
             }
             whole_legality(alloc, image, found.setup, found.rows.as_slice())
         }
-        Err(ExploreFault::Memory) => Err(AllocError),
-        Err(_) => Ok(ProgramVerdict::Unknown),
+        Err(fault) => unknown_by(fault),
     }
 }

@@ -36,7 +36,7 @@ fn end_verdict(
     sought: Sought,
 ) -> Result<ProgramVerdict, AllocError>
     requires { AllNamed (file_of image.now) (program_of image.now) }
-    ensures { IfOk result (IsEndVerdict sought (file_of image.now) (program_of image.now)) }
+    ensures { IfOk result (IsEndVerdict sought states (file_of image.now) (program_of image.now)) }
 {
     match verdict_on(alloc, image, states, sought.waiting)? {
         ProgramVerdict::Good => {
@@ -79,7 +79,7 @@ pub fn sought_verdict(
     sought: Sought,
 ) -> Result<ProgramVerdict, AllocError>
     requires { AllNamed (file_of image.now) (program_of image.now) }
-    ensures { IfOk result (IsVerdictFor sought (file_of image.now) (program_of image.now)) }
+    ensures { IfOk result (IsVerdictFor sought states (file_of image.now) (program_of image.now)) }
 {
     match end_verdict(alloc, image, states, sought)? {
         ProgramVerdict::Good => {

@@ -1,7 +1,7 @@
 // What the states of the source say of a program.
 
 ghost use Rattle.std.specs.Prelude.{◌≡◌, ◌++◌, IfNone, IfOk, IfSome, IsTrue, None, replicate, true};
-ghost use Rattle.ls_find.specs.Verdicts.{IsVerdict};
+ghost use Rattle.ls_find.specs.Said.{IsVerdictIfAny};
 ghost use Rattle.ls_source_judge.specs.Judged.{IsNotLinearizable};
 ghost use Rattle.ls_translation.specs.Texts.{file_of, program_of};
 
@@ -42,7 +42,7 @@ fn bad_path(
 ) -> Result<ProgramVerdict, AllocError>
     requires { IfNone judged.now.doubt (IfSome judged.now.bad (λ path.
         IsNotLinearizable (file_of image.now) (program_of image.now) (replicate judged.now.setup 0 ++ path.items))) }
-    ensures { IfOk result (IsVerdict waiting (file_of image.now) (program_of image.now)) }
+    ensures { IfOk result (IsVerdictIfAny waiting (file_of image.now) (program_of image.now)) }
 {
     if judged.doubt.is_some() {
         return Ok(ProgramVerdict::Unknown);
@@ -64,7 +64,7 @@ pub(crate) fn verdict_by_states(
     states: usize,
     waiting: bool,
 ) -> Result<ProgramVerdict, AllocError>
-    ensures { IfOk result (IsVerdict waiting (file_of image.now) (program_of image.now)) }
+    ensures { IfOk result (IsVerdictIfAny waiting (file_of image.now) (program_of image.now)) }
 {
     pending_calls_wait();
     let judged = judge_schedules(alloc, image.checked().file(), image.program(), states)?;

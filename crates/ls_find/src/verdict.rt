@@ -1,8 +1,14 @@
 // What an exploration says of a program.
 
-ghost use Rattle.std.specs.Prelude.{◌≡◌, IfOk, IfSome, not, position};
+ghost use Rattle.std.specs.Prelude.{◌≡◌, ◌≢◌, ◌<◌, ℕ, IfNone, IfOk, IfSome, length, not, position};
 ghost use Rattle.ls_explore.specs.Tellings.{TellTruth, TellWhole, schedule_of};
-ghost use Rattle.ls_find.specs.Verdicts.{IsVerdict, ShowsRow};
+ghost use Rattle.ls_events.specs.Limits.{most_steps};
+ghost use Rattle.ls_explore.specs.Rows.{NoneEnds};
+ghost use Rattle.ls_explore.specs.declared.rows.Ending.TheVariants.{OutOfCells};
+ghost use Rattle.ls_explore.specs.declared.fault.ExploreFault.TheVariants.{Memory};
+ghost use Rattle.ls_find.specs.Said.{IsVerdict};
+ghost use Rattle.ls_find.specs.declared.verdict.ProgramVerdict.TheVariants.{Unknown};
+ghost use Rattle.ls_find.specs.Verdicts.{ShowsRow};
 ghost use Rattle.ls_translation.specs.Texts.{file_of, program_of};
 
 use crate::states::verdict_by_states;
@@ -39,7 +45,9 @@ pub enum ProgramVerdict {
     /// The history of each schedule is linearizable; no thread waits or turns for ever, and each history is legal, if
     /// that was looked for.
     Good,
-    /// The exploration isn't whole, or the schedule is too long to be shown.
+    /// The exploration isn't whole, or the schedule is too long to be shown, or it isn't known whether a thread that
+    /// waits or turns does so in a call that ends where calls run one at a time, or a history can't be judged as that of
+    /// a set.
     Unknown,
     /// This schedule is bad for a reason.
     Bad(Reason, Schedule),
@@ -55,7 +63,8 @@ fn first_unexplained(flags: &[bool]) -> Option<usize>
 /// The schedule of a row: so many steps of the setup, and then one of each thread of its path. None if these are too
 /// many for a schedule.
 fn schedule_of(alloc: Global, setup: usize, row: &Row) -> Result<Option<Schedule>, AllocError>
-    ensures { IfOk result (λ some. IfSome some (λ schedule. schedule ≡ schedule_of setup row.now)) }
+    ensures some { IfOk result (λ some. IfSome some (λ schedule. schedule ≡ schedule_of setup row.now)) }
+    ensures none { IfOk result (λ some. IfNone some (most_steps < length (schedule_of setup row.now))) }
 {
     if setup > MOST_STEPS || row.path().len() > MOST_STEPS - setup {
         return Ok(None);
@@ -94,7 +103,9 @@ fn whole_verdict(
 ) -> Result<ProgramVerdict, AllocError>
     requires truth { TellTruth (file_of image.now) (program_of image.now) setup rows.now }
     requires whole { TellWhole (file_of image.now) (program_of image.now) rows.now }
-    ensures { IfOk result (IsVerdict waiting (file_of image.now) (program_of image.now)) }
+    requires cells { NoneEnds OutOfCells rows.now }
+    ensures { IfOk result (λ v. (states : ℕ) →
+        IsVerdict states waiting (file_of image.now) (program_of image.now) v) }
 {
     none_is_unexplained();
     let flags = explained_rows(alloc, rows)?;
@@ -109,6 +120,16 @@ fn whole_verdict(
     }
 }
 
+/// That nothing is said, since an exploration is refused, but for want of memory.
+pub(crate) fn unknown_by(fault: ExploreFault) -> Result<ProgramVerdict, AllocError>
+    ensures { IfOk result (λ v. (v ≡ Unknown) × (fault ≢ Memory)) }
+{
+    match fault {
+        ExploreFault::Memory => Err(AllocError),
+        _ => Ok(ProgramVerdict::Unknown),
+    }
+}
+
 /// Explores the program of an image by the histories of its source, and keeps at most so many states.
 fn explored_verdict(
     alloc: Global,
@@ -116,7 +137,7 @@ fn explored_verdict(
     states: usize,
     waiting: bool,
 ) -> Result<ProgramVerdict, AllocError>
-    ensures { IfOk result (IsVerdict waiting (file_of image.now) (program_of image.now)) }
+    ensures { IfOk result (IsVerdict states waiting (file_of image.now) (program_of image.now)) }
 {
     match explore_source(alloc, image, states, &mut Nobody) {
         Ok(found) => {
@@ -125,8 +146,7 @@ fn explored_verdict(
             }
             whole_verdict(alloc, image, found.setup, found.rows.as_slice(), waiting)
         }
-        Err(ExploreFault::Memory) => Err(AllocError),
-        Err(_) => Ok(ProgramVerdict::Unknown),
+        Err(fault) => unknown_by(fault),
     }
 }
 
@@ -143,7 +163,7 @@ pub fn verdict_on(
     states: usize,
     waiting: bool,
 ) -> Result<ProgramVerdict, AllocError>
-    ensures { IfOk result (IsVerdict waiting (file_of image.now) (program_of image.now)) }
+    ensures { IfOk result (IsVerdict states waiting (file_of image.now) (program_of image.now)) }
 {
     let searched = verdict_by_states(alloc, image, states, waiting)?;
     if let ProgramVerdict::Good = searched {

@@ -1,10 +1,11 @@
 // Whether a thread waits for ever.
 
-ghost use Rattle.std.specs.Prelude.{◌≡◌, [], Decides, IfNone, IfOk, IfSome, MatchBool, Some, slice_get, true};
-ghost use Rattle.ls_explore.specs.Rows.{IsEnd, Told};
-ghost use Rattle.ls_explore.specs.declared.rows.Ending.TheVariants.{Over};
+ghost use Rattle.std.specs.Prelude.{◌≡◌, ℕ, [], Decides, IfNone, IfOk, IfSome, MatchBool, Some, slice_get, true};
+ghost use Rattle.ls_explore.specs.Rows.{IsEnd, NoneEnds, Told};
+ghost use Rattle.ls_explore.specs.declared.rows.Ending.TheVariants.{OutOfCells, Over};
 ghost use Rattle.ls_explore.specs.Tellings.{TellTruth, TellWhole};
-ghost use Rattle.ls_find.specs.Verdicts.{AllExcused, HasUnexcused, IsWaitingVerdict, WaitsAt};
+ghost use Rattle.ls_find.specs.Said.{IsWaitingVerdict};
+ghost use Rattle.ls_find.specs.Verdicts.{AllExcused, HasUnexcused, WaitsAt};
 ghost use Rattle.ls_serial_search.specs.Histories.{lists_of};
 ghost use Rattle.ls_translation.specs.Texts.{file_of, program_of};
 ghost use Rattle.ls_endless_calls.specs.Waits.{AreExcused};
@@ -89,7 +90,9 @@ pub(crate) fn waiting_verdict(
 ) -> Result<ProgramVerdict, AllocError>
     requires truth { TellTruth (file_of image.now) (program_of image.now) setup rows.now }
     requires whole { TellWhole (file_of image.now) (program_of image.now) rows.now }
-    ensures { IfOk result (IsWaitingVerdict (file_of image.now) (program_of image.now)) }
+    requires cells { NoneEnds OutOfCells rows.now }
+    ensures { IfOk result (λ v. (states : ℕ) →
+        IsWaitingVerdict states (file_of image.now) (program_of image.now) v) }
 {
     runs_decide();
     if is_quiet(alloc, rows) {

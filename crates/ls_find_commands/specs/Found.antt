@@ -46,7 +46,7 @@ pub data FindsIn (classes : Text) (p : Programs) (r : Range) : Result Text ToolF
   NoNumbers : IsBadRange r (length (plans p.family)) → FindsIn classes p r (Err faults.BadNumbers)
   Searched : (f : Finding Why) →
       ¬ IsBadRange r (length (plans p.family)) →
-      IsFound r.sought classes p (r.from - 1) (min r.to (length (plans p.family))) f →
+      IsFound r.sought r.states classes p (r.from - 1) (min r.to (length (plans p.family))) f →
       FindsIn classes p r
       (halted_answer (r.from - 1) (min r.to (length (plans p.family))) (length (plans p.family)) f.passed.items f.halted)
 

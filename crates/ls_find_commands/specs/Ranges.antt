@@ -63,7 +63,7 @@ pub record AreOne (f g all : Finding Why) : Type 0 where
 -- report.
 abbrev pub RangesAddUp : Type 0
 RangesAddUp =
-    (sought : Sought) (classes : Text) (p : Programs) (from mid to count : ℕ) (f g all : Finding Why) →
-    IsFound sought classes p from mid f → IsFound sought classes p mid to g → AreOne f g all →
-    IsFound sought classes p from to all ×
+    (sought : Sought) (states : ℕ) (classes : Text) (p : Programs) (from mid to count : ℕ) (f g all : Finding Why) →
+    IsFound sought states classes p from mid f → IsFound sought states classes p mid to g → AreOne f g all →
+    IsFound sought states classes p from to all ×
     (joined (report_of from mid count f) (report_of mid to count g) ≡ report_of from to count all)

@@ -12,8 +12,16 @@ pub returns-in-Good : goal.returns-in-Good
 returns-in-Good c = λ classes program compiles. (
   c.args.image.now,
   compiles,
-  subst (IsVerdictFor c.args.sought (file_of c.args.image.now) (program_of c.args.image.now)) c.in-Good.is
+  subst (IsVerdictFor c.args.sought c.args.states (file_of c.args.image.now) (program_of c.args.image.now)) c.in-Good.is
       c.in_ok-sought_verdict.ensures,
+)
+
+pub returns-in-Unknown : goal.returns-in-Unknown
+returns-in-Unknown c = λ classes program compiles. (
+  c.args.image.now,
+  compiles,
+  subst (IsVerdictFor c.args.sought c.args.states (file_of c.args.image.now) (program_of c.args.image.now))
+      c.in-Unknown.is c.in_ok-sought_verdict.ensures,
 )
 
 pub returns-in_ok-schedule-in-Bad : goal.returns-in_ok-schedule-in-Bad
@@ -23,7 +31,7 @@ returns-in_ok-schedule-in-Bad c = λ classes program compiles. record {
   reason = c.in-Bad.reason;
   schedule = c.in_ok-run-in-Bad.run'.schedule;
   bad = c.in_ok-run-in-Bad.ensures.bad
-      (subst (IsVerdictFor c.args.sought (file_of c.args.image.now) (program_of c.args.image.now)) c.in-Bad.is
+      (subst (IsVerdictFor c.args.sought c.args.states (file_of c.args.image.now) (program_of c.args.image.now)) c.in-Bad.is
       c.in_ok-sought_verdict.ensures);
   is_fewest = c.in_ok-run-in-Bad.run'.fewest;
   fewest = c.in_ok-run-in-Bad.ensures.fewest;

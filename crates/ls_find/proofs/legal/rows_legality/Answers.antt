@@ -1,11 +1,12 @@
 -- Why `rows_legality` in src/legal.rt keeps its contract, its loop `at` and what `verdict_on` requires.
 
-use Rattle.std.proofs.Common.{◌∙◌, List, ap, sym, subst, Some}
+use Rattle.std.proofs.Common.{◌≡◌, ◌∙◌, List, ap, inl, inr, sym, subst, Some}
 use Rattle.std.proofs.lemmas.Option.{slice_get-get_or}
 use Rattle.ls_checked.specs.PlainProgram.{plain_program}
 use Rattle.ls_events.specs.declared.event.Event.{Event}
 use Rattle.ls_verdicts.specs.Verdicts.{IsHistoryOf, IsVerdict}
-use Rattle.ls_verdicts.specs.declared.verdicts.Verdict.TheVariants.{Illegal, Legal}
+use Rattle.ls_verdicts.specs.declared.verdicts.Verdict.{Verdict}
+use Rattle.ls_verdicts.specs.declared.verdicts.Verdict.TheVariants.{Illegal, Legal, NotOneSet, TooManyTrapped}
 use Rattle.ls_endless_calls.proofs.Places.{each_so, one_so}
 use Rattle.ls_find.proofs.legal.rows_legality.Goals as goal
 
@@ -23,6 +24,21 @@ returns-in-Illegal c =
           ap Some (sym c.index-rows-at.is),
       subst (λ (h : List Event). IsVerdict (plain_program c.args.program.now) h Illegal) c.history.ensures said,
     )
+
+pub returns-in-NotOneSet : goal.returns-in-NotOneSet
+returns-in-NotOneSet c = (
+  c.index-rows-at.result,
+  (c.loop-at.at, c.loop-at-test.true, sym c.index-rows-at.is),
+  elim c.in-NotOneSet.is [
+    | inl none ↦ inl (said NotOneSet none)
+    | inr many ↦ inr (said TooManyTrapped many)
+  ],
+)
+  where
+    said : (v : Verdict) → c.in_ok-verdict_on.field-0 ≡ v →
+        IsVerdict (plain_program c.args.program.now) c.index-rows-at.result.history v
+    said v is = subst (λ (h : List Event). IsVerdict (plain_program c.args.program.now) h v) c.history.ensures
+        (subst (IsVerdict (plain_program c.args.program.now) c.history.result.now) is c.in_ok-verdict_on.ensures)
 
 pub loop-at-preserved : goal.loop-at-preserved
 loop-at-preserved c =

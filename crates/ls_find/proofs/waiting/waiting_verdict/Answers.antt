@@ -1,6 +1,6 @@
 -- Why `waiting_verdict` in src/waiting.rt keeps its contract.
 
-use Rattle.std.proofs.Common.{[], refl, subst}
+use Rattle.std.proofs.Common.{[], inr, refl, subst}
 use Rattle.std.proofs.lemmas.Result.{IfOk-weaker}
 use Rattle.ls_checked.specs.CheckedTree.{File}
 use Rattle.ls_checked.specs.CheckedProgram.{Program}
@@ -11,17 +11,17 @@ use Rattle.ls_serial_search.specs.Endless.{AreEndlessRuns, TellEndlessRuns}
 use Rattle.ls_translation.specs.Texts.{file_of, program_of}
 use Rattle.ls_types_checked.specs.declared.checked.Checked.{Checked}
 use Rattle.ls_find.specs.Verdicts.{AllExcused, WaitsAt}
-use Rattle.ls_find.proofs.Waits.{none_endless, none_waits, one_waits}
+use Rattle.ls_find.proofs.Waits.{call_waits, none_endless, none_waits, one_waits}
 use Rattle.ls_find.proofs.waiting.waiting_verdict.Goals as goal
 
 pub returns-then-is_quiet : goal.returns-then-is_quiet
-returns-then-is_quiet c =
+returns-then-is_quiet c = λ states.
     none_waits (file_of c.args.image.now) (program_of c.args.image.now) c.args.rows.now [] c.runs_decide.ensures.among
     c.requires.whole (none_endless (file_of c.args.image.now) (program_of c.args.image.now))
     (c.is_quiet.ensures c.if-is_quiet.true)
 
 pub returns-in-None : goal.returns-in-None
-returns-in-None c =
+returns-in-None c = λ states.
     let file : File = file_of c.args.image.now in
     let program : Program = program_of c.args.image.now in
     let runs = lists_of c.in_ok-endless.endless.runs.items in
@@ -45,5 +45,12 @@ returns c =
     let waits = subst (λ vs. WaitsAt (lists_of vs) c.args.rows.now c.in-Some.at) c.as_slice.ensures.value
     c.in-Some.ensures.some in
     IfOk-weaker c.bad_row.result _ _
-    (λ v shows. one_waits file program c.args.setup c.args.rows.now runs c.in-Some.at c.runs_decide.ensures.all
-    c.requires.truth tell waits (c.if-not-is_over.ensures refl) v shows) c.bad_row.ensures
+    (λ v shows states. one_waits file program c.args.setup c.args.rows.now runs c.in-Some.at c.requires.truth waits
+    c.runs_decide.ensures.all tell (c.if-not-is_over.ensures refl) v shows states) c.bad_row.ensures
+
+pub returns-then-not-endless : goal.returns-then-not-endless
+returns-then-not-endless c = λ states.
+    let waits = subst (λ vs. WaitsAt (lists_of vs) c.args.rows.now c.in-Some.at) c.as_slice.ensures.value
+    c.in-Some.ensures.some in
+    inr (call_waits (file_of c.args.image.now) (program_of c.args.image.now) c.args.setup c.args.rows.now
+    (lists_of c.in_ok-endless.endless.runs.items) c.in-Some.at c.requires.truth waits c.requires.cells)

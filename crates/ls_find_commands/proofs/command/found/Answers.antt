@@ -18,14 +18,14 @@ pub finding_text-requires-clause-last : goal.finding_text-requires-clause-last
 finding_text-requires-clause-last g c =
     let many = c.count-count.ensures ∙ ap (λ (f : Family). length (plans f)) c.family.ensures in
     let within : c.min-to.result ≤ length (plans c.args.programs.now.family) = omega (arith, many) in
-    let last = last_within c.args.range.sought c.args.classes.now c.args.programs.now (c.args.range.from - 1) c.min-to.result
+    let last = last_within c.args.range.sought c.args.range.states c.args.classes.now c.args.programs.now (c.args.range.from - 1) c.min-to.result
     c.in_ok-finding.finding c.in_ok-finding.ensures.finding within in
     omega (arith, last, many, c.count-count.type_inv)
 
 pub finding_text-requires-clause-next : goal.finding_text-requires-clause-next
 finding_text-requires-clause-next g c =
     let many = c.count-count.ensures ∙ ap (λ (f : Family). length (plans f)) c.family.ensures in
-    next_under c.args.range.sought c.args.classes.now c.args.programs.now (c.args.range.from - 1) c.min-to.result
+    next_under c.args.range.sought c.args.range.states c.args.classes.now c.args.programs.now (c.args.range.from - 1) c.min-to.result
     c.in_ok-finding.finding c.in_ok-finding.ensures.finding (omega (arith, many, c.count-count.type_inv))
 
 pub returns-clause-gives : goal.returns-clause-gives
@@ -35,7 +35,7 @@ returns-clause-gives g c =
     let f = c.in_ok-finding.finding in
     let many = c.count-count.ensures ∙ ap (λ (g : Family). length (plans g)) c.family.ensures in
     let to : c.min-to.result ≡ min r.to (length (plans p.family)) = c.min-to.ensures ∙ ap (min r.to) many in
-    let found = subst (λ n. IsFound c.args.range.sought c.args.classes.now p (r.from - 1) n f) to c.in_ok-finding.ensures.finding in
+    let found = subst (λ n. IsFound c.args.range.sought c.args.range.states c.args.classes.now p (r.from - 1) n f) to c.in_ok-finding.ensures.finding in
     let good : ¬ IsBadRange r (length (plans p.family)) =
     λ bad. not_both (c.is_bad_range.ensures.bad.1 (subst (IsBadRange r) (sym many) bad)) c.if-is_bad_range.false in
     wider (λ a. a ≡ halted_answer (r.from - 1) c.min-to.result c.count-count.result f.passed.items f.halted)

@@ -1,0 +1,60 @@
+-- What is said of a program, and when nothing is.
+use Rattle.std.specs.Prelude.{◌≡◌, ◌<◌, ◌⊎◌, ℕ, Bool, true, List, length}
+use Rattle.ls_checked.specs.CheckedTree.{File}
+use Rattle.ls_checked.specs.CheckedProgram.{Program}
+use Rattle.ls_events.specs.Limits.{most_steps}
+use Rattle.ls_events.specs.declared.event.Event.{Event}
+use Rattle.ls_meaning.specs.Runs.{source_history, source_run}
+use Rattle.ls_meaning.specs.Still.{IsOver}
+use Rattle.ls_endless_calls.specs.Laws.{NoneWaitsForEver}
+use Rattle.ls_endless_calls.specs.Waits.{IsPending}
+use Rattle.ls_explore.specs.Faults.{AreBadStates}
+use Rattle.ls_explore.specs.Rows.{TellStates, Told}
+use Rattle.ls_explore.specs.Settings.{GoesOnFor}
+use Rattle.ls_find.specs.Verdicts.{AllLinearizable, IsBad, IsGood}
+use Rattle.ls_find.specs.declared.verdict.ProgramVerdict.{ProgramVerdict}
+use Rattle.ls_find.specs.declared.verdict.ProgramVerdict.TheVariants as verdicts
+use Rattle.ls_find.specs.declared.verdict.Reason.{Reason}
+
+-- Why not all schedules are looked at. No such number of states may be kept. Or the setup acts in each of 100,001 steps.
+-- Or there are as many states as may be kept, each with a path of its own. Or a schedule is bad that has more steps than
+-- a schedule may have.
+pub data IsCutShort (states : ℕ) (file : File) (program : Program) : Type 0 where
+  NoStates : AreBadStates states → IsCutShort states file program
+  SetupGoesOn : GoesOnFor file program 100001 → IsCutShort states file program
+  ManyStates : (k : ℕ) (rows : List Told) → TellStates file program k rows states → IsCutShort states file program
+  LongSchedule : (reason : Reason) (schedule : List ℕ) →
+      IsBad reason file program schedule →
+      most_steps < length schedule →
+      IsCutShort states file program
+
+-- after some schedule no thread acts, and a call is pending
+pub record HasWaitingCall (file : File) (program : Program) : Type 0 where
+  pub schedule : List ℕ
+  pub over : IsOver file program (source_run file program schedule)
+  pub call : Event
+  pub pending : IsPending (source_history file program schedule) call
+
+-- what is said of waiting: nothing only where the schedules are cut short, or a call waits
+abbrev pub IsWaitingVerdict : ℕ → File → Program → ProgramVerdict → Type 0
+IsWaitingVerdict states file program verdicts.Good = NoneWaitsForEver file program
+IsWaitingVerdict states file program verdicts.Unknown = IsCutShort states file program ⊎ HasWaitingCall file program
+IsWaitingVerdict states file program (verdicts.Bad reason schedule) = IsBad reason file program schedule
+
+-- if waiting is looked for, all histories are linearizable, and a call waits
+pub record MayWait (waiting : Bool) (file : File) (program : Program) : Type 0 where
+  pub asked : waiting ≡ true
+  pub linearizable : AllLinearizable file program
+  pub waits : HasWaitingCall file program
+
+-- what is said of a program: nothing only where its schedules are cut short, or a call may wait for ever
+abbrev pub IsVerdict : ℕ → Bool → File → Program → ProgramVerdict → Type 0
+IsVerdict states waiting file program verdicts.Good = IsGood waiting file program
+IsVerdict states waiting file program verdicts.Unknown = IsCutShort states file program ⊎ MayWait waiting file program
+IsVerdict states waiting file program (verdicts.Bad reason schedule) = IsBad reason file program schedule
+
+-- the same, or nothing
+abbrev pub IsVerdictIfAny : Bool → File → Program → ProgramVerdict → Type 0
+IsVerdictIfAny waiting file program verdicts.Good = IsGood waiting file program
+IsVerdictIfAny waiting file program verdicts.Unknown = Unit {0}
+IsVerdictIfAny waiting file program (verdicts.Bad reason schedule) = IsBad reason file program schedule
