@@ -9,9 +9,10 @@ ghost use Rattle.ls_preservation.specs.Same.{Alike, Fits};
 ghost use Rattle.ls_preservation.specs.Translations.{most_silent, steps_all, to_machine};
 ghost use Rattle.ls_machine.specs.Room.{AreBadCells};
 ghost use Rattle.ls_meaning.specs.Runs.{source_history, start};
+ghost use Rattle.ls_source.specs.Progress.{begun};
 ghost use Rattle.ls_source.specs.Shown.{progress_of};
 ghost use Rattle.ls_translation.specs.Faults.{CutsShort};
-ghost use Rattle.ls_translation.specs.MachineRuns.{gone, steps_after, steps_before, steps_of_acting};
+ghost use Rattle.ls_translation.specs.MachineRuns.{begun as no_steps, gone, steps_after, steps_before, steps_of_acting};
 ghost use Rattle.ls_translation.specs.Room.{IsFirstUnfit};
 ghost use Rattle.ls_translation.specs.Texts.{file_of, program_of};
 ghost use Rattle.ls_translation.specs.declared.fault.TranslationFault.TheVariants.{BadCells, DoesNotFit, Memory};
@@ -100,8 +101,80 @@ fn most_silent(image: &Image) -> u64
     64 * (image.code().instructions().len() as u64)
 }
 
-/// The machine's steps for a schedule of the source, which is played once. Each step is checked for room as it is made.
-/// If there are too many steps, the rest of the schedule is only checked.
+/// Follows a source run at its start through a schedule, which is played once. Each step is checked for room as it is
+/// made. If there are too many steps, the rest of the schedule is only checked.
+fn follow_schedule(
+    alloc: Global,
+    image: &Image,
+    cells: usize,
+    source: &mut SourceRun<'_>,
+    run: &mut MachineRun,
+    schedule: &Schedule,
+) -> Result<(), TranslationFault>
+    requires cells { length (program_of_image image.now).names.items ≤ cells }
+    requires source { progress_of source.old ≡ begun (file_of image.now) (program_of image.now) }
+    requires run { run.old ≡ no_steps run.old.machine }
+    ensures unfit { (step : ℕ) → IsErrOf result (DoesNotFit step) →
+        IsFirstUnfit (file_of image.now) (program_of image.now) cells schedule.now step }
+    ensures long { IsErrOf result ResultTooLong →
+        most_steps < length
+        (steps_all (file_of image.now) (program_of image.now) (most_silent (code_of_image image.now))
+        (start (program_of image.now)) run.old.machine schedule.now) }
+    ensures long_fits { IsErrOf result ResultTooLong →
+        Fits (file_of image.now) (program_of image.now) cells schedule.now }
+    ensures bad { ¬ IsErrOf result BadCells }
+    ensures fits { OnOk result (Fits (file_of image.now) (program_of image.now) cells schedule.now) }
+    ensures steps { OnOk result (run.new.steps ≡
+        steps_all (file_of image.now) (program_of image.now) (most_silent (code_of_image image.now))
+        (start (program_of image.now)) run.old.machine schedule.now) }
+{
+    let file = image.checked().file();
+    let most = most_silent(image);
+    let mut free = cells - image.program().names.len();
+    let mut is_long = begin(source, run, most)?;
+    for (step, thread) in schedule.steps().iter().enumerate() {
+        let did = source.step(alloc, *thread as usize)?;
+        let Some(left) = free_after(&file.classes, free, did) else {
+            return Err(TranslationFault::DoesNotFit { step });
+        };
+        free = left;
+        is_long = follow(source, run, most, *thread, did, is_long)?;
+    }
+    if is_long {
+        return Err(TranslationFault::ResultTooLong);
+    }
+    Ok(())
+}
+
+/// The machine's steps for a schedule of the source, on a machine that hasn't taken a step.
+fn follow_from_start(
+    alloc: Global,
+    image: &Image,
+    cells: usize,
+    run: &mut MachineRun,
+    schedule: &Schedule,
+) -> Result<(), TranslationFault>
+    requires cells { length (program_of_image image.now).names.items ≤ cells }
+    requires run { run.old ≡ no_steps run.old.machine }
+    ensures unfit { (step : ℕ) → IsErrOf result (DoesNotFit step) →
+        IsFirstUnfit (file_of image.now) (program_of image.now) cells schedule.now step }
+    ensures long { IsErrOf result ResultTooLong →
+        most_steps < length
+        (steps_all (file_of image.now) (program_of image.now) (most_silent (code_of_image image.now))
+        (start (program_of image.now)) run.old.machine schedule.now) }
+    ensures long_fits { IsErrOf result ResultTooLong →
+        Fits (file_of image.now) (program_of image.now) cells schedule.now }
+    ensures bad { ¬ IsErrOf result BadCells }
+    ensures fits { OnOk result (Fits (file_of image.now) (program_of image.now) cells schedule.now) }
+    ensures steps { OnOk result (run.new.steps ≡
+        steps_all (file_of image.now) (program_of image.now) (most_silent (code_of_image image.now))
+        (start (program_of image.now)) run.old.machine schedule.now) }
+{
+    let mut source = SourceRun::new(alloc, image.checked().file(), image.program())?;
+    follow_schedule(alloc, image, cells, &mut source, run, schedule)
+}
+
+/// The machine's steps for a schedule of the source.
 fn machine_steps(
     alloc: Global,
     image: &Image,
@@ -124,24 +197,8 @@ fn machine_steps(
         (λ steps. steps ≡ steps_all (file_of image.now) (program_of image.now) (most_silent (code_of_image image.now))
         (start (program_of image.now)) machine schedule.now) }
 {
-    let file = image.checked().file();
-    let program = image.program();
-    let most = most_silent(image);
-    let mut source = SourceRun::new(alloc, file, program)?;
     let mut run = MachineRun::new(alloc, machine);
-    let mut free = cells - program.names.len();
-    let mut is_long = begin(&source, &mut run, most)?;
-    for (step, thread) in schedule.steps().iter().enumerate() {
-        let did = source.step(alloc, *thread as usize)?;
-        let Some(left) = free_after(&file.classes, free, did) else {
-            return Err(TranslationFault::DoesNotFit { step });
-        };
-        free = left;
-        is_long = follow(&source, &mut run, most, *thread, did, is_long)?;
-    }
-    if is_long {
-        return Err(TranslationFault::ResultTooLong);
-    }
+    follow_from_start(alloc, image, cells, &mut run, schedule)?;
     Ok(run.into_steps())
 }
 
