@@ -1,12 +1,12 @@
 -- A thread that comes back to where it was within a call: the call never ends.
 use Rattle.std.proofs.Common.{◌≡◌, ◌⊎◌, inl, inr, ℕ, zero, suc, ◌+◌, ◌<◌, ◌≤◌, List, [], ◌∷◌, ◌++◌, map}
-use Rattle.std.proofs.Common.{refl, replicate, sym, ap, ◌∙◌, arith, append-nil, slice_get}
+use Rattle.std.proofs.Common.{replicate, sym, ap, ◌∙◌, arith, append-nil, slice_get}
 use Rattle.std.proofs.lemmas.Bool.{cases_lt}
 use Rattle.ls_events.specs.declared.event.Event.{Event}
 use Rattle.ls_checked.specs.CheckedTree.{File}
 use Rattle.ls_checked.specs.CheckedProgram.{Program}
 use Rattle.ls_meaning.specs.Course.{Answers}
-use Rattle.ls_meaning.specs.Runs.{answers_of, source_history, source_run, step}
+use Rattle.ls_meaning.specs.Runs.{answers_of, source_history, source_run}
 use Rattle.ls_meaning.specs.Threads.{next}
 use Rattle.ls_search_laws.specs.Configuration.{Configuration, configuration_of, stride}
 use Rattle.ls_search_laws.proofs.Renamed.{step_stride}

@@ -1,11 +1,14 @@
 // What comes of a thread's next call, if no other thread goes on.
 
-ghost use Rattle.std.specs.Prelude.{◌≡◌, IfOk};
+ghost use Rattle.std.specs.Prelude.{◌≡◌, ◌∷◌, ◌++◌, [], IfOk, replicate};
 ghost use Rattle.ls_checked.specs.Plain.{plain_file};
 ghost use Rattle.ls_checked.specs.PlainProgram.{plain_program};
-ghost use Rattle.ls_meaning.specs.Runs.{event_of};
-ghost use Rattle.ls_serial_search.specs.Following.{events_in};
+ghost use Rattle.ls_meaning.specs.Runs.{event_of, source_run, step};
+ghost use Rattle.ls_source.specs.Stands.{StandsFor};
+ghost use Rattle.ls_serial_search.specs.Following.{called, events_in, events_of};
 ghost use Rattle.ls_serial_search.specs.Happened.{EventsSay, HasFollowed, HasHappened};
+ghost use Rattle.ls_serial_search.specs.Marks.{IsMarkOf};
+ghost use Rattle.ls_serial_search.specs.Orders.{progress_at};
 
 use crate::marks::Mark;
 use crate::playing::played;
@@ -15,6 +18,7 @@ use ls_events::action::Action;
 use ls_events::schedule::Schedule;
 use ls_events::value::Value;
 use ls_meaning::step::Did;
+use ls_source::playing::Playing;
 use std::alloc::{AllocError, Global};
 
 /// What a step does to its thread's call.
@@ -48,6 +52,15 @@ pub(crate) struct Task<'a> {
     pub(crate) most_steps: usize,
 }
 
+/// A thread's next call after a schedule of a task, and the most steps in which it is followed.
+#[derive(Drop)]
+struct NextCall<'a> {
+    task: &'a Task<'a>,
+    schedule: &'a Schedule,
+    thread: u8,
+    most: usize,
+}
+
 /// What an action of a thread does to its call.
 fn happened_by(thread: usize, action: &Action<Value>) -> Happened
     ensures { EventsSay thread (events_in (event_of thread action.now)) result }
@@ -76,6 +89,78 @@ fn is_marked(steps: usize) -> bool {
     steps >= 64 && steps.is_power_of_two()
 }
 
+// Puts a value in the place of another, which is dropped here, at a parameter's type.
+fn replace<T: Drop>(place: &mut T, value: T)
+    ensures { place.new ≡ value }
+{
+    *place = value;
+}
+
+/// Follows a call that has begun with the thread's first step after the schedule. The run stands after that step, and it
+/// is marked there.
+fn follow_on<'a>(
+    alloc: Global,
+    next: &NextCall,
+    call: usize,
+    run: &mut Playing<'a>,
+    mark: &mut Mark<'a>,
+) -> Result<Followed, AllocError>
+    requires begun { events_of next.now.thread (step (plain_file next.now.task.now.file.now)
+        (plain_program next.now.task.now.program.now)
+        (source_run (plain_file next.now.task.now.file.now) (plain_program next.now.task.now.program.now)
+        next.now.schedule.now) next.now.thread).did ≡ called next.now.thread call ∷ [] }
+    requires run { StandsFor run.old (progress_at (plain_file next.now.task.now.file.now)
+        (plain_program next.now.task.now.program.now) (next.now.schedule.now ++ replicate 1 next.now.thread)) }
+    requires mark { IsMarkOf mark.old run.old }
+    ensures { IfOk result (λ f. HasFollowed (plain_file next.now.task.now.file.now)
+        (plain_program next.now.task.now.program.now) next.now.schedule.now next.now.thread next.now.most f) }
+{
+    let thread = next.thread as usize;
+    let most = next.most;
+    for steps in 1..most {
+        let did = run.step(alloc, thread)?;
+        match what_happened(thread, &did) {
+            Happened::GoesOn => {
+                if mark.is_at(run) {
+                    return Ok(Followed::Never(call));
+                }
+                if is_marked(steps) {
+                    replace(mark, Mark::of(alloc, run)?);
+                }
+            }
+            Happened::Stays => return Ok(Followed::Never(call)),
+            Happened::Begins(_) => return Ok(Followed::GoesOn),
+            Happened::Ends(ended) => {
+                if ended == call {
+                    return Ok(Followed::Ends(steps + 1));
+                }
+                return Ok(Followed::GoesOn);
+            }
+        }
+    }
+    Ok(Followed::GoesOn)
+}
+
+/// Follows a thread's next call from where the run stands after the schedule.
+fn follow_run(alloc: Global, next: &NextCall, run: &mut Playing<'_>) -> Result<Followed, AllocError>
+    requires { StandsFor run.old (progress_at (plain_file next.now.task.now.file.now)
+        (plain_program next.now.task.now.program.now) next.now.schedule.now) }
+    ensures { IfOk result (λ f. HasFollowed (plain_file next.now.task.now.file.now)
+        (plain_program next.now.task.now.program.now) next.now.schedule.now next.now.thread next.now.most f) }
+{
+    let thread = next.thread as usize;
+    let first = run.step(alloc, thread)?;
+    match what_happened(thread, &first) {
+        Happened::Begins(call) => {
+            let mut mark = Mark::of(alloc, run)?;
+            follow_on(alloc, next, call, run, &mut mark)
+        }
+        Happened::Stays => Ok(Followed::Stays),
+        Happened::GoesOn => Ok(Followed::GoesOn),
+        Happened::Ends(_) => Ok(Followed::GoesOn),
+    }
+}
+
 /// Follows a thread's next call after a schedule, for at most so many steps. The only refusal is that memory ran out.
 ///
 /// It is marked where the run stands after the first step, and after each power of two from 64 on. If the run comes back
@@ -90,35 +175,12 @@ pub(crate) fn follow(
     ensures { IfOk result (λ f. HasFollowed (plain_file task.now.file.now) (plain_program task.now.program.now)
         schedule.now thread most f) }
 {
-    let mut run = played(alloc, task.file, task.program, schedule)?;
-    let first = run.step(alloc, thread as usize)?;
-    let call = match what_happened(thread as usize, &first) {
-        Happened::Begins(call) => call,
-        Happened::Stays => return Ok(Followed::Stays),
-        Happened::GoesOn => return Ok(Followed::GoesOn),
-        Happened::Ends(_) => return Ok(Followed::GoesOn),
+    let next = NextCall {
+        task,
+        schedule,
+        thread,
+        most,
     };
-    let mut mark = Mark::of(alloc, &run)?;
-    for steps in 1..most {
-        let did = run.step(alloc, thread as usize)?;
-        match what_happened(thread as usize, &did) {
-            Happened::GoesOn => {
-                if mark.is_at(&run) {
-                    return Ok(Followed::Never(call));
-                }
-                if is_marked(steps) {
-                    mark = Mark::of(alloc, &run)?;
-                }
-            }
-            Happened::Stays => return Ok(Followed::Never(call)),
-            Happened::Begins(_) => return Ok(Followed::GoesOn),
-            Happened::Ends(ended) => {
-                if ended == call {
-                    return Ok(Followed::Ends(steps + 1));
-                }
-                return Ok(Followed::GoesOn);
-            }
-        }
-    }
-    Ok(Followed::GoesOn)
+    let mut run = played(alloc, next.task.file, next.task.program, next.schedule)?;
+    follow_run(alloc, &next, &mut run)
 }

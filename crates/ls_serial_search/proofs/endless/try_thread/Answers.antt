@@ -1,6 +1,6 @@
 -- Why `try_thread` in src/endless.rt keeps its clauses `endless`, `kept` and `tried`.
 
-use Rattle.std.proofs.Common.{◌≡◌, ◌∙◌, ◌∷◌, ◌++◌, [], List, Contains, ap, subst, sym}
+use Rattle.std.proofs.Common.{◌∙◌, ◌∷◌, ◌++◌, [], List, Contains, ap, subst, sym}
 use Rattle.std.proofs.lemmas.List.Elements.{Contains-append_left}
 use Rattle.ls_checked.specs.CheckedTree.{File}
 use Rattle.ls_checked.specs.CheckedProgram.{Program}
