@@ -96,8 +96,8 @@ fn replace<T: Drop>(place: &mut T, value: T)
     *place = value;
 }
 
-/// Follows a call that has begun with the thread's first step after the schedule. The run stands after that step, and it
-/// is marked there.
+/// Follows a call that has begun with the thread's first step after the schedule. The run stands after that step, and
+/// it is marked there.
 fn follow_on<'a>(
     alloc: Global,
     next: &NextCall,
@@ -163,8 +163,8 @@ fn follow_run(alloc: Global, next: &NextCall, run: &mut Playing<'_>) -> Result<F
 
 /// Follows a thread's next call after a schedule, for at most so many steps. The only refusal is that memory ran out.
 ///
-/// It is marked where the run stands after the first step, and after each power of two from 64 on. If the run comes back
-/// there, the call never ends, since no other thread goes on.
+/// It is marked where the run stands after the first step, and after each power of two from 64 on. If the run comes
+/// back there, the call never ends, since no other thread goes on.
 pub(crate) fn follow(
     alloc: Global,
     task: &Task,
