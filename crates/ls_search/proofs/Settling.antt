@@ -95,6 +95,18 @@ module _ (mid new : Table) (store : ℕ) (works : List ℕ) (u : ℕ) (step : St
       ∙ goes_on_still mid new works store 0 [] (slice_get works 0) grows there refl in
       ap (λ (b : Bool). if nat_eq u 0 then true else b) (ap has_ended same) ∙ started
 
+  -- also the setup, which has always started
+  pub started_still : HasStarted (configuration_at mid store works) u →
+      HasStarted (configuration_at new step.store (slice_set works u step.work)) u
+  started_still started = by_test (eqb_tells u 0)
+    where
+      by_test : ((nat_eq u 0 ≡ true) × (u ≡ 0)) ⊎ ((nat_eq u 0 ≡ false) × (u ≢ 0)) →
+          HasStarted (configuration_at new step.store (slice_set works u step.work)) u
+      by_test (inl same) =
+          ap (λ (b : Bool). if b then true else has_ended ((configuration_at new step.store
+          (slice_set works u step.work)).continues 0 [])) same.0
+      by_test (inr other) = started_after other.1 started
+
   pub leads_after : (file : File) (c : Configuration) (n : ℕ) → mid.file ≡ file →
       s ≡ stride mid.file (configuration_at mid store works) u →
       u ≢ 0 →
