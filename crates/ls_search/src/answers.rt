@@ -213,6 +213,57 @@ fn stuck_path<O: Observer>(
     }
 }
 
+/// Looks for all that the beginning of a search leads to, which has found nothing else yet, as `search_from` does.
+fn tell<O: Observer>(
+    ground: &Ground<'_, O>,
+    search: &mut Search<'_, O::Noted>,
+) -> Result<Found, AllocError>
+    requires sound { IsSoundSearch (O.first ground.now.observer.now) (O.next ground.now.observer.now)
+        (O.stands ground.now.observer.now) (plain_file ground.now.file.now) (plain_program ground.now.program.now)
+        ground.now.threads search.old }
+    requires seen { search.old.seen.items ≡ [] }
+    requires one { length search.old.found.nodes.items ≡ 1 }
+    requires most { ground.now.most ≤ 4096 }
+    requires room { 1 ≤ ground.now.limit }
+    ensures closes { IfOk result (λ f. (r : Noticed O.State) →
+        slice_get (pairs_of (O.first ground.now.observer.now) (O.stands ground.now.observer.now) search.old) 0 ≡ Some
+        r →
+        IsTrue f.complete → ClosesAll (O.stands ground.now.observer.now) (O.first ground.now.observer.now)
+        (O.next ground.now.observer.now) (O.bad ground.now.observer.now) (plain_file ground.now.file.now)
+        (plain_program ground.now.program.now) ground.now.threads r f.bad f.stuck) }
+    ensures bad { IfOk result (λ f. (r : Noticed O.State) →
+        slice_get (pairs_of (O.first ground.now.observer.now) (O.stands ground.now.observer.now) search.old) 0 ≡ Some
+        r →
+        IfSome f.bad (λ path. O.bad ground.now.observer.now
+        (fold (noticed_after (O.first ground.now.observer.now) (O.next ground.now.observer.now)
+        (plain_file ground.now.file.now) (plain_program ground.now.program.now)) r path.items).noted ≡ true)) }
+    ensures stuck { IfOk result (λ f. (r : Noticed O.State) →
+        slice_get (pairs_of (O.first ground.now.observer.now) (O.stands ground.now.observer.now) search.old) 0 ≡ Some
+        r →
+        IfSome f.stuck (λ path. IsStuck (plain_file ground.now.file.now)
+        (fold (noticed_after (O.first ground.now.observer.now) (O.next ground.now.observer.now)
+        (plain_file ground.now.file.now) (plain_program ground.now.program.now)) r path.items).configuration)) }
+    ensures cut { IfOk result (λ f. f.complete ≡ false → f.states ≡ ground.now.limit) }
+    ensures few { IfOk result (λ f. f.states ≤ ground.now.limit) }
+    ensures tried { IfOk result (λ f. (r : Noticed O.State) →
+        slice_get (pairs_of (O.first ground.now.observer.now) (O.stands ground.now.observer.now) search.old) 0 ≡ Some
+        r →
+        HasTried (λ path u. IsActing (stride (plain_file ground.now.file.now)
+        (fold (noticed_after (O.first ground.now.observer.now) (O.next ground.now.observer.now)
+        (plain_file ground.now.file.now) (plain_program ground.now.program.now)) r path).configuration u).did)
+        f.states) }
+{
+    let complete = close(ground, search)?;
+    let bad = bad_path(ground, search)?;
+    let stuck = stuck_path(ground, search)?;
+    Ok(Found {
+        complete,
+        states: search.found.nodes.len(),
+        bad,
+        stuck,
+    })
+}
+
 /// Looks for all that the root leads to, but for names of objects. Each thread acts in turn at each state that was
 /// found, and turns and enterings after that are taken at once. At most so many states are kept. A refusal is that
 /// memory ran out, or that a store, a work or a state has no number left.
@@ -250,13 +301,5 @@ pub fn search_from<'a, O: Observer>(
         f.states) }
 {
     let mut search = start(ground, transitions, root)?;
-    let complete = close(ground, &mut search)?;
-    let bad = bad_path(ground, &search)?;
-    let stuck = stuck_path(ground, &search)?;
-    Ok(Found {
-        complete,
-        states: search.found.nodes.len(),
-        bad,
-        stuck,
-    })
+    tell(ground, &mut search)
 }
