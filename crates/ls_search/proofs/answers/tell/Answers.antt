@@ -1,6 +1,6 @@
 -- Why `tell` in src/answers.rt keeps its contract and what it calls with.
 
-use Rattle.std.proofs.Common.{◌≡◌, true, Vec, Global, ℕ, List, length, map, Some, ap, rules, subst}
+use Rattle.std.proofs.Common.{◌≡◌, true, Vec, Global, ℕ, length, map, Some, rules, subst}
 use Rattle.std.specs.Prelude.{slice_get}
 use Rattle.std.specs.List.{fold}
 use Rattle.ls_checked.specs.CheckedTree.{File}
@@ -11,7 +11,7 @@ use Rattle.ls_meaning.specs.Still.{IsActing}
 use Rattle.ls_search_laws.specs.Configuration.{stride}
 use Rattle.ls_search_laws.specs.Noticing.{Noticed, noticed_after}
 use Rattle.ls_transitions.specs.Seen.{table_of}
-use Rattle.ls_search.specs.Answers.{IsStuck, root_of}
+use Rattle.ls_search.specs.Answers.{IsStuck}
 use Rattle.ls_search.specs.SeenSearch.{pairs_of}
 use Rattle.ls_search.specs.Tried.{HasTried}
 use Rattle.ls_search.proofs.Growing.{grown_one}

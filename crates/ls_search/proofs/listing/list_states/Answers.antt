@@ -1,6 +1,6 @@
 -- Why `list_states` in src/listing.rt keeps its clause `root` and what `close` requires.
 
-use Rattle.std.proofs.Common.{◌≡◌, List, Some, ap}
+use Rattle.std.proofs.Common.{List, ap}
 use Rattle.std.specs.Prelude.{slice_get}
 use Rattle.ls_checked.specs.Plain.{plain_file}
 use Rattle.ls_search_laws.specs.Noticing.{Noticed}

@@ -1,7 +1,6 @@
 -- Why `list_run` in src/run_listing.rt keeps its clauses `root`, `sound` and `expanded`.
 
-use Rattle.std.proofs.Common.{rules, ◌≡◌, Some, length, sym, ap, ◌∙◌, subst, replicate}
-use Rattle.std.specs.Prelude.{slice_get}
+use Rattle.std.proofs.Common.{rules, ◌≡◌, Some, length, sym, ap, ◌∙◌, subst}
 use Rattle.std.proofs.lemmas.List.{length-map}
 use Rattle.ls_checked.specs.CheckedTree.{File}
 use Rattle.ls_checked.specs.CheckedProgram.{Program}

@@ -4,10 +4,9 @@ use Rattle.std.proofs.Common.{◌≡◌, ◌<◌, ℕ, List, Some, length, map, 
 use Rattle.std.specs.Prelude.{slice_get, slice_index_or, slice_set}
 use Rattle.std.specs.List.{fold}
 use Rattle.std.proofs.lemmas.List.{length-set}
-use Rattle.ls_checked.specs.PlainProgram.{plain_program}
 use Rattle.ls_meaning.specs.Constants.{FileHasConstants}
 use Rattle.ls_meaning.specs.Runs.{event_of}
-use Rattle.ls_search_laws.specs.Configuration.{Configuration, Stride, stride}
+use Rattle.ls_search_laws.specs.Configuration.{Configuration, stride}
 use Rattle.ls_search_laws.specs.Stepping.{events_in}
 use Rattle.ls_transitions.specs.Tables.{Table}
 use Rattle.ls_transitions.specs.Seen.{table_of}
@@ -45,7 +44,8 @@ settle-requires-clause-started g c =
     let step : Step = c.args.step.now in
     let works : c.take.new.place.works.items ≡ slice_set p.works.items u step.work =
     c.take.ensures.works ∙ ap (λ l. slice_set l u step.work) c.in_ok-place.ensures.works in
-    let same : configuration_of t c.take.new.place ≡ configuration_at t step.store (slice_set p.works.items u step.work) =
+    let after : Configuration = configuration_at t step.store (slice_set p.works.items u step.work) in
+    let same : configuration_of t c.take.new.place ≡ after =
     λ i. configuration_at t (c.take.ensures.store i) (works i) in
     subst (λ (k : Configuration). HasStarted k u) (sym same) (started_still t t p.store p.works.items u step
     (stride t.file (configuration_of t p) u) c.requires.there (grows_not t) c.requires.acts c.requires.within
