@@ -1,6 +1,6 @@
 // Where runs stand, so that it is noticed if one comes back there.
 
-ghost use Rattle.std.specs.Prelude.{◌≡◌, IfOk, IsTrue, map};
+ghost use Rattle.std.specs.Prelude.{◌≡◌, [], IfOk, IsTrue, OnOk, map};
 ghost use Rattle.ls_source.specs.SeenThread.{thread_of};
 
 use ls_source::playing::Playing;
@@ -17,14 +17,29 @@ pub(crate) struct Mark<'a> {
     pub(crate) threads: Vec<Thread<'a>>,
 }
 
+/// Fills the copies, of which there are none yet, with threads that still have to do the same. The only refusal is that
+/// memory ran out.
+fn fill<'a>(
+    alloc: Global,
+    copies: &mut Vec<Thread<'a>>,
+    threads: &[Thread<'a>],
+) -> Result<(), AllocError>
+    requires { copies.old.items ≡ [] }
+    ensures { OnOk result (map thread_of copies.new.items ≡ map thread_of threads.now) }
+{
+    for thread in threads {
+        let copy = copy_thread(alloc, thread)?;
+        copies.push(copy)?;
+    }
+    Ok(())
+}
+
 /// Threads that still have to do the same. The only refusal is that memory ran out.
 fn copy_threads<'a>(alloc: Global, threads: &[Thread<'a>]) -> Result<Vec<Thread<'a>>, AllocError>
     ensures { IfOk result (λ v. map thread_of v.items ≡ map thread_of threads.now) }
 {
     let mut copies = Vec::new(alloc);
-    for thread in threads {
-        copies.push(copy_thread(alloc, thread)?)?;
-    }
+    fill(alloc, &mut copies, threads)?;
     Ok(copies)
 }
 
