@@ -36,3 +36,23 @@ capped a n f r = by_length (le_or_gt f 65537)
         let times = ap (λ x. (2 + n) * (x + 2)) same in
         omega (arith, times)
     by_length (inr gt) = omega (arith, gt, two_more n (min f 65537 + 2), two_more n (f + 2))
+
+pub capped_at_most : (n : ℕ) → min n 65537 ≤ 65537
+capped_at_most n = omega arith
+
+-- what is counted after the first of two parts, and once no part is left
+pub sum_moved : (n a b : ℕ) {m : ℕ} → m ≡ n + a → m + b ≡ n + (a + b)
+sum_moved n a b e = omega (arith, e)
+
+pub capped_moved : (n a b : ℕ) {m : ℕ} → m ≡ min (n + a) 65537 → min (m + b) 65537 ≡ min (n + (a + b)) 65537
+capped_moved n a b e = omega (arith, e)
+
+pub sum_ended : (n : ℕ) {m : ℕ} → n + 0 ≡ m → n ≡ m
+sum_ended n e = omega (arith, e)
+
+pub capped_ended : (n m : ℕ) → n ≤ 65537 → min (n + 0) 65537 ≡ min m 65537 → n ≡ min m 65537
+capped_ended n m l e = omega (arith, l, e)
+
+-- one of two parts is no more than both
+pub within : (n a b : ℕ) {m : ℕ} → n + (a + b) ≡ m → n + a ≤ m
+within n a b e = omega (arith, e)

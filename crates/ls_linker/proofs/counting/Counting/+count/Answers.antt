@@ -3,6 +3,8 @@
 use Rattle.std.proofs.Common.{◌≡◌, ℕ, ◌+◌, ◌*◌, ◌∷◌, ◌++◌, ◌≤◌, suc, append_assoc, drop, ap, subst, sym, ◌∙◌, rules}
 use Rattle.std.proofs.Common.{arith, List, OnOk, length}
 use Rattle.std.specs.Prelude.{min}
+use Rattle.std.proofs.lemmas.List.{append-nil, drop_all}
+use Rattle.std.proofs.lemmas.Result.{err_from_is_err_and}
 use Rattle.ls_lowered.specs.declared.tree.Statement.{Statement}
 use Rattle.ls_lowered.specs.LoweredTree.{Leavable}
 use Rattle.ls_lowered.specs.Plain.{plain_statement, statements_of}
@@ -11,8 +13,10 @@ use Rattle.ls_finally_exits.proofs.Counted.{counted}
 use Rattle.ls_finally_copies.proofs.Fronts.{left_at, leavable_read}
 use Rattle.ls_finally_copies.proofs.Weights.{size, size_at}
 use Rattle.ls_linker.specs.declared.ways.Way.{Way}
-use Rattle.ls_linker.specs.Costs.{beyond, ways_of, all_ways, copied, total, returned, flat_size}
-use Rattle.ls_linker.proofs.More.{capped}
+use Rattle.ls_linker.specs.Costs.{beyond, ways_of, all_ways, copied, all_copied, total, returned, flat_size}
+use Rattle.ls_linker.specs.Costs.{all_flat_size}
+use Rattle.ls_linker.proofs.More.{too_many_more, capped, capped_at_most, capped_moved, capped_ended, sum_moved}
+use Rattle.ls_linker.proofs.More.{sum_ended, within}
 use Rattle.ls_linker.proofs.Times.{scaled_few}
 use Rattle.ls_linker.proofs.counting.Counting.+count.Goals as goal
 
@@ -69,6 +73,59 @@ count_all-count-requires t c =
     let split : drop i xs ≡ s ∷ drop (i + 1) xs = left_at xs i s (search rules) c.s-item.is in
     let less = size_at xs i s split in
     (omega (arith, less), (c.loop-s.invariant.3, c.loop-s.invariant.4))
+
+-- a statement of too many copies makes too many with those after it
+pub count_all-returns-in_err-count-clause-few : goal.count_all-returns-in_err-count-clause-few
+count_all-returns-in_err-count-clause-few t c =
+    let xs : List Statement = c.args.statements.now in
+    let i = c.loop-s.s-index in
+    let s = c.s-item.result in
+    let split : drop i xs ≡ s ∷ drop (i + 1) xs = left_at xs i s c.loop-s-test.true c.s-item.is in
+    let before = rw split at c.loop-s.invariant in
+    let more = within c.loop-s.self.copies (copied (plain_statement s)) (all_copied (statements_of (drop (i + 1) xs)))
+    before.1 in
+    let p = err_from_is_err_and c.from_residual.result c.from_residual.ensures.1 in
+    rw (p.1, p.2) (too_many_more c.in_err-count.field-0.0 _ _ c.in_err-count.ensures.few more)
+
+-- what the invariant says of the statement and the rest, once the statement is counted
+pub count_all-loop-s-preserved : goal.count_all-loop-s-preserved
+count_all-loop-s-preserved t c =
+    let xs : List Statement = c.args.statements.now in
+    let i = c.loop-s.s-index in
+    let s = c.s-item.result in
+    let rest = statements_of (drop (i + 1) xs) in
+    let split : drop i xs ≡ s ∷ drop (i + 1) xs = left_at xs i s c.loop-s-test.true c.s-item.is in
+    let before = rw split at c.loop-s.invariant in
+    let counted = c.in_ok-count.ensures in (
+      ap (λ (ws : List Way). ws ++ all_ways rest) counted.ways ∙ append_assoc c.loop-s.out.items (ways_of
+          (plain_statement s)) (all_ways rest) ∙ before.0,
+      sum_moved c.loop-s.self.copies (copied (plain_statement s)) (all_copied rest) counted.copies ∙ before.1,
+      capped_moved c.loop-s.self.length (flat_size (plain_statement s)) (all_flat_size rest) counted.length ∙ before.2,
+      subst (λ n. n ≤ 4096) (sym counted.copies) counted.few,
+      subst (λ n. n ≤ 65537) (sym counted.length)
+          (capped_at_most (c.loop-s.self.length + flat_size (plain_statement s))),
+    )
+
+-- at the end of the loop nothing is left
+pub count_all-returns-clause-ways : goal.count_all-returns-clause-ways
+count_all-returns-clause-ways t c =
+    let end = rw (drop_all c.loop-s.s-index c.args.statements.now c.loop-s-test.false) at c.loop-s.invariant in
+    sym (append-nil c.loop-s.out.items) ∙ end.0
+
+pub count_all-returns-clause-copies : goal.count_all-returns-clause-copies
+count_all-returns-clause-copies t c =
+    let end = rw (drop_all c.loop-s.s-index c.args.statements.now c.loop-s-test.false) at c.loop-s.invariant in
+    sum_ended c.loop-s.self.copies end.1
+
+pub count_all-returns-clause-length : goal.count_all-returns-clause-length
+count_all-returns-clause-length t c =
+    let end = rw (drop_all c.loop-s.s-index c.args.statements.now c.loop-s-test.false) at c.loop-s.invariant in
+    capped_ended c.loop-s.self.length _ end.4 end.2
+
+pub count_all-returns-clause-few : goal.count_all-returns-clause-few
+count_all-returns-clause-few t c =
+    let end = rw (drop_all c.loop-s.s-index c.args.statements.now c.loop-s-test.false) at c.loop-s.invariant in
+    subst (λ n. n ≤ 4096) (sum_ended c.loop-s.self.copies end.1) end.3
 
 pub count_leavable-returns-clause-ways : goal.count_leavable-returns-clause-ways
 count_leavable-returns-clause-ways t c =
