@@ -1,6 +1,5 @@
 -- Why `lower_method` in src/files.rt keeps its clauses `tree` and `few`.
 
-use Rattle.std.proofs.Common.{◌≡◌, ◌≤◌}
 use Rattle.ls_lowered.specs.Plain.{plain_method}
 use Rattle.ls_finally.proofs.Kept.{method_stays, method_has_none}
 use Rattle.ls_finally.proofs.files.lower_method.Goals as goal

@@ -4,7 +4,6 @@ use Rattle.std.proofs.Common.{rules, ◌≡◌, refl, length}
 use Rattle.ls_lowered.specs.LoweredTree.{Leavable}
 use Rattle.ls_lowered.specs.Plain.{plain_statement, statements_of}
 use Rattle.ls_finally_copies.proofs.Fronts.{leavable_read}
-use Rattle.ls_finally.specs.Stays.{IsFlat}
 use Rattle.ls_finally.proofs.Kept.{has_none}
 use Rattle.ls_finally.proofs.stays.+flats.Goals as goal
 

@@ -8,8 +8,11 @@ use Rattle.ls_lowered.specs.Plain.{plain_statement, statements_of}
 use Rattle.ls_finally.specs.Flat.{tries}
 use Rattle.ls_finally.specs.Code.{Fits}
 use Rattle.ls_finally.proofs.Kept.{no_tries, try_stays, try_copies}
-use Rattle.ls_finally_copies.proofs.Fronts.{left_at, leavable_read}
-use Rattle.ls_finally.proofs.Flattening.{goes_on, one_fits}
+use Rattle.ls_finally_copies.proofs.Fronts.{block_read, left_at, leavable_read}
+use Rattle.ls_finally.proofs.Flattening.{goes_on, one_fits, too_many_more}
+use Rattle.ls_lowered.proofs.Rows.{block_made}
+use Rattle.ls_finally_exits.proofs.Counted.{counted}
+use Rattle.std.proofs.lemmas.Grind.{common_steps}
 use Rattle.ls_finally_copies.proofs.Weights.{size, size_at}
 use Rattle.ls_finally.proofs.flatten.Lowering.+flatten.Goals as goal
 
@@ -119,3 +122,81 @@ flat_try-returns-then-is_flat-2-clause-few t c =
     let e = try_copies c.args.self.now.free b f (c.is_flat.ensures c.if-is_flat.true)
     (c.is_flat-then-is_flat.ensures c.if-is_flat-2.true) in
     subst (λ n. Fits c.with_copies.result (c.args.self.now.count + n)) (sym e) c.with_copies.ensures.few
+
+-- Each goal below would close without an answer too, but only after a search of several times this one's length.
+
+pub flatten-returns-in_ok-flat_all-in-Block : goal.flatten-returns-in_ok-flat_all-in-Block
+flatten-returns-in_ok-flat_all-in-Block t c = record {
+  tree = grind (arith, block_read, block_made);
+  free = grind (arith, block_read, block_made);
+  count = grind (arith, block_read, block_made);
+  few = grind (arith, block_read, block_made);
+}
+
+pub flat_all-returns : goal.flat_all-returns
+flat_all-returns t c = record {
+  tree = grind (arith, common_steps);
+  free = grind (arith, common_steps);
+  count = grind (arith, common_steps);
+  few = grind (arith, common_steps);
+}
+
+pub flat_leavable-returns : goal.flat_leavable-returns
+flat_leavable-returns t c = record {
+  tree = grind (arith, too_many_more, counted);
+  free = grind (arith, too_many_more, counted);
+  count = grind (arith, too_many_more, counted);
+  few = grind (arith, too_many_more, counted);
+}
+
+pub flat_try-returns : goal.flat_try-returns
+flat_try-returns t c = record {
+  tree = grind (arith, too_many_more);
+  free = grind (arith, too_many_more);
+  count = grind (arith, too_many_more);
+  few = grind (arith, too_many_more);
+}
+
+pub flat_leavable-returns-in_err-body-2-clause-few : goal.flat_leavable-returns-in_err-body-2-clause-few
+flat_leavable-returns-in_err-body-2-clause-few t c = grind (arith, too_many_more, counted)
+
+pub flat_leavable-returns-in_err-body-clause-few : goal.flat_leavable-returns-in_err-body-clause-few
+flat_leavable-returns-in_err-body-clause-few t c = grind (arith, too_many_more, counted)
+
+pub flat_all-returns-in_err-flatten-clause-few : goal.flat_all-returns-in_err-flatten-clause-few
+flat_all-returns-in_err-flatten-clause-few t c = grind (arith, common_steps)
+
+pub flatten-returns-in_err-flat_all-in-Block-clause-few : goal.flatten-returns-in_err-flat_all-in-Block-clause-few
+flatten-returns-in_err-flat_all-in-Block-clause-few t c = grind (arith, block_read)
+
+pub flatten-returns-in_ok-first-in-If : goal.flatten-returns-in_ok-first-in-If
+flatten-returns-in_ok-first-in-If t c = record {
+  tree = grind arith;
+  free = grind arith;
+  count = grind arith;
+  few = grind arith;
+}
+
+pub flatten-returns-in_ok-body-in-While-2 : goal.flatten-returns-in_ok-body-in-While-2
+flatten-returns-in_ok-body-in-While-2 t c = record {
+  tree = grind arith;
+  free = grind arith;
+  count = grind arith;
+  few = grind arith;
+}
+
+pub flatten-returns-in_ok-body-in-Guarded : goal.flatten-returns-in_ok-body-in-Guarded
+flatten-returns-in_ok-body-in-Guarded t c = record {
+  tree = grind arith;
+  free = grind arith;
+  count = grind arith;
+  few = grind arith;
+}
+
+pub flatten-returns-in_ok-copy_statement-in-SetLocal : goal.flatten-returns-in_ok-copy_statement-in-SetLocal
+flatten-returns-in_ok-copy_statement-in-SetLocal t c = record {
+  tree = grind arith;
+  free = grind arith;
+  count = grind arith;
+  few = grind arith;
+}
