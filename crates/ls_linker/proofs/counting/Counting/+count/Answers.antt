@@ -3,6 +3,7 @@
 use Rattle.std.proofs.Common.{◌≡◌, ℕ, ◌+◌, ◌*◌, ◌∷◌, ◌++◌, ◌≤◌, suc, append_assoc, drop, ap, subst, sym, ◌∙◌, rules}
 use Rattle.std.proofs.Common.{arith, List, OnOk, length}
 use Rattle.std.specs.Prelude.{min}
+use Rattle.std.proofs.lemmas.Grind.{common_steps}
 use Rattle.std.proofs.lemmas.List.{append-nil, drop_all}
 use Rattle.std.proofs.lemmas.Result.{err_from_is_err_and}
 use Rattle.ls_lowered.specs.declared.tree.Statement.{Statement}
@@ -10,7 +11,7 @@ use Rattle.ls_lowered.specs.LoweredTree.{Leavable}
 use Rattle.ls_lowered.specs.Plain.{plain_statement, statements_of}
 use Rattle.ls_finally_exits.specs.Exits.{count}
 use Rattle.ls_finally_exits.proofs.Counted.{counted}
-use Rattle.ls_finally_copies.proofs.Fronts.{left_at, leavable_read}
+use Rattle.ls_finally_copies.proofs.Fronts.{block_read, left_at, leavable_read}
 use Rattle.ls_finally_copies.proofs.Weights.{size, size_at}
 use Rattle.ls_linker.specs.declared.ways.Way.{Way}
 use Rattle.ls_linker.specs.Costs.{beyond, ways_of, all_ways, copied, all_copied, total, returned, flat_size}
@@ -178,3 +179,43 @@ count_try-returns-clause-length t c =
     ∙ ap (λ n. min (n + (2 + total inner) * (min second 65537 + 2) + 2 * returned inner + 4) 65537) body
     ∙ capped (before + first) (total inner) second (returned inner) in
     omega (arith, whole)
+
+-- Each goal below would close without an answer too, but only after a search of several times this one's length.
+
+pub count-returns-in-Block : goal.count-returns-in-Block
+count-returns-in-Block t c = record {
+  ways = grind (arith, block_read);
+  copies = grind (arith, block_read);
+  length = grind (arith, block_read);
+  few = grind (arith, block_read);
+}
+
+pub count-returns-in-If-clause-ways : goal.count-returns-in-If-clause-ways
+count-returns-in-If-clause-ways t c = grind (arith, common_steps)
+
+pub count-returns-in-Guarded-clause-ways : goal.count-returns-in-Guarded-clause-ways
+count-returns-in-Guarded-clause-ways t c = grind (arith, common_steps)
+
+pub count_leavable-returns-then-own-self-clause-few : goal.count_leavable-returns-then-own-self-clause-few
+count_leavable-returns-then-own-self-clause-few t c = grind (arith, too_many_more, counted)
+
+pub count_leavable-returns-in_err-count-clause-few : goal.count_leavable-returns-in_err-count-clause-few
+count_leavable-returns-in_err-count-clause-few t c = grind (arith, too_many_more, counted)
+
+pub count_leavable-returns-clause-copies : goal.count_leavable-returns-clause-copies
+count_leavable-returns-clause-copies t c = grind (arith, counted)
+
+pub count_leavable-returns-clause-length : goal.count_leavable-returns-clause-length
+count_leavable-returns-clause-length t c = grind (arith, counted)
+
+pub count_leavable-returns-clause-few : goal.count_leavable-returns-clause-few
+count_leavable-returns-clause-few t c = grind (arith, counted)
+
+pub count_try-returns-clause-ways : goal.count_try-returns-clause-ways
+count_try-returns-clause-ways t c = grind (arith, common_steps)
+
+pub count_try-returns-clause-copies : goal.count_try-returns-clause-copies
+count_try-returns-clause-copies t c = grind arith
+
+pub count_try-returns-clause-few : goal.count_try-returns-clause-few
+count_try-returns-clause-few t c = grind arith
