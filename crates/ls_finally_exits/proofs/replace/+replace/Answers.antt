@@ -1,13 +1,14 @@
 -- Why the functions of the cycle `replace` in src/replace.rt keep their contracts.
 
 use Rattle.std.proofs.Common.{◌≡◌, ◌+◌, ◌<◌, ◌^◌, ◌∷◌, length, drop, ap, subst, rules, arith, List}
+use Rattle.std.proofs.lemmas.Grind.{common_steps}
 use Rattle.ls_lowered.specs.declared.tree.Statement.{Statement}
 use Rattle.ls_lowered.specs.LoweredTree as lowered
 use Rattle.ls_lowered.specs.LoweredTree.{Leavable}
 use Rattle.ls_lowered.specs.Plain.{plain_statement, statements_of}
 use Rattle.ls_finally_exits.specs.Exits.{exits}
 use Rattle.ls_finally_exits.specs.Numbers.{numbers}
-use Rattle.ls_finally_copies.proofs.Fronts.{left_at, leavable_read}
+use Rattle.ls_finally_copies.proofs.Fronts.{block_read, left_at, leavable_read}
 use Rattle.ls_finally_exits.proofs.Blocks.{goes_on, one_fits}
 use Rattle.ls_finally_exits.proofs.Numbered.{numbers_at}
 use Rattle.ls_finally_copies.proofs.Weights.{size, size_at}
@@ -70,3 +71,50 @@ replace_exits-returns-in-Leavable-clause-next t c =
     c.args.s.now c.in-Leavable.body c.in-Leavable.own body own c.deref-in-Leavable.ensures
     c.deref-in-Leavable-2.ensures.value c.in-Leavable.is in
     rw e c.replace_in_leavable.ensures.next
+
+-- Each goal below would close without an answer too, but only after a search of several times this one's length.
+
+pub replace_in_two-replace_in_part-requires-2 : goal.replace_in_two-replace_in_part-requires-2
+replace_in_two-replace_in_part-requires-2 t c = grind (arith, common_steps)
+
+pub replace_in_two-returns-clause-next : goal.replace_in_two-returns-clause-next
+replace_in_two-returns-clause-next t c = grind (arith, common_steps)
+
+pub replace_in_leavable-replace_in_part-requires : goal.replace_in_leavable-replace_in_part-requires
+replace_in_leavable-replace_in_part-requires t c = grind (arith, common_steps)
+
+pub replace_in_leavable-replace_in_all-requires : goal.replace_in_leavable-replace_in_all-requires
+replace_in_leavable-replace_in_all-requires t c = grind (arith, common_steps)
+
+pub replace_in_leavable-returns : goal.replace_in_leavable-returns
+replace_in_leavable-returns t c = record {
+  tree = grind (arith, common_steps);
+  next = grind (arith, common_steps);
+}
+
+pub replace_exits-replace_in_all-requires : goal.replace_exits-replace_in_all-requires
+replace_exits-replace_in_all-requires t c = grind (arith, block_read)
+
+pub replace_exits-returns-in_ok-replace_in_all-in-Block : goal.replace_exits-returns-in_ok-replace_in_all-in-Block
+replace_exits-returns-in_ok-replace_in_all-in-Block t c = record {
+  tree = grind (arith, block_read);
+  next = grind (arith, block_read);
+}
+
+pub replace_exits-returns-in_ok-first-in-If : goal.replace_exits-returns-in_ok-first-in-If
+replace_exits-returns-in_ok-first-in-If t c = record {
+  tree = grind arith;
+  next = grind arith;
+}
+
+pub replace_exits-returns-in_ok-body-in-While-2 : goal.replace_exits-returns-in_ok-body-in-While-2
+replace_exits-returns-in_ok-body-in-While-2 t c = record {
+  tree = grind arith;
+  next = grind arith;
+}
+
+pub replace_exits-returns-in_ok-body-in-Guarded : goal.replace_exits-returns-in_ok-body-in-Guarded
+replace_exits-returns-in_ok-body-in-Guarded t c = record {
+  tree = grind arith;
+  next = grind arith;
+}
