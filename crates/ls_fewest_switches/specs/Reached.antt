@@ -23,6 +23,10 @@ pub record Reached (S : Type 0) : Type 0 where
   -- what the steps so far cost
   pub spent : ℕ
 
+-- the state before the first step, where this is noted
+abbrev pub begun_at : {S : Type 0} → S → Configuration → Reached S
+begun_at first c = record { configuration = c; noted = first; last = 0; spent = 0 }
+
 -- one of them is this state, reached at no higher cost
 pub record HasReached {S : Type 0} (list : List (Reached S)) (r : Reached S) : Type 0 where
   pub at : ℕ

@@ -53,6 +53,16 @@ AreSpots threads t states spots = (at : ℕ) (s : Spot) → slice_get spots at �
 abbrev pub AreFound : {N S : Type 0} → (N → S) → ℕ → Table → Found N → Type 0
 AreFound stands threads t f = AreSpots threads t (states_in stands f) f.spots.spots.items
 
+-- the first state alone, with these numbers
+pub record IsRoot (store : ℕ) (works : List ℕ) (noted : ℕ) (spots : List Spot) : Type 0 where
+  pub spot : Spot
+  pub are : spots ≡ spot ∷ []
+  pub store_is : spot.place.store ≡ store
+  pub works_is : spot.place.works.items ≡ works
+  pub noted_is : spot.place.noted ≡ noted
+  pub last : spot.last ≡ 0
+  pub spent : spot.spent ≡ 0
+
 -- one of them is this state, reached at no higher cost
 pub record HasSpot (spots : List Spot) (s : Spot) : Type 0 where
   pub at : ℕ

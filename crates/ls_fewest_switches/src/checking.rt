@@ -1,6 +1,7 @@
 // What a schedule comes to.
 
 ghost use Rattle.std.specs.Prelude.{◌≡◌, ◌⊎◌, IfOk, IsTrue, length, true};
+ghost use Rattle.std.specs.List.{fold};
 ghost use Rattle.ls_checked.specs.Plain.{plain_file};
 ghost use Rattle.ls_checked.specs.PlainProgram.{plain_program};
 ghost use Rattle.ls_meaning.specs.Runs.{source_history};
@@ -13,6 +14,7 @@ ghost use Rattle.ls_fewest_switches.specs.Levels.{IsWaiting};
 
 use ls_checked::program::Program;
 use ls_checked::tree::File;
+use ls_events::event::Event;
 use ls_meaning::step::Did;
 use ls_observers::observer::Observer;
 use ls_search::observing::noted_of;
@@ -72,6 +74,19 @@ fn is_stuck(alloc: Global, run: &mut SourceRun<'_>, threads: usize) -> Result<bo
     Ok(waits)
 }
 
+/// Whether an observer calls a history bad.
+fn is_bad_history<O: Observer>(
+    alloc: Global,
+    observer: &O,
+    events: &[Event],
+) -> Result<bool, AllocError>
+    ensures { IfOk result (λ b. b ≡
+        O.bad observer.now (fold (O.next observer.now) (O.first observer.now) events.now)) }
+{
+    let noted = noted_of(alloc, observer, events)?;
+    Ok(observer.is_bad(&noted))
+}
+
 /// Whether an observer calls a schedule's history bad, and the schedule ends as is asked. True only where it is so.
 pub(crate) fn is_such<O: Observer>(
     alloc: Global,
@@ -88,8 +103,7 @@ pub(crate) fn is_such<O: Observer>(
         EndsSo stuck (plain_file file.now) (plain_program program.now) steps.now) }
 {
     let mut run = run_after(alloc, file, program, steps)?;
-    let noted = noted_of(alloc, observer, run.history())?;
-    if !observer.is_bad(&noted) {
+    if !is_bad_history(alloc, observer, run.history())? {
         return Ok(false);
     }
     if !stuck {

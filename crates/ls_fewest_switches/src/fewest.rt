@@ -3,7 +3,10 @@
 ghost use Rattle.std.specs.Prelude.{◌≡◌, ◌<◌, ◌≤◌, IfOk, IfSome, IsTrue, length};
 ghost use Rattle.ls_checked.specs.Plain.{plain_file};
 ghost use Rattle.ls_checked.specs.PlainProgram.{plain_program};
-ghost use Rattle.ls_meaning.specs.Runs.{source_history};
+ghost use Rattle.ls_meaning.specs.Runs.{source_history, start};
+ghost use Rattle.ls_search_laws.specs.Configuration.{configuration_of};
+ghost use Rattle.ls_search.specs.Places.{AreThere, configuration_at};
+ghost use Rattle.ls_transitions.specs.Seen.{table_of};
 ghost use Rattle.ls_fewest_switches.specs.Levels.{IsBelow};
 ghost use Rattle.ls_fewest_switches.specs.Reached.{NeverBad};
 ghost use Rattle.ls_fewest_switches.specs.Switches.{EndsSo, HasFewest, HasFewestOf, IsSought, switches};
@@ -12,12 +15,12 @@ use crate::along::Along;
 use crate::changing::{Counted, changes};
 use crate::following::Ground;
 use crate::levels::{Level, within};
+use crate::starting::numbered_start;
 use ls_checked::program::Program;
 use ls_checked::tree::File;
 use ls_events::schedule::Schedule;
 use ls_observers::observer::Observer;
-use ls_search::numbering::number;
-use ls_source::playing::Playing;
+use ls_search::numbering::Numbered;
 use ls_source::run::play;
 use std::alloc::{AllocError, Global};
 
@@ -51,6 +54,38 @@ pub fn switches(schedule: &Schedule) -> usize
 }
 
 /// The schedule that costs least of those that are looked for, if it costs less than so much and not too many states
+/// are needed. The numbers are those of the start.
+fn first_below<'a, O: Observer>(
+    ground: &mut Ground<'_, O, O::Noted>,
+    file: &File,
+    program: &Program,
+    numbered: &mut Numbered<'a>,
+    count: usize,
+) -> Result<Level, AllocError>
+    requires there { AreThere (table_of numbered.old.transitions) numbered.old.store numbered.old.works.items }
+    requires width { length numbered.old.works.items ≡ ground.old.threads }
+    requires file { (table_of numbered.old.transitions).file ≡ plain_file file.now }
+    requires start { configuration_at (table_of numbered.old.transitions) numbered.old.store
+        numbered.old.works.items ≡
+        configuration_of (plain_file file.now) (plain_program program.now) (start (plain_program program.now)) }
+    requires lost { IfSome ground.old.lost (λ n. NeverBad (O.next ground.old.observer.now)
+        (O.bad ground.old.observer.now) (O.stands ground.old.observer.now n)) }
+    ensures { IfOk result (IsBelow (O.first ground.old.observer.now) (O.next ground.old.observer.now)
+        (O.bad ground.old.observer.now) ground.old.stuck (plain_file file.now) (plain_program program.now)
+        ground.old.counted count) }
+{
+    for level in 0..count {
+        ground.most = level;
+        match within(ground, file, program, numbered)? {
+            Level::Nothing => {}
+            Level::Cut => return Ok(Level::Cut),
+            Level::Steps(steps) => return Ok(Level::Steps(steps)),
+        }
+    }
+    Ok(Level::Nothing)
+}
+
+/// The schedule that costs least of those that are looked for, if it costs less than so much and not too many states
 /// are needed.
 fn least_below<O: Observer>(
     ground: Ground<'_, O, O::Noted>,
@@ -66,17 +101,8 @@ fn least_below<O: Observer>(
         ground.entry.counted count) }
 {
     let mut ground = ground;
-    let playing = Playing::new(ground.alloc, file, program)?;
-    let mut numbered = number(ground.alloc, &playing)?;
-    for level in 0..count {
-        ground.most = level;
-        match within(&ground, file, program, &mut numbered)? {
-            Level::Nothing => {}
-            Level::Cut => return Ok(Level::Cut),
-            Level::Steps(steps) => return Ok(Level::Steps(steps)),
-        }
-    }
-    Ok(Level::Nothing)
+    let mut numbered = numbered_start(ground.alloc, file, program)?;
+    first_below(&mut ground, file, program, &mut numbered, count)
 }
 
 /// The schedule itself.

@@ -1,6 +1,6 @@
 // The search for a schedule that costs so little.
 
-ghost use Rattle.std.specs.Prelude.{◌≡◌, IfOk, IfSome, length};
+ghost use Rattle.std.specs.Prelude.{◌≡◌, IfOk, IfSome, Some, length, slice_get};
 ghost use Rattle.ls_checked.specs.CheckedProgram.{Program as ProgramValue};
 ghost use Rattle.ls_checked.specs.Plain.{plain_file};
 ghost use Rattle.ls_checked.specs.PlainProgram.{plain_program};
@@ -10,7 +10,8 @@ ghost use Rattle.ls_search.specs.Places.{AreThere, configuration_at};
 ghost use Rattle.ls_transitions.specs.Seen.{table_of};
 ghost use Rattle.ls_transitions.specs.Tables.{Grows};
 ghost use Rattle.ls_fewest_switches.specs.Levels.{IsLevel, NoneWithin};
-ghost use Rattle.ls_fewest_switches.specs.Reached.{NeverBad};
+ghost use Rattle.ls_fewest_switches.specs.Reached.{NeverBad, begun_at};
+ghost use Rattle.ls_fewest_switches.specs.Spots.{AreFound, IsRoot, reached_in};
 ghost use Rattle.ls_fewest_switches.specs.declared.levels.Level.TheVariants.{Nothing};
 
 use crate::changing::costs;
@@ -67,6 +68,52 @@ pub enum Level {
     Cut,
 }
 
+/// The first state alone, where what is noted there has this number.
+fn first_spots(
+    alloc: Global,
+    store: usize,
+    works: &[usize],
+    noted: usize,
+) -> Result<Spots, AllocError>
+    ensures { IfOk result (λ s. IsRoot store works.now noted s.spots.items) }
+{
+    let place = NumberedState {
+        store,
+        works: copy_works(alloc, works)?,
+        noted,
+    };
+    let root = Spot {
+        place,
+        last: 0,
+        thread: 0,
+        spent: 0,
+        before: 0,
+    };
+    let spots = Spots::first(alloc, root)?;
+    Ok(spots)
+}
+
+/// The first state alone, and what is noted there.
+fn first_found<'a, O: Observer>(
+    ground: &Ground<'_, O, O::Noted>,
+    numbered: &Numbered<'a>,
+) -> Result<Found<O::Noted>, AllocError>
+    requires there { AreThere (table_of numbered.now.transitions) numbered.now.store numbered.now.works.items }
+    requires width { length numbered.now.works.items ≡ ground.now.threads }
+    ensures spots { IfOk result (λ f. AreFound (O.stands ground.now.observer.now) ground.now.threads
+        (table_of numbered.now.transitions) f) }
+    ensures root { IfOk result (λ f. slice_get (reached_in (O.first ground.now.observer.now)
+        (O.stands ground.now.observer.now) (table_of numbered.now.transitions) f) 0 ≡
+        Some (begun_at (O.first ground.now.observer.now) (configuration_at (table_of numbered.now.transitions)
+        numbered.now.store numbered.now.works.items))) }
+{
+    let mut pool = Pool::new(ground.alloc);
+    let noted = ground.observer.start(ground.alloc)?;
+    let noted = keep_noted(ground.alloc, ground.observer, &mut pool, noted)?;
+    let spots = first_spots(ground.alloc, numbered.store, &numbered.works, noted)?;
+    Ok(Found { spots, pool })
+}
+
 /// How the search for a schedule that costs so little ends, and the steps to the end that it reaches.
 fn reached_by<'a, O: Observer>(
     ground: &Ground<'_, O, O::Noted>,
@@ -86,23 +133,7 @@ fn reached_by<'a, O: Observer>(
         ground.now.stuck (table_of numbered.old.transitions).file program ground.now.counted
         ground.now.most) }
 {
-    let mut pool = Pool::new(ground.alloc);
-    let noted = ground.observer.start(ground.alloc)?;
-    let noted = keep_noted(ground.alloc, ground.observer, &mut pool, noted)?;
-    let place = NumberedState {
-        store: numbered.store,
-        works: copy_works(ground.alloc, &numbered.works)?,
-        noted,
-    };
-    let root = Spot {
-        place,
-        last: 0,
-        thread: 0,
-        spent: 0,
-        before: 0,
-    };
-    let spots = Spots::first(ground.alloc, root)?;
-    let mut found = Found { spots, pool };
+    let mut found = first_found(ground, numbered)?;
     match close(ground, &mut numbered.transitions, &mut found)? {
         Closing::Closed => Ok(Level::Nothing),
         Closing::Full => Ok(Level::Cut),

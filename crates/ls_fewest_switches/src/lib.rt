@@ -13,6 +13,7 @@ mod following;
 mod levels;
 mod shortest;
 mod spots;
+mod starting;
 mod stuck;
 mod wording;
 

@@ -1,10 +1,13 @@
 // A shortest schedule.
 
-ghost use Rattle.std.specs.Prelude.{◌≡◌, ◌≤◌, IfOk, IfSome, IsTrue, false, length, map};
+ghost use Rattle.std.specs.Prelude.{◌≡◌, ◌≤◌, IfOk, IfSome, IsTrue, OnOk, false, length, map};
 ghost use Rattle.std.specs.List.{Contains};
 ghost use Rattle.ls_checked.specs.Plain.{plain_file};
 ghost use Rattle.ls_checked.specs.PlainProgram.{plain_program};
-ghost use Rattle.ls_meaning.specs.Runs.{source_history};
+ghost use Rattle.ls_meaning.specs.Runs.{source_history, start};
+ghost use Rattle.ls_search_laws.specs.Configuration.{configuration_of};
+ghost use Rattle.ls_search.specs.Places.{AreThere, configuration_at};
+ghost use Rattle.ls_transitions.specs.Seen.{table_of};
 ghost use Rattle.ls_fewest_switches.specs.Reached.{NeverBad};
 ghost use Rattle.ls_fewest_switches.specs.Shortest.{IsShortestOf};
 ghost use Rattle.ls_fewest_switches.specs.Switches.{IsSought};
@@ -14,13 +17,13 @@ use crate::among::{Among, Beginning};
 use crate::changing::Counted;
 use crate::following::Ground;
 use crate::levels::{Level, within};
+use crate::starting::numbered_start;
 use ls_checked::program::Program;
 use ls_checked::tree::File;
 use ls_events::event::Event;
 use ls_events::schedule::Schedule;
 use ls_observers::observer::Observer;
-use ls_search::numbering::number;
-use ls_source::playing::Playing;
+use ls_search::numbering::Numbered;
 use std::alloc::{AllocError, Global};
 
 /// A schedule, and whether it is known that none with one of the histories is shorter.
@@ -28,6 +31,53 @@ use std::alloc::{AllocError, Global};
 pub struct ShortRun {
     pub schedule: Schedule,
     pub shortest: bool,
+}
+
+// Puts a value in the place of another, which is dropped here, at a parameter's type.
+fn replace<T: Drop>(place: &mut T, value: T)
+    ensures { place.new ≡ value }
+{
+    *place = value;
+}
+
+/// Puts a shorter schedule whose history the observer calls bad in the place of this one, until there is none, or too
+/// many states are needed. Answers whether it is known that there is none. The numbers are those of the start.
+fn shorten<'a, O: Observer>(
+    ground: &mut Ground<'_, O, O::Noted>,
+    file: &File,
+    program: &Program,
+    numbered: &mut Numbered<'a>,
+    schedule: &mut Schedule,
+) -> Result<bool, AllocError>
+    requires counted { ground.old.counted ≡ Steps }
+    requires ends { ground.old.stuck ≡ false }
+    requires there { AreThere (table_of numbered.old.transitions) numbered.old.store numbered.old.works.items }
+    requires width { length numbered.old.works.items ≡ ground.old.threads }
+    requires file { (table_of numbered.old.transitions).file ≡ plain_file file.now }
+    requires start { configuration_at (table_of numbered.old.transitions) numbered.old.store
+        numbered.old.works.items ≡
+        configuration_of (plain_file file.now) (plain_program program.now) (start (plain_program program.now)) }
+    requires lost { IfSome ground.old.lost (λ n. NeverBad (O.next ground.old.observer.now)
+        (O.bad ground.old.observer.now) (O.stands ground.old.observer.now n)) }
+    ensures sought { OnOk result (
+        IsSought (O.first ground.old.observer.now) (O.next ground.old.observer.now) (O.bad ground.old.observer.now)
+        (source_history (plain_file file.now) (plain_program program.now) schedule.old) →
+        IsSought (O.first ground.old.observer.now) (O.next ground.old.observer.now) (O.bad ground.old.observer.now)
+        (source_history (plain_file file.now) (plain_program program.now) schedule.new)) }
+    ensures short { OnOk result (length schedule.new ≤ length schedule.old) }
+    ensures shortest { IfOk result (λ known. IsTrue known →
+        IsShortestOf (IsSought (O.first ground.old.observer.now) (O.next ground.old.observer.now)
+        (O.bad ground.old.observer.now)) (plain_file file.now) (plain_program program.now) schedule.new) }
+{
+    'rounds: while !schedule.is_empty() {
+        ground.most = schedule.len() - 1;
+        match within(ground, file, program, numbered)? {
+            Level::Nothing => return Ok(true),
+            Level::Cut => return Ok(false),
+            Level::Steps(steps) => replace(schedule, Schedule::of(steps)),
+        }
+    }
+    Ok(true)
 }
 
 /// A schedule whose history the observer calls bad, if it does so of this one's, and no longer one. A shorter one is
@@ -56,31 +106,10 @@ fn shortest_bad<O: Observer>(
         (O.bad ground.entry.observer.now)) (plain_file file.now) (plain_program program.now) r.schedule) }
 {
     let mut ground = ground;
-    let playing = Playing::new(ground.alloc, file, program)?;
-    let mut numbered = number(ground.alloc, &playing)?;
+    let mut numbered = numbered_start(ground.alloc, file, program)?;
     let mut schedule = found.copied(ground.alloc)?;
-    'rounds: while !schedule.is_empty() {
-        ground.most = schedule.len() - 1;
-        match within(&ground, file, program, &mut numbered)? {
-            Level::Nothing => {
-                return Ok(ShortRun {
-                    schedule,
-                    shortest: true,
-                });
-            }
-            Level::Cut => {
-                return Ok(ShortRun {
-                    schedule,
-                    shortest: false,
-                });
-            }
-            Level::Steps(steps) => schedule = Schedule::of(steps),
-        }
-    }
-    Ok(ShortRun {
-        schedule,
-        shortest: true,
-    })
+    let shortest = shorten(&mut ground, file, program, &mut numbered, &mut schedule)?;
+    Ok(ShortRun { schedule, shortest })
 }
 
 /// A schedule whose history is one of these, if this one's is, and no longer one; if possible a shortest of all such

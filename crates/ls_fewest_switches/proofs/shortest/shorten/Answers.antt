@@ -1,55 +1,39 @@
--- Why `shortest_bad` in src/shortest.rt keeps its clause `shortest`.
+-- Why `shorten` in src/shortest.rt keeps its clause `shortest`.
 
 use Rattle.std.proofs.Common.{◌-◌, length, refl, sym, ap, ◌∙◌, subst, arith}
-use Rattle.std.proofs.lemmas.List.{length-map}
 use Rattle.ls_checked.specs.CheckedTree.{File}
 use Rattle.ls_checked.specs.CheckedProgram.{Program}
 use Rattle.ls_checked.specs.Plain.{plain_file}
-use Rattle.ls_checked.specs.PlainProgram.{plain_program, plain_thread}
+use Rattle.ls_checked.specs.PlainProgram.{plain_program}
 use Rattle.ls_meaning.specs.Runs.{source_history, start}
 use Rattle.ls_search_laws.specs.Configuration.{configuration_of}
-use Rattle.ls_source.specs.Progress.{Progress, begun}
-use Rattle.ls_source.specs.Stands.{StandsFor}
 use Rattle.ls_transitions.specs.Tables.{Table}
 use Rattle.ls_transitions.specs.Seen.{table_of}
 use Rattle.ls_fewest_switches.specs.Switches.{IsSought}
 use Rattle.ls_fewest_switches.proofs.Roots.{level_of, still_at, still_there}
 use Rattle.ls_fewest_switches.proofs.Shorter.{found_shorter, none_shorter, nothing_shorter, some_steps}
-use Rattle.ls_fewest_switches.proofs.shortest.shortest_bad.Goals as goal
+use Rattle.ls_fewest_switches.proofs.shortest.shorten.Goals as goal
 
 pub rounds-init : goal.rounds-init
-rounds-init g c =
-    let first = g.O.Observer.first c.args.ground.observer.now in
-    let next = g.O.Observer.next c.args.ground.observer.now in
-    let is_bad = g.O.Observer.bad c.args.ground.observer.now in
-    let file : File = plain_file c.args.file.now in
-    let program : Program = plain_program c.args.program.now in
-    let p : Progress = begun file program in
-    let stands : StandsFor c.in_ok-playing.playing p = c.in_ok-playing.ensures in
-    record {
-      observer = refl;
-      lost = refl;
-      threads = refl;
-      stuck = refl;
-      counted = refl;
-      there = c.in_ok-numbered.ensures.there;
-      width = c.in_ok-numbered.ensures.width
-          ∙ c.in_ok-playing.playing.works
-          ∙ sym (length-map c.in_ok-playing.playing.program.now.threads.items plain_thread)
-          ∙ ap (λ (q : Progress). length q.program.threads) stands.shows
-          ∙ length-map c.args.program.now.threads.items plain_thread;
-      file = c.in_ok-numbered.ensures.file ∙ ap (λ (q : Progress). q.file) stands.shows;
-      start = c.in_ok-numbered.ensures.same p stands;
-      short = omega (arith, ap length c.in_ok-schedule.ensures);
-      sought = λ h. subst (λ s. IsSought first next is_bad (source_history file program s))
-          (sym c.in_ok-schedule.ensures) h;
-    }
+rounds-init g c = record {
+  observer = refl;
+  lost = refl;
+  threads = refl;
+  stuck = refl;
+  counted = refl;
+  there = c.requires.there;
+  width = c.requires.width;
+  file = c.requires.file;
+  start = c.requires.start;
+  short = omega arith;
+  sought = λ h. h;
+}
 
 pub rounds-preserved : goal.rounds-preserved
 rounds-preserved g c =
-    let first = g.O.Observer.first c.args.ground.observer.now in
-    let next = g.O.Observer.next c.args.ground.observer.now in
-    let is_bad = g.O.Observer.bad c.args.ground.observer.now in
+    let first = g.O.Observer.first c.args.ground.now.observer.now in
+    let next = g.O.Observer.next c.args.ground.now.observer.now in
+    let is_bad = g.O.Observer.bad c.args.ground.now.observer.now in
     let file : File = plain_file c.args.file.now in
     let program : Program = plain_program c.args.program.now in
     let inv = c.rounds.invariant in
@@ -73,16 +57,16 @@ rounds-preserved g c =
       start = still_at t t' c.within.ensures.grows c.rounds.numbered.store c.within.new.numbered.store
           c.rounds.numbered.works.items c.within.new.numbered.works.items c.within.ensures.store
           c.within.ensures.works inv.there (configuration_of file program (start program)) inv.start;
-      short = omega (arith, less, inv.short, c.len.ensures, ap length c.of-schedule.ensures);
-      sought = λ _. subst (λ s. IsSought first next is_bad (source_history file program s)) (sym c.of-schedule.ensures)
+      short = omega (arith, less, inv.short, c.len.ensures, ap length c.replace.ensures, ap length c.of.ensures);
+      sought = λ _. subst (λ s. IsSought first next is_bad (source_history file program s)) (sym (c.replace.ensures ∙ c.of.ensures))
           w.sought;
     }
 
 pub rounds-smaller : goal.rounds-smaller
 rounds-smaller g c =
-    let first = g.O.Observer.first c.args.ground.observer.now in
-    let next = g.O.Observer.next c.args.ground.observer.now in
-    let is_bad = g.O.Observer.bad c.args.ground.observer.now in
+    let first = g.O.Observer.first c.args.ground.now.observer.now in
+    let next = g.O.Observer.next c.args.ground.now.observer.now in
+    let is_bad = g.O.Observer.bad c.args.ground.now.observer.now in
     let file : File = plain_file c.args.file.now in
     let program : Program = plain_program c.args.program.now in
     let inv = c.rounds.invariant in
@@ -91,13 +75,13 @@ rounds-smaller g c =
     c.in_ok-within.ensures.level in
     let less = found_shorter first next is_bad file program c.in-Steps.steps.items _ w in
     let some = some_steps c.rounds.schedule c.is_empty.result c.is_empty.ensures c.rounds-test.true in
-    omega (arith, less, some, c.len.ensures, ap length c.of-schedule.ensures)
+    omega (arith, less, some, c.len.ensures, ap length c.replace.ensures, ap length c.of.ensures)
 
 pub returns-in-Nothing-clause-shortest : goal.returns-in-Nothing-clause-shortest
 returns-in-Nothing-clause-shortest g c = λ is.
-    let first = g.O.Observer.first c.args.ground.observer.now in
-    let next = g.O.Observer.next c.args.ground.observer.now in
-    let is_bad = g.O.Observer.bad c.args.ground.observer.now in
+    let first = g.O.Observer.first c.args.ground.now.observer.now in
+    let next = g.O.Observer.next c.args.ground.now.observer.now in
+    let is_bad = g.O.Observer.bad c.args.ground.now.observer.now in
     let file : File = plain_file c.args.file.now in
     let program : Program = plain_program c.args.program.now in
     let inv = c.rounds.invariant in
@@ -108,8 +92,8 @@ returns-in-Nothing-clause-shortest g c = λ is.
 
 pub returns-clause-shortest : goal.returns-clause-shortest
 returns-clause-shortest g c = λ is.
-    let first = g.O.Observer.first c.args.ground.observer.now in
-    let next = g.O.Observer.next c.args.ground.observer.now in
-    let is_bad = g.O.Observer.bad c.args.ground.observer.now in
+    let first = g.O.Observer.first c.args.ground.now.observer.now in
+    let next = g.O.Observer.next c.args.ground.now.observer.now in
+    let is_bad = g.O.Observer.bad c.args.ground.now.observer.now in
     nothing_shorter first next is_bad (plain_file c.args.file.now) (plain_program c.args.program.now) c.rounds.schedule
     (omega (arith, ap length (c.is_empty.ensures.0 c.rounds-test.false)))

@@ -1,4 +1,4 @@
--- What the loop `level` of `least_below` in src/fewest.rt keeps.
+-- What the loop `level` of `first_below` in src/fewest.rt keeps.
 
 use Rattle.std.proofs.Common.{◌≡◌, length}
 use Rattle.ls_checked.specs.Plain.{plain_file}
@@ -8,7 +8,7 @@ use Rattle.ls_search_laws.specs.Configuration.{configuration_of}
 use Rattle.ls_search.specs.Places.{AreThere, configuration_at}
 use Rattle.ls_transitions.specs.Seen.{table_of}
 use Rattle.ls_fewest_switches.specs.Levels.{HaveAtLeast}
-use Rattle.ls_fewest_switches.proofs.fewest.least_below.Given as goal
+use Rattle.ls_fewest_switches.proofs.fewest.first_below.Given as goal
 
 abbrev pub invariant-loop-level : goal.invariant-loop-level
 invariant-loop-level g l = record {
@@ -18,7 +18,7 @@ invariant-loop-level g l = record {
   stuck : l.ground.stuck ≡ l.fn.ground.stuck;
   counted : l.ground.counted ≡ l.fn.ground.counted;
   there : AreThere (table_of l.numbered.transitions) l.numbered.store l.numbered.works.items;
-  width : length l.numbered.works.items ≡ length l.program.threads.items;
+  width : length l.numbered.works.items ≡ l.fn.ground.threads;
   file : (table_of l.numbered.transitions).file ≡ plain_file l.file;
   start : configuration_at (table_of l.numbered.transitions) l.numbered.store l.numbered.works.items ≡
       configuration_of (plain_file l.file) (plain_program l.program) (start (plain_program l.program));

@@ -1,49 +1,38 @@
--- Why `least_below` in src/fewest.rt keeps its contract and its loop `level`.
+-- Why `first_below` in src/fewest.rt keeps its contract and its loop `level`.
 
-use Rattle.std.proofs.Common.{length, refl, sym, ap, ◌∙◌, arith}
-use Rattle.std.proofs.lemmas.List.{length-map}
+use Rattle.std.proofs.Common.{length, refl, ap, ◌∙◌, arith}
 use Rattle.ls_checked.specs.CheckedTree.{File}
 use Rattle.ls_checked.specs.CheckedProgram.{Program}
 use Rattle.ls_checked.specs.Plain.{plain_file}
-use Rattle.ls_checked.specs.PlainProgram.{plain_program, plain_thread}
+use Rattle.ls_checked.specs.PlainProgram.{plain_program}
 use Rattle.ls_meaning.specs.Runs.{start}
 use Rattle.ls_search_laws.specs.Configuration.{configuration_of}
-use Rattle.ls_source.specs.Progress.{Progress, begun}
-use Rattle.ls_source.specs.Stands.{StandsFor}
 use Rattle.ls_transitions.specs.Tables.{Table}
 use Rattle.ls_transitions.specs.Seen.{table_of}
 use Rattle.ls_fewest_switches.proofs.Roots.{first_of, least_more, level_of, still_at, still_there}
-use Rattle.ls_fewest_switches.proofs.fewest.least_below.Goals as goal
+use Rattle.ls_fewest_switches.proofs.fewest.first_below.Goals as goal
 
 pub loop-level-init : goal.loop-level-init
-loop-level-init g c =
-    let program : Program = plain_program c.args.program.now in
-    let p : Progress = begun (plain_file c.args.file.now) program in
-    let stands : StandsFor c.in_ok-playing.playing p = c.in_ok-playing.ensures in
-    record {
-      observer = refl;
-      lost = refl;
-      threads = refl;
-      stuck = refl;
-      counted = refl;
-      there = c.in_ok-numbered.ensures.there;
-      width = c.in_ok-numbered.ensures.width
-          ∙ c.in_ok-playing.playing.works
-          ∙ sym (length-map c.in_ok-playing.playing.program.now.threads.items plain_thread)
-          ∙ ap (λ (q : Progress). length q.program.threads) stands.shows
-          ∙ length-map c.args.program.now.threads.items plain_thread;
-      file = c.in_ok-numbered.ensures.file ∙ ap (λ (q : Progress). q.file) stands.shows;
-      start = c.in_ok-numbered.ensures.same p stands;
-      least = λ s sought ends. omega arith;
-    }
+loop-level-init g c = record {
+  observer = refl;
+  lost = refl;
+  threads = refl;
+  stuck = refl;
+  counted = refl;
+  there = c.requires.there;
+  width = c.requires.width;
+  file = c.requires.file;
+  start = c.requires.start;
+  least = λ s sought ends. omega arith;
+}
 
 pub loop-level-preserved : goal.loop-level-preserved
 loop-level-preserved g c =
     let program : Program = plain_program c.args.program.now in
     let file : File = plain_file c.args.file.now in
-    let first = g.O.Observer.first c.args.ground.observer.now in
-    let next = g.O.Observer.next c.args.ground.observer.now in
-    let is_bad = g.O.Observer.bad c.args.ground.observer.now in
+    let first = g.O.Observer.first c.args.ground.now.observer.now in
+    let next = g.O.Observer.next c.args.ground.now.observer.now in
+    let is_bad = g.O.Observer.bad c.args.ground.now.observer.now in
     let inv = c.loop-level.invariant in
     let t : Table = table_of c.loop-level.numbered.transitions in
     let t' : Table = table_of c.within.new.numbered.transitions in
@@ -61,7 +50,7 @@ loop-level-preserved g c =
       start = still_at t t' c.within.ensures.grows c.loop-level.numbered.store c.within.new.numbered.store
           c.loop-level.numbered.works.items c.within.new.numbered.works.items c.within.ensures.store
           c.within.ensures.works inv.there (configuration_of file program (start program)) inv.start;
-      least = least_more first next is_bad c.args.ground.stuck file program c.args.ground.counted c.loop-level.level
+      least = least_more first next is_bad c.args.ground.now.stuck file program c.args.ground.now.counted c.loop-level.level
           (level_of g.O.Observer.first g.O.Observer.next g.O.Observer.bad file program c.loop-level.level
           (ap (λ o. o.now) inv.observer) inv.stuck inv.counted c.in-Nothing.is c.in_ok-within.ensures.level);
     }
@@ -70,15 +59,15 @@ pub returns-in-Steps : goal.returns-in-Steps
 returns-in-Steps g c =
     let program : Program = plain_program c.args.program.now in
     let file : File = plain_file c.args.file.now in
-    let first = g.O.Observer.first c.args.ground.observer.now in
-    let next = g.O.Observer.next c.args.ground.observer.now in
-    let is_bad = g.O.Observer.bad c.args.ground.observer.now in
+    let first = g.O.Observer.first c.args.ground.now.observer.now in
+    let next = g.O.Observer.next c.args.ground.now.observer.now in
+    let is_bad = g.O.Observer.bad c.args.ground.now.observer.now in
     let inv = c.loop-level.invariant in
     let w = level_of g.O.Observer.first g.O.Observer.next g.O.Observer.bad file program c.loop-level.level
     (ap (λ o. o.now) inv.observer) inv.stuck inv.counted c.in-Steps.is c.in_ok-within.ensures.level in
     let few = w.few in
     let below = c.loop-level-test.true in (
-      first_of first next is_bad c.args.ground.stuck file program c.args.ground.counted c.loop-level.level
+      first_of first next is_bad c.args.ground.now.stuck file program c.args.ground.now.counted c.loop-level.level
           c.in-Steps.steps.items w inv.least,
       omega (arith, few, below),
     )
