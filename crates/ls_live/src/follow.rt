@@ -147,6 +147,47 @@ impl Room {
     }
 }
 
+// Starts a thread for a seat, if each seat before it got one. If it gets none, all others are stopped.
+fn start<'s, 'a: 's, E, G: Gate + Sync>(
+    scope: &'s Scope<'s, E>,
+    followed: &'a Followed,
+    gate: &'a G,
+    handles: &mut Vec<PromisedHandle<Left, LeftOf<'a>>>,
+    rest: &mut Vec<TurnSeat>,
+    seat: TurnSeat,
+)
+    requires seat { IsSeatOf followed.now.turnstile seat }
+    requires of { All (λ h. h.promise.followed.now ≡ followed.now) handles.old.items }
+    requires rest { All (IsSeatOf followed.now.turnstile) rest.old.items }
+    requires room { (vec_len handles.old < vec_capacity handles.old) × (vec_len rest.old < vec_capacity rest.old) }
+    ensures of { All (λ h. h.promise.followed.now ≡ followed.now) handles.new.items }
+    ensures rest { All (IsSeatOf followed.now.turnstile) rest.new.items }
+    ensures threads { map (λ h. h.promise.thread) handles.new.items ++ map (λ c. c.thread) rest.new.items ≡
+        (map (λ h. h.promise.thread) handles.old.items ++ map (λ c. c.thread) rest.old.items) ++ seat.thread ∷ [] }
+    ensures count { length handles.new.items + length rest.new.items ≡
+        length handles.old.items + length rest.old.items + 1 }
+    ensures room { (vec_capacity handles.new ≡ vec_capacity handles.old) ×
+        (vec_capacity rest.new ≡ vec_capacity rest.old) }
+{
+    if !rest.is_empty() {
+        rest.push_reserved(seat);
+        return;
+    }
+    let thread = seat.thread();
+    let job = move || -> Left
+        requires { IsSeatOf followed.now.turnstile seat }
+        ensures { Leaves followed.entry.now.turnstile seat.thread result.seat result.end }
+    { work(followed, seat, gate) };
+    match scope.spawn_with(LeftOf { followed, thread }, job) {
+        Ok(handle) => handles.push_reserved(handle),
+        Err(refused) => {
+            followed.stop.store(true, SeqCst);
+            let Left { seat, end: _ } = (refused.value)();
+            rest.push_reserved(seat);
+        }
+    }
+}
+
 // Starts a thread for each seat, and joins the threads. If a seat gets no thread, all others are stopped, and the
 // seats after it get none.
 fn follow_all<'s, 'a: 's, E, G: Gate + Sync, R: Threads + Sync>(
@@ -174,23 +215,7 @@ fn follow_all<'s, 'a: 's, E, G: Gate + Sync, R: Threads + Sync>(
         return Back { seats, fault };
     };
     for seat in seats {
-        if !rest.is_empty() {
-            rest.push_reserved(seat);
-            continue;
-        }
-        let thread = seat.thread();
-        let job = move || -> Left
-            requires { IsSeatOf followed.now.turnstile seat }
-            ensures { Leaves followed.entry.now.turnstile seat.thread result.seat result.end }
-        { work(followed, seat, gate) };
-        match scope.spawn_with(LeftOf { followed, thread }, job) {
-            Ok(handle) => handles.push_reserved(handle),
-            Err(refused) => {
-                followed.stop.store(true, SeqCst);
-                let Left { seat, end: _ } = (refused.value)();
-                rest.push_reserved(seat);
-            }
-        }
+        start(scope, followed, gate, &mut handles, &mut rest, seat);
     }
     let joined = join_all(rt, followed, handles, left);
     with_rest(joined, rest)
