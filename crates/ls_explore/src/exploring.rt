@@ -13,7 +13,7 @@ ghost use Rattle.ls_explore.specs.Rows.{row_order};
 ghost use Rattle.ls_explore.specs.Watching.{GoesOn};
 
 use crate::rows::Row;
-use crate::searching::{Seen, search};
+use crate::searching::{Seen, search_with};
 use crate::table::tell;
 use crate::walking::Ground;
 use ls_code::code::Code;
@@ -114,7 +114,6 @@ pub fn explore<W: Watch>(
     ensures watched { GoesOn W.Since watch.old watch.new }
 {
     let mut walker = Machine::load(alloc, code, cells)?;
-    let mut other = Machine::load(alloc, code, cells)?;
     let ground = Ground {
         alloc,
         setup,
@@ -122,7 +121,7 @@ pub fn explore<W: Watch>(
         threads: extent.threads,
         limit: extent.limit,
     };
-    let found = search(&mut walker, &mut other, &ground, watch)?;
+    let found = search_with(&mut walker, code, cells, &ground, watch)?;
     let rows = tell(&mut walker, &ground, &found)?;
     Ok(Exploration {
         rows,

@@ -1,8 +1,9 @@
 // The search for all that threads lead to.
 
 ghost use Rattle.std.specs.Prelude.{◌≡◌, ℕ, ◌<◌, ◌≤◌, ◌+◌, ◌⊎◌, ◌++◌, [], ◌∷◌, false, length, IfNone, IfOk, IfSome};
-ghost use Rattle.std.specs.Prelude.{OnOk, IsTrue, Contains, slice_index_or};
-ghost use Rattle.ls_code.specs.Machine.{Machine as MachineValue};
+ghost use Rattle.std.specs.Prelude.{OnOk, IsErrOf, IsTrue, Contains, slice_index_or};
+ghost use Rattle.ls_code.specs.Machine.{Machine as MachineValue, loaded};
+ghost use Rattle.ls_machine.specs.Room.{AreBadCells};
 ghost use Rattle.ls_machine.specs.Saved.{standing};
 ghost use Rattle.ls_preservation.specs.Acting.{first_did};
 ghost use Rattle.ls_explore.specs.Bursts.{IsClosed};
@@ -14,8 +15,9 @@ ghost use Rattle.ls_explore.specs.Searches.{StandOnce, paths_of, seen_with};
 use crate::hashing::number_of;
 use crate::links::{Link, Path};
 use crate::walking::{Ground, Place, go_back, has_acted, see};
+use ls_code::code::Code;
 use ls_code::step::{Did, is_stop};
-use ls_machine::{Interner, Machine, Saved};
+use ls_machine::{Interner, LoadFault, Machine, Saved};
 use ls_machine_moves::hashing::hashed;
 use ls_source_rows::Watch;
 use ls_transitions::hash_index::HashIndex;
@@ -336,7 +338,7 @@ pub(crate) struct Searched {
 
 /// Looks for all that the threads lead to from the machine after the setup. The shortest paths come first, and of
 /// those of one length the least. Two machines of the same code and number of cells take turns.
-pub(crate) fn search<W: Watch>(
+fn search<W: Watch>(
     walker: &mut Machine,
     other: &mut Machine,
     ground: &Ground<'_>,
@@ -378,4 +380,37 @@ pub(crate) fn search<W: Watch>(
         seen,
         complete,
     })
+}
+
+/// The same, where the other machine is made here, of this code and on so many cells.
+pub(crate) fn search_with<W: Watch>(
+    walker: &mut Machine,
+    code: &Code,
+    cells: usize,
+    ground: &Ground<'_>,
+    watch: &mut W,
+) -> Result<Searched, LoadFault>
+    requires loaded { walker.old ≡ loaded code.now cells }
+    ensures bad { IsErrOf result LoadFault.BadCells → AreBadCells code.now.names cells }
+    ensures watched { GoesOn W.Since watch.old watch.new }
+    ensures once { IfOk result (λ found. StandOnce (paths_of found.paths.items)) }
+    ensures cut { IfOk result (λ found. found.complete ≡ false → ground.now.limit ≤ length found.paths.items) }
+    ensures few { IfOk result (λ found. 1 ≤ ground.now.limit → length found.paths.items ≤ ground.now.limit) }
+    ensures saves { IfOk result
+        (λ found. AreSaved ground.now.most (root_of walker.old ground.now.setup.now) (paths_of found.paths.items)
+        found.saved.items) }
+    ensures sound { IfOk result
+        (λ found. IsSound ground.now.most ground.now.threads (root_of walker.old ground.now.setup.now)
+        (paths_of found.paths.items) found.seen.items) }
+    ensures count { IfOk result (λ found. IsTrue found.complete →
+        length found.seen.items ≡ length (paths_of found.paths.items)) }
+    ensures closed { IfOk result (λ found. IsTrue found.complete →
+        IsClosed ground.now.most ground.now.threads
+        (led_to ground.now.most (root_of walker.old ground.now.setup.now) (paths_of found.paths.items))) }
+    ensures code { walker.new.code ≡ walker.old.code }
+    ensures cells { walker.new.cells.limit ≡ walker.old.cells.limit }
+{
+    let mut other = Machine::load(ground.alloc, code, cells)?;
+    let found = search(walker, &mut other, ground, watch)?;
+    Ok(found)
 }

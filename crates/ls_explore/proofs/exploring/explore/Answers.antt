@@ -37,20 +37,20 @@ pub tell-requires-clause-saves : goal.tell-requires-clause-saves
 tell-requires-clause-saves g c =
     subst (λ r. AreSaved c.most_steps.result r (paths_of c.in_ok-found.found.paths.items)
     c.in_ok-found.found.saved.items)
-    (sym (root_same c.in_ok-walker.walker c.search.new.walker c.args.setup.now c.search.ensures.code
-    c.search.ensures.cells)) c.in_ok-found.ensures.saves
+    (sym (root_same c.in_ok-walker.walker c.search_with.new.walker c.args.setup.now c.search_with.ensures.code
+    c.search_with.ensures.cells)) c.in_ok-found.ensures.saves
 
 pub returns-clause-told : goal.returns-clause-told
 returns-clause-told g c =
     let setup : List ℕ = c.args.setup.now in
     let n : ℕ = c.most_steps.result in
     let threads : ℕ = c.args.extent.threads in
-    let root : Machine = root_of c.search.new.walker setup in
+    let root : Machine = root_of c.search_with.new.walker setup in
     let paths : List (List ℕ) = paths_of c.in_ok-found.found.paths.items in
     let seen : List Seen = c.in_ok-found.found.seen.items in
-    let er = root_same c.in_ok-walker.walker c.search.new.walker setup c.search.ensures.code c.search.ensures.cells ∙
+    let er = root_same c.in_ok-walker.walker c.search_with.new.walker setup c.search_with.ensures.code c.search_with.ensures.cells ∙
     ap (λ (m : Machine). root_of m setup) c.in_ok-walker.ensures.loaded in
-    let sound = sound_there c.in_ok-walker.walker c.search.new.walker setup c.search.ensures.code c.search.ensures.cells
+    let sound = sound_there c.in_ok-walker.walker c.search_with.new.walker setup c.search_with.ensures.code c.search_with.ensures.cells
     n threads paths seen c.in_ok-found.ensures.sound in
     tells_truth c.args.code.now c.args.cells setup threads n root
     c.most_steps.ensures er paths seen sound
@@ -61,12 +61,12 @@ returns-clause-acts g c =
     let setup : List ℕ = c.args.setup.now in
     let n : ℕ = c.most_steps.result in
     let threads : ℕ = c.args.extent.threads in
-    let root : Machine = root_of c.search.new.walker setup in
+    let root : Machine = root_of c.search_with.new.walker setup in
     let paths : List (List ℕ) = paths_of c.in_ok-found.found.paths.items in
     let seen : List Seen = c.in_ok-found.found.seen.items in
-    let er = root_same c.in_ok-walker.walker c.search.new.walker setup c.search.ensures.code c.search.ensures.cells ∙
+    let er = root_same c.in_ok-walker.walker c.search_with.new.walker setup c.search_with.ensures.code c.search_with.ensures.cells ∙
     ap (λ (m : Machine). root_of m setup) c.in_ok-walker.ensures.loaded in
-    let sound = sound_there c.in_ok-walker.walker c.search.new.walker setup c.search.ensures.code c.search.ensures.cells
+    let sound = sound_there c.in_ok-walker.walker c.search_with.new.walker setup c.search_with.ensures.code c.search_with.ensures.cells
     n threads paths seen c.in_ok-found.ensures.sound in
     tells_acts c.args.code.now c.args.cells setup threads n root
     c.most_steps.ensures er paths seen sound
@@ -77,12 +77,12 @@ returns-clause-over g c =
     let setup : List ℕ = c.args.setup.now in
     let n : ℕ = c.most_steps.result in
     let threads : ℕ = c.args.extent.threads in
-    let root : Machine = root_of c.search.new.walker setup in
+    let root : Machine = root_of c.search_with.new.walker setup in
     let paths : List (List ℕ) = paths_of c.in_ok-found.found.paths.items in
     let seen : List Seen = c.in_ok-found.found.seen.items in
-    let er = root_same c.in_ok-walker.walker c.search.new.walker setup c.search.ensures.code c.search.ensures.cells ∙
+    let er = root_same c.in_ok-walker.walker c.search_with.new.walker setup c.search_with.ensures.code c.search_with.ensures.cells ∙
     ap (λ (m : Machine). root_of m setup) c.in_ok-walker.ensures.loaded in
-    let sound = sound_there c.in_ok-walker.walker c.search.new.walker setup c.search.ensures.code c.search.ensures.cells
+    let sound = sound_there c.in_ok-walker.walker c.search_with.new.walker setup c.search_with.ensures.code c.search_with.ensures.cells
     n threads paths seen c.in_ok-found.ensures.sound in
     tells_over c.args.code.now c.args.cells setup threads n root
     c.most_steps.ensures er paths seen sound
@@ -93,12 +93,12 @@ returns-clause-fits g c =
     let setup : List ℕ = c.args.setup.now in
     let n : ℕ = c.most_steps.result in
     let threads : ℕ = c.args.extent.threads in
-    let root : Machine = root_of c.search.new.walker setup in
+    let root : Machine = root_of c.search_with.new.walker setup in
     let paths : List (List ℕ) = paths_of c.in_ok-found.found.paths.items in
     let seen : List Seen = c.in_ok-found.found.seen.items in
-    let er = root_same c.in_ok-walker.walker c.search.new.walker setup c.search.ensures.code c.search.ensures.cells ∙
+    let er = root_same c.in_ok-walker.walker c.search_with.new.walker setup c.search_with.ensures.code c.search_with.ensures.cells ∙
     ap (λ (m : Machine). root_of m setup) c.in_ok-walker.ensures.loaded in
-    let sound = sound_there c.in_ok-walker.walker c.search.new.walker setup c.search.ensures.code c.search.ensures.cells
+    let sound = sound_there c.in_ok-walker.walker c.search_with.new.walker setup c.search_with.ensures.code c.search_with.ensures.cells
     n threads paths seen c.in_ok-found.ensures.sound in
     tells_fits c.args.code.now c.args.cells setup threads n root
     c.most_steps.ensures er paths seen sound
@@ -109,12 +109,12 @@ returns-clause-full g c =
     let setup : List ℕ = c.args.setup.now in
     let n : ℕ = c.most_steps.result in
     let threads : ℕ = c.args.extent.threads in
-    let root : Machine = root_of c.search.new.walker setup in
+    let root : Machine = root_of c.search_with.new.walker setup in
     let paths : List (List ℕ) = paths_of c.in_ok-found.found.paths.items in
     let seen : List Seen = c.in_ok-found.found.seen.items in
-    let er = root_same c.in_ok-walker.walker c.search.new.walker setup c.search.ensures.code c.search.ensures.cells ∙
+    let er = root_same c.in_ok-walker.walker c.search_with.new.walker setup c.search_with.ensures.code c.search_with.ensures.cells ∙
     ap (λ (m : Machine). root_of m setup) c.in_ok-walker.ensures.loaded in
-    let sound = sound_there c.in_ok-walker.walker c.search.new.walker setup c.search.ensures.code c.search.ensures.cells
+    let sound = sound_there c.in_ok-walker.walker c.search_with.new.walker setup c.search_with.ensures.code c.search_with.ensures.cells
     n threads paths seen c.in_ok-found.ensures.sound in
     tells_full c.args.code.now c.args.cells setup threads n root
     c.most_steps.ensures er paths seen sound
@@ -125,12 +125,12 @@ returns-clause-narrow g c = λ no.
     let setup : List ℕ = c.args.setup.now in
     let n : ℕ = c.most_steps.result in
     let threads : ℕ = c.args.extent.threads in
-    let root : Machine = root_of c.search.new.walker setup in
+    let root : Machine = root_of c.search_with.new.walker setup in
     let paths : List (List ℕ) = paths_of c.in_ok-found.found.paths.items in
     let seen : List Seen = c.in_ok-found.found.seen.items in
-    let er = root_same c.in_ok-walker.walker c.search.new.walker setup c.search.ensures.code c.search.ensures.cells ∙
+    let er = root_same c.in_ok-walker.walker c.search_with.new.walker setup c.search_with.ensures.code c.search_with.ensures.cells ∙
     ap (λ (m : Machine). root_of m setup) c.in_ok-walker.ensures.loaded in
-    let sound = sound_there c.in_ok-walker.walker c.search.new.walker setup c.search.ensures.code c.search.ensures.cells
+    let sound = sound_there c.in_ok-walker.walker c.search_with.new.walker setup c.search_with.ensures.code c.search_with.ensures.cells
     n threads paths seen c.in_ok-found.ensures.sound in
     let some = c.are_roomy.ensures.some no in
     tells_narrow c.args.code.now c.args.cells setup threads n root
@@ -142,12 +142,12 @@ returns-clause-seen g c = λ yes.
     let setup : List ℕ = c.args.setup.now in
     let n : ℕ = c.most_steps.result in
     let threads : ℕ = c.args.extent.threads in
-    let root : Machine = root_of c.search.new.walker setup in
+    let root : Machine = root_of c.search_with.new.walker setup in
     let paths : List (List ℕ) = paths_of c.in_ok-found.found.paths.items in
     let seen : List Seen = c.in_ok-found.found.seen.items in
-    let er = root_same c.in_ok-walker.walker c.search.new.walker setup c.search.ensures.code c.search.ensures.cells ∙
+    let er = root_same c.in_ok-walker.walker c.search_with.new.walker setup c.search_with.ensures.code c.search_with.ensures.cells ∙
     ap (λ (m : Machine). root_of m setup) c.in_ok-walker.ensures.loaded in
-    let sound = sound_there c.in_ok-walker.walker c.search.new.walker setup c.search.ensures.code c.search.ensures.cells
+    let sound = sound_there c.in_ok-walker.walker c.search_with.new.walker setup c.search_with.ensures.code c.search_with.ensures.cells
     n threads paths seen c.in_ok-found.ensures.sound in
     tells_seen c.args.code.now c.args.cells setup threads n root
     c.most_steps.ensures er paths seen sound
@@ -159,15 +159,15 @@ returns-clause-tells g c = λ yes.
     let setup : List ℕ = c.args.setup.now in
     let n : ℕ = c.most_steps.result in
     let threads : ℕ = c.args.extent.threads in
-    let root : Machine = root_of c.search.new.walker setup in
+    let root : Machine = root_of c.search_with.new.walker setup in
     let paths : List (List ℕ) = paths_of c.in_ok-found.found.paths.items in
     let seen : List Seen = c.in_ok-found.found.seen.items in
-    let er = root_same c.in_ok-walker.walker c.search.new.walker setup c.search.ensures.code c.search.ensures.cells ∙
+    let er = root_same c.in_ok-walker.walker c.search_with.new.walker setup c.search_with.ensures.code c.search_with.ensures.cells ∙
     ap (λ (m : Machine). root_of m setup) c.in_ok-walker.ensures.loaded in
-    let sound = sound_there c.in_ok-walker.walker c.search.new.walker setup c.search.ensures.code c.search.ensures.cells
+    let sound = sound_there c.in_ok-walker.walker c.search_with.new.walker setup c.search_with.ensures.code c.search_with.ensures.cells
     n threads paths seen c.in_ok-found.ensures.sound in
-    let closed = closed_there c.in_ok-walker.walker c.search.new.walker setup c.search.ensures.code
-    c.search.ensures.cells n threads paths (c.in_ok-found.ensures.closed yes) in
+    let closed = closed_there c.in_ok-walker.walker c.search_with.new.walker setup c.search_with.ensures.code
+    c.search_with.ensures.cells n threads paths (c.in_ok-found.ensures.closed yes) in
     let first : Contains (led_to n root paths) root = first_there n threads root paths sound.first
     (walked_none n root) in
     tells_all c.args.code.now c.args.cells setup threads n root
@@ -180,15 +180,15 @@ returns-clause-ends g c = λ yes.
     let setup : List ℕ = c.args.setup.now in
     let n : ℕ = c.most_steps.result in
     let threads : ℕ = c.args.extent.threads in
-    let root : Machine = root_of c.search.new.walker setup in
+    let root : Machine = root_of c.search_with.new.walker setup in
     let paths : List (List ℕ) = paths_of c.in_ok-found.found.paths.items in
     let seen : List Seen = c.in_ok-found.found.seen.items in
-    let er = root_same c.in_ok-walker.walker c.search.new.walker setup c.search.ensures.code c.search.ensures.cells ∙
+    let er = root_same c.in_ok-walker.walker c.search_with.new.walker setup c.search_with.ensures.code c.search_with.ensures.cells ∙
     ap (λ (m : Machine). root_of m setup) c.in_ok-walker.ensures.loaded in
-    let sound = sound_there c.in_ok-walker.walker c.search.new.walker setup c.search.ensures.code c.search.ensures.cells
+    let sound = sound_there c.in_ok-walker.walker c.search_with.new.walker setup c.search_with.ensures.code c.search_with.ensures.cells
     n threads paths seen c.in_ok-found.ensures.sound in
-    let closed = closed_there c.in_ok-walker.walker c.search.new.walker setup c.search.ensures.code
-    c.search.ensures.cells n threads paths (c.in_ok-found.ensures.closed yes) in
+    let closed = closed_there c.in_ok-walker.walker c.search_with.new.walker setup c.search_with.ensures.code
+    c.search_with.ensures.cells n threads paths (c.in_ok-found.ensures.closed yes) in
     let first : Contains (led_to n root paths) root = first_there n threads root paths sound.first
     (walked_none n root) in
     tells_ends c.args.code.now c.args.cells setup threads n root
@@ -201,15 +201,15 @@ returns-clause-whole g c = λ yes room.
     let setup : List ℕ = c.args.setup.now in
     let n : ℕ = c.most_steps.result in
     let threads : ℕ = c.args.extent.threads in
-    let root : Machine = root_of c.search.new.walker setup in
+    let root : Machine = root_of c.search_with.new.walker setup in
     let paths : List (List ℕ) = paths_of c.in_ok-found.found.paths.items in
     let seen : List Seen = c.in_ok-found.found.seen.items in
-    let er = root_same c.in_ok-walker.walker c.search.new.walker setup c.search.ensures.code c.search.ensures.cells ∙
+    let er = root_same c.in_ok-walker.walker c.search_with.new.walker setup c.search_with.ensures.code c.search_with.ensures.cells ∙
     ap (λ (m : Machine). root_of m setup) c.in_ok-walker.ensures.loaded in
-    let sound = sound_there c.in_ok-walker.walker c.search.new.walker setup c.search.ensures.code c.search.ensures.cells
+    let sound = sound_there c.in_ok-walker.walker c.search_with.new.walker setup c.search_with.ensures.code c.search_with.ensures.cells
     n threads paths seen c.in_ok-found.ensures.sound in
-    let closed = closed_there c.in_ok-walker.walker c.search.new.walker setup c.search.ensures.code
-    c.search.ensures.cells n threads paths (c.in_ok-found.ensures.closed yes) in
+    let closed = closed_there c.in_ok-walker.walker c.search_with.new.walker setup c.search_with.ensures.code
+    c.search_with.ensures.cells n threads paths (c.in_ok-found.ensures.closed yes) in
     let first : Contains (led_to n root paths) root = first_there n threads root paths sound.first
     (walked_none n root) in
     tells_whole c.args.code.now c.args.cells setup threads n root
@@ -223,12 +223,12 @@ returns-clause-found g c =
     let setup : List ℕ = c.args.setup.now in
     let n : ℕ = c.most_steps.result in
     let threads : ℕ = c.args.extent.threads in
-    let root : Machine = root_of c.search.new.walker setup in
+    let root : Machine = root_of c.search_with.new.walker setup in
     let paths : List (List ℕ) = paths_of c.in_ok-found.found.paths.items in
     let seen : List Seen = c.in_ok-found.found.seen.items in
-    let er = root_same c.in_ok-walker.walker c.search.new.walker setup c.search.ensures.code c.search.ensures.cells ∙
+    let er = root_same c.in_ok-walker.walker c.search_with.new.walker setup c.search_with.ensures.code c.search_with.ensures.cells ∙
     ap (λ (m : Machine). root_of m setup) c.in_ok-walker.ensures.loaded in
-    let sound = sound_there c.in_ok-walker.walker c.search.new.walker setup c.search.ensures.code c.search.ensures.cells
+    let sound = sound_there c.in_ok-walker.walker c.search_with.new.walker setup c.search_with.ensures.code c.search_with.ensures.cells
     n threads paths seen c.in_ok-found.ensures.sound in
     let count : length paths ≡ length c.in_ok-found.found.paths.items = length-paths c.in_ok-found.found.paths.items in
     let many : length paths ≡ c.len.result = omega (arith, count) in
