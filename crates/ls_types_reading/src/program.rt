@@ -1,6 +1,6 @@
 // Thread programs.
 
-ghost use Rattle.std.specs.Prelude.{◌≡◌, ℕ, IfOk, IfErr, Ok, Some};
+ghost use Rattle.std.specs.Prelude.{◌≡◌, ◌≤◌, ℕ, IfOk, IfErr, Ok, Some, length};
 ghost use Rattle.ls_lexer.specs.Lexemes.{lexemes};
 ghost use Rattle.ls_lexer.specs.Places.{Refused};
 ghost use Rattle.ls_types_elaboration.specs.Trees.{File, Text};
@@ -8,11 +8,13 @@ ghost use Rattle.ls_types_elaboration.specs.Elaboration.{ElaboratedFile, elabora
 ghost use Rattle.ls_checked.specs.PlainProgram.{plain_program};
 ghost use Rattle.ls_types_judgement.specs.WellTyped.{IsWellTypedProgram};
 ghost use Rattle.ls_types_checked.specs.CheckedFile.{elaborated_file};
-ghost use Rattle.ls_types_programs.specs.ThreadPrograms.{after, beginning, program_of, program_of_tokens};
+ghost use Rattle.ls_types_programs.specs.ThreadPrograms.{after, beginning, ended, program_of, program_of_tokens};
+ghost use Rattle.ls_types_programs.specs.ThreadPrograms.{whole};
 ghost use Rattle.ls_types_programs.specs.Programs.{IsTextOf};
-ghost use Rattle.ls_types_programs.specs.Stops.{stops, unmarked};
+ghost use Rattle.ls_types_programs.specs.Stops.{fault_at_end, stops, unmarked};
 ghost use Rattle.ls_types_checked.specs.ProgramViews.{ReadsAs, Refuses};
-ghost use Rattle.ls_types_reading.specs.ReadingViews.{parts_of, reading_of, StopsAt, StopsWith};
+ghost use Rattle.ls_types_reading.specs.ReadingViews.{parts_of, reading_of, stage_of, StopsAt, StopsWith};
+ghost use Rattle.ls_types_reading.specs.declared.reading.Stage.TheVariants.{AtThread};
 ghost use Rattle.ls_types_checked.specs.ProgramRefusals.{Stands};
 
 use crate::methods::Methods;
@@ -59,6 +61,21 @@ fn read_tokens<'a>(
 }
 
 // A program ends after a block. `end` is the end of the text, in bytes.
+fn ended(parts: Parts, stage: Stage<'_>, end: usize) -> Result<Program, ProgramFault>
+    requires { stage ≡ AtThread → length parts.threads.items ≤ 65 }
+    ensures read { ReadsAs plain_program result (whole (Some (reading_of parts stage.entry))) }
+    ensures place { IfErr result (λ e. StopsWith e (fault_at_end end (ended (stage_of stage.entry)))) }
+{
+    match stage {
+        Stage::AtThread => Ok(Program {
+            names: parts.names.into_names(),
+            threads: parts.threads,
+        }),
+        _ => Err(ProgramFault::BadProgram { at: end }),
+    }
+}
+
+// Reads all tokens as a program.
 fn whole<'a>(
     alloc: Global,
     methods: &Methods,
@@ -72,13 +89,7 @@ fn whole<'a>(
 {
     let mut parts = beginning(alloc)?;
     let stage = read_tokens(alloc, methods, &mut parts, tokens)?;
-    match stage {
-        Stage::AtThread => Ok(Program {
-            names: parts.names.into_names(),
-            threads: parts.threads,
-        }),
-        _ => Err(ProgramFault::BadProgram { at: end }),
-    }
+    ended(parts, stage, end)
 }
 
 #[tactic(auto, using(crate::proofs::Standing::too_long))]

@@ -30,6 +30,27 @@ impl Model for SetupNames {
     ghost invariant = { λ s. (name : Text) → value_named (entries_of s.numbers) name ≡ setup_named (map plain_name s.names.items) name };
 }
 
+// One more name, with its number.
+fn add(
+    alloc: Global,
+    names: &mut Vec<SetupName>,
+    numbers: &mut IndexMap<String, usize>,
+    name: &str,
+    class: usize,
+) -> Result<(), AllocError>
+    requires { (n : Text) →
+        value_named (entries_of numbers.old) n ≡ setup_named (map plain_name names.old.items) n }
+    ensures named { IfOk result (λ _. (n : Text) →
+        value_named (entries_of numbers.new) n ≡ setup_named (map plain_name names.new.items) n) }
+    ensures names { IfOk result (λ _. map plain_name names.new.items ≡
+        map plain_name names.old.items ++ record { name = name.now; class = class } ∷ []) }
+{
+    give(alloc, numbers, name, names.len())?;
+    let name = String::from_str(alloc, name)?;
+    names.push(SetupName { name, class })?;
+    Ok(())
+}
+
 impl SetupNames {
     /// No setup names.
     pub fn new(alloc: Global) -> SetupNames
@@ -70,9 +91,7 @@ impl SetupNames {
             mut names,
             mut numbers,
         } = self;
-        give(alloc, &mut numbers, name, names.len())?;
-        let name = String::from_str(alloc, name)?;
-        names.push(SetupName { name, class })?;
+        add(alloc, &mut names, &mut numbers, name, class)?;
         Ok(SetupNames { names, numbers })
     }
 
