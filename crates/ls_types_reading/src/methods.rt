@@ -1,6 +1,6 @@
 // The methods of a checked file by name.
 
-ghost use Rattle.std.specs.Prelude.{◌≡◌, IfOk, map, option_map};
+ghost use Rattle.std.specs.Prelude.{◌≡◌, IfOk, map, option_map, slice_get};
 ghost use Rattle.ls_checked.specs.PlainProgram.{plain_name};
 ghost use Rattle.ls_types_checked.specs.CheckedFile.{elaborated_file, signs_of};
 ghost use Rattle.ls_types_elaboration.specs.Known.{method_named};
@@ -42,6 +42,16 @@ fn of_each<'c>(
     Ok(all)
 }
 
+// The methods of the class of a number, if there is one.
+fn table_of<'m, 'c>(
+    classes: &'m [IndexMap<String, &'c MethodSign>],
+    class: usize,
+) -> Option<&'m IndexMap<String, &'c MethodSign>>
+    ensures { option_map (λ t. t.now) result ≡ slice_get classes.now class }
+{
+    classes.get(class)
+}
+
 /// A checked file, and the methods of each of its classes by name. A name finds here what it finds among the methods
 /// that the class declares.
 #[derive(Drop)]
@@ -67,7 +77,7 @@ impl<'c> Methods<'c> {
     {
         match setup {
             None => None,
-            Some(s) => match self.classes.get(s.class) {
+            Some(s) => match table_of(&self.classes, s.class) {
                 None => None,
                 Some(methods) => value_named(methods, name),
             },
