@@ -1,3 +1,4 @@
 pub mod ByName
 pub mod FewThreads
 pub mod Standing
+pub mod Tokens

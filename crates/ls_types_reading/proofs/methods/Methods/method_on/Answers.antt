@@ -1,6 +1,6 @@
 -- Why `Methods::method_on` in src/methods.rt keeps its contract.
 
-use Rattle.std.proofs.Common.{map, sym, ap, ◌∙◌, option_map, slice_get}
+use Rattle.std.proofs.Common.{sym, ap, ◌∙◌, option_map, slice_get}
 use Rattle.ls_checked.specs.PlainProgram.{plain_name}
 use Rattle.ls_types_checked.specs.CheckedFile.{elaborated_file}
 use Rattle.ls_types_programs.specs.ProgramCalls.{method_on}
