@@ -24,6 +24,7 @@ use ls_events::event::Event;
 use ls_events::schedule::Schedule;
 use ls_observers::observer::Observer;
 use ls_search::numbering::Numbered;
+use ls_together::assign;
 use std::alloc::{AllocError, Global};
 
 /// A schedule, and whether it is known that none with one of the histories is shorter.
@@ -31,13 +32,6 @@ use std::alloc::{AllocError, Global};
 pub struct ShortRun {
     pub schedule: Schedule,
     pub shortest: bool,
-}
-
-// Puts a value in the place of another, which is dropped here, at a parameter's type.
-fn replace<T: Drop>(place: &mut T, value: T)
-    ensures { place.new ≡ value }
-{
-    *place = value;
 }
 
 /// Puts a shorter schedule whose history the observer calls bad in the place of this one, until there is none, or too
@@ -74,7 +68,7 @@ fn shorten<'a, O: Observer>(
         match within(ground, file, program, numbered)? {
             Level::Nothing => return Ok(true),
             Level::Cut => return Ok(false),
-            Level::Steps(steps) => replace(schedule, Schedule::of(steps)),
+            Level::Steps(steps) => assign(schedule, Schedule::of(steps)),
         }
     }
     Ok(true)

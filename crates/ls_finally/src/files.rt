@@ -15,14 +15,8 @@ use crate::flatten::Lowering;
 use crate::stays::is_flat;
 use ls_lowered::fault::LowerFault;
 use ls_lowered::tree::{File, Method};
+use ls_together::assign;
 use std::alloc::Global;
-
-// Puts a value in the place of another, which is dropped here, at a parameter's type.
-fn replace<T: Drop>(place: &mut T, value: T)
-    ensures { place.new ≡ value }
-{
-    *place = value;
-}
 
 // Leaves a method without `try`, if it has few enough copies. A method that needs no lowering stays as it is.
 fn lower_method(alloc: Global, method: &mut Method) -> Result<(), LowerFault>
@@ -38,7 +32,7 @@ fn lower_method(alloc: Global, method: &mut Method) -> Result<(), LowerFault>
         count: 0,
     };
     let body = lowering.flatten(alloc, &method.body)?;
-    replace(&mut method.body, body);
+    assign(&mut method.body, body);
     method.locals = lowering.free - method.arguments;
     Ok(())
 }

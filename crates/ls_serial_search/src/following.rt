@@ -19,6 +19,7 @@ use ls_events::schedule::Schedule;
 use ls_events::value::Value;
 use ls_meaning::step::Did;
 use ls_source::playing::Playing;
+use ls_together::assign;
 use std::alloc::{AllocError, Global};
 
 /// What a step does to its thread's call.
@@ -89,13 +90,6 @@ fn is_marked(steps: usize) -> bool {
     steps >= 64 && steps.is_power_of_two()
 }
 
-// Puts a value in the place of another, which is dropped here, at a parameter's type.
-fn replace<T: Drop>(place: &mut T, value: T)
-    ensures { place.new ≡ value }
-{
-    *place = value;
-}
-
 /// Follows a call that has begun with the thread's first step after the schedule. The run stands after that step, and
 /// it is marked there.
 fn follow_on<'a>(
@@ -125,7 +119,7 @@ fn follow_on<'a>(
                     return Ok(Followed::Never(call));
                 }
                 if is_marked(steps) {
-                    replace(mark, Mark::of(alloc, run)?);
+                    assign(mark, Mark::of(alloc, run)?);
                 }
             }
             Happened::Stays => return Ok(Followed::Never(call)),

@@ -86,3 +86,10 @@ pub fn put<T: Drop>(items: &mut Vec<T>, item: T) -> Result<(), AllocError>
     items.push(item)?;
     Ok(())
 }
+
+/// Puts a value in the place of another, which is dropped here.
+pub fn assign<T: Drop>(place: &mut T, value: T)
+    ensures { place.new ≡ value }
+{
+    *place = value;
+}

@@ -57,8 +57,8 @@ rounds-preserved g c =
       start = still_at t t' c.within.ensures.grows c.rounds.numbered.store c.within.new.numbered.store
           c.rounds.numbered.works.items c.within.new.numbered.works.items c.within.ensures.store
           c.within.ensures.works inv.there (configuration_of file program (start program)) inv.start;
-      short = omega (arith, less, inv.short, c.len.ensures, ap length c.replace.ensures, ap length c.of.ensures);
-      sought = λ _. subst (λ s. IsSought first next is_bad (source_history file program s)) (sym (c.replace.ensures ∙ c.of.ensures))
+      short = omega (arith, less, inv.short, c.len.ensures, ap length c.assign.ensures, ap length c.of.ensures);
+      sought = λ _. subst (λ s. IsSought first next is_bad (source_history file program s)) (sym (c.assign.ensures ∙ c.of.ensures))
           w.sought;
     }
 
@@ -75,7 +75,7 @@ rounds-smaller g c =
     c.in_ok-within.ensures.level in
     let less = found_shorter first next is_bad file program c.in-Steps.steps.items _ w in
     let some = some_steps c.rounds.schedule c.is_empty.result c.is_empty.ensures c.rounds-test.true in
-    omega (arith, less, some, c.len.ensures, ap length c.replace.ensures, ap length c.of.ensures)
+    omega (arith, less, some, c.len.ensures, ap length c.assign.ensures, ap length c.of.ensures)
 
 pub returns-in-Nothing-clause-shortest : goal.returns-in-Nothing-clause-shortest
 returns-in-Nothing-clause-shortest g c = λ is.

@@ -131,7 +131,7 @@ loop-steps-preserved c =
           c.loop-steps.auto.steps c.loop-steps.invariant.begun c.in-GoesOn.ensures.1;
       marked = elim c.if-is_marked.branch [
         | then-is_marked+in_ok-of-in-GoesOn w ↦
-            subst is_marked (sym (w.mark-is ∙ w.replace.ensures)) (mark_here file program schedule t _ _
+            subst is_marked (sym (w.mark-is ∙ w.assign.ensures)) (mark_here file program schedule t _ _
             (c.loop-steps.steps + 1) (omega arith) w.in_ok-of-in-GoesOn.ensures at)
         | else-is_marked w ↦
             subst is_marked (sym w.mark-is) (mark_stays file program schedule t c.loop-steps.mark
