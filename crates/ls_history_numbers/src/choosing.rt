@@ -4,7 +4,7 @@ ghost use Rattle.std.specs.Prelude.{◌≡◌, ◌<◌, ◌≤◌, ℕ, Bool, Op
 ghost use Rattle.std.specs.Prelude.{◌+◌, ◌||◌, List, is_some, length, slice_get};
 ghost use Rattle.ls_history_numbers.specs.declared.numbering.Known.{Known as KnownValue};
 ghost use Rattle.ls_history_numbers.specs.Choices.{AreThere, IsBegun, IsChosen, IsCovered, IsEnd, TellBegun};
-ghost use Rattle.ls_history_numbers.specs.Choices.{TellFirsts, TellLasts};
+ghost use Rattle.ls_history_numbers.specs.Choices.{TellChoices, TellFirsts, TellLasts};
 ghost use Rattle.ls_history_numbers.specs.Chosen.{chosen};
 ghost use Rattle.ls_history_numbers.specs.Numbers.{AreNumbered};
 
@@ -159,6 +159,26 @@ fn choice_of(
     chosen(firsts[number], lasts[number], begun[number])
 }
 
+/// For each of so many numbers, the place that stands for its history.
+fn choices_of(
+    alloc: Global,
+    count: usize,
+    firsts: &[Option<usize>],
+    lasts: &[Option<usize>],
+    begun: &[bool],
+) -> Result<Vec<Option<usize>>, AllocError>
+    requires firsts { length firsts.now ≡ count }
+    requires lasts { length lasts.now ≡ count }
+    requires begun { length begun.now ≡ count }
+    ensures { IfOk result (λ v. TellChoices firsts.now lasts.now begun.now v.items count) }
+{
+    let mut choices = Vec::new(alloc);
+    for number in 0..count {
+        choices.push(choice_of(firsts, lasts, begun, number))?;
+    }
+    Ok(choices)
+}
+
 /// For each history by its number, the place that stands for it, if one does. A place has the number of its history,
 /// and each of the first places ends or not. The only refusal is that memory ran out.
 pub fn choose(
@@ -180,9 +200,5 @@ pub fn choose(
     let firsts = first_ends(alloc, all.len(), numbers, ends)?;
     let lasts = last_places(alloc, all.len(), numbers)?;
     let begun = begun_of(alloc, all, numbers, &lasts)?;
-    let mut choices = Vec::new(alloc);
-    for number in 0..all.len() {
-        choices.push(choice_of(&firsts, &lasts, &begun, number))?;
-    }
-    Ok(choices)
+    choices_of(alloc, all.len(), &firsts, &lasts, &begun)
 }
