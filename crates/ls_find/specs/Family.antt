@@ -26,14 +26,14 @@ pub record IsWhole (sought : Sought) (states : ℕ) (classes : Text) (p : Progra
 -- linearizable, no thread waits or turns for ever, and each history is legal as one of a set.
 abbrev pub EachIsSound : Type 0
 EachIsSound =
-    (menu : ℕ) (b : Bounds) (sought : Sought) (states : ℕ) (classes : Text) (p : Programs) (f : Finding Why) → 0 < menu → 0 < b.calls →
-    p.family ≡ family_of menu b → IsWhole sought states classes p f → (plan : Plan) → IsPlanOf menu b plan →
+    (menu : ℕ) (b : Bounds) (sought : Sought) (states : ℕ) (classes : Text) (p : Programs) (f : Finding Why) →
+    0 < menu → 0 < b.calls → p.family ≡ family_of menu b → IsWhole sought states classes p f → (plan : Plan) → IsPlanOf menu b plan →
     IsSound sought classes (text_of p plan)
 
 -- So is each that a search from the first number on has passed, if none up to that one is cut.
 abbrev pub EachPassedIsSound : Type 0
 EachPassedIsSound =
-    (menu : ℕ) (b : Bounds) (sought : Sought) (states : ℕ) (classes : Text) (p : Programs) (to : ℕ) (f : Finding Why) → 0 < menu →
-    0 < b.calls → p.family ≡ family_of menu b → IsFound sought states classes p 0 to f → (n : ℕ) (plan : Plan) →
+    (menu : ℕ) (b : Bounds) (sought : Sought) (states : ℕ) (classes : Text) (p : Programs) (to : ℕ) (f : Finding Why) →
+    0 < menu → 0 < b.calls → p.family ≡ family_of menu b → IsFound sought states classes p 0 to f → (n : ℕ) (plan : Plan) →
     n < length f.passed.items → slice_get (plans p.family) n ≡ Some plan →
     ((k : ℕ) → k ≤ n → slice_get f.passed.items k ≡ Some Cut → ⊥) → IsSound sought classes (text_of p plan)

@@ -16,9 +16,9 @@ use Rattle.ls_find.specs.declared.verdict.ProgramVerdict.{ProgramVerdict}
 use Rattle.ls_find.specs.declared.verdict.ProgramVerdict.TheVariants as verdicts
 use Rattle.ls_find.specs.declared.verdict.Reason.{Reason}
 
--- Why not all schedules are looked at. No such number of states may be kept. Or the setup acts in each of 100,001 steps.
--- Or there are as many states as may be kept, each with a path of its own. Or a schedule is bad that has more steps than
--- a schedule may have.
+-- Why not all schedules are looked at. No such number of states may be kept. Or the setup acts in each of 100,001
+-- steps. Or there are as many states as may be kept, each with a path of its own. Or a schedule is bad that has more
+-- steps than a schedule may have.
 pub data IsCutShort (states : ℕ) (file : File) (program : Program) : Type 0 where
   NoStates : AreBadStates states → IsCutShort states file program
   SetupGoesOn : GoesOnFor file program 100001 → IsCutShort states file program

@@ -33,8 +33,9 @@ pub record HasUnjudged (file : File) (program : Program) : Type 0 where
   pub unjudged : IsVerdict program (source_history file program schedule) NotOneSet ⊎
       IsVerdict program (source_history file program schedule) TooManyTrapped
 
--- When nothing is said of a program. Its schedules are cut short. Or all histories are linearizable, and a call may wait
--- for ever. Or the same is so of sets, and a history can't be judged. Or all ends well, and threads may turn for ever.
+-- When nothing is said of a program. Its schedules are cut short. Or all histories are linearizable, and a call may
+-- wait for ever. Or no call does, and a history can't be judged as one of a set. Or all ends well, and threads may turn
+-- for ever.
 pub data IsUnknown (sought : Sought) (states : ℕ) (file : File) (program : Program) : Type 0 where
   Cut : IsCutShort states file program → IsUnknown sought states file program
   Waits : MayWait sought.waiting file program → IsUnknown sought states file program

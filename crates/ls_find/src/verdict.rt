@@ -45,9 +45,9 @@ pub enum ProgramVerdict {
     /// The history of each schedule is linearizable; no thread waits or turns for ever, and each history is legal, if
     /// that was looked for.
     Good,
-    /// The exploration isn't whole, or the schedule is too long to be shown, or it isn't known whether a thread that
-    /// waits or turns does so in a call that ends where calls run one at a time, or a history can't be judged as that of
-    /// a set.
+    /// The exploration isn't whole, or the schedule is too long to be shown. Or it isn't known whether a thread that
+    /// waits or turns does so in a call that ends where calls run one at a time. Or a history can't be judged as one
+    /// of a set.
     Unknown,
     /// This schedule is bad for a reason.
     Bad(Reason, Schedule),

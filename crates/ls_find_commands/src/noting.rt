@@ -50,7 +50,8 @@ pub(crate) fn searched<W: Watch>(
 ) -> Result<Finding<Why>, AllocError>
     requires order { numbers.from ≤ numbers.to }
     requires there { numbers.to ≤ length (plans programs.now.family) }
-    ensures finding { IfOk result (IsFound explorer.now.sought explorer.now.states explorer.now.classes.now programs.now numbers.from numbers.to) }
+    ensures finding { IfOk result (IsFound explorer.now.sought explorer.now.states
+        explorer.now.classes.now programs.now numbers.from numbers.to) }
     ensures watched { GoesOn W.Since watch.old watch.new }
 {
     let mut noting = Noting::new(watch);
