@@ -48,15 +48,14 @@ fn letter(did: Did) -> char {
     }
 }
 
-// What the steps of a thread answer, up to one with this letter, or so many.
-fn told(
-    alloc: Global,
+// Adds what the steps of a thread answer, up to one with this letter, or so many.
+fn tell(
+    told: &mut String,
     machine: &mut Machine,
     thread: usize,
     most: usize,
     last: char,
-) -> Result<String, AllocError> {
-    let mut told = String::new(alloc);
+) -> Result<(), AllocError> {
     for _ in 0..most {
         let one = letter(machine.step(thread));
         told.push(one)?;
@@ -64,7 +63,7 @@ fn told(
             break;
         }
     }
-    Ok(told)
+    Ok(())
 }
 
 // Steps of a thread whose answers nobody asks for.
@@ -74,23 +73,40 @@ fn pass(machine: &mut Machine, thread: usize, count: usize) {
     }
 }
 
-// What B answers alone up to its first try, and how many steps these are.
-fn alone(alloc: Global, image: &Image) -> Result<String, Fail> {
-    let mut machine = Machine::load(alloc, image.code(), CELLS)?;
-    pass(&mut machine, 0, MANY);
-    Ok(told(alloc, &mut machine, 2, MANY, 'T')?)
+// Adds what B answers alone up to its first try.
+fn tell_alone(told: &mut String, machine: &mut Machine) -> Result<(), AllocError> {
+    pass(machine, 0, MANY);
+    tell(told, machine, 2, MANY, 'T')
 }
 
-// What B answers up to its try, A locks twice before the last of these, and what both answer from there to their ends.
-fn lost(alloc: Global, image: &Image, before: usize) -> Result<[String; 4], Fail> {
+// What B answers alone up to its first try, and how many steps these are.
+fn alone(alloc: Global, image: &Image) -> Result<String, Fail> {
+    let mut told = String::new(alloc);
     let mut machine = Machine::load(alloc, image.code(), CELLS)?;
-    pass(&mut machine, 0, MANY);
-    let first = told(alloc, &mut machine, 2, before, 'T')?;
-    let locks = told(alloc, &mut machine, 1, MANY, 'r')?;
-    let tries = told(alloc, &mut machine, 2, 1, 'T')?;
-    pass(&mut machine, 1, MANY);
-    let again = told(alloc, &mut machine, 2, MANY, 'T')?;
-    Ok([first, locks, tries, again])
+    tell_alone(&mut told, &mut machine)?;
+    Ok(told)
+}
+
+// Adds what B answers up to its try, A locks twice before the last of these, and what both answer from there to their
+// ends, with strokes between them.
+fn tell_lost(told: &mut String, machine: &mut Machine, before: usize) -> Result<(), AllocError> {
+    pass(machine, 0, MANY);
+    tell(told, machine, 2, before, 'T')?;
+    told.push('/')?;
+    tell(told, machine, 1, MANY, 'r')?;
+    told.push('/')?;
+    tell(told, machine, 2, 1, 'T')?;
+    told.push('/')?;
+    pass(machine, 1, MANY);
+    tell(told, machine, 2, MANY, 'T')
+}
+
+// What both answer where A locks before B tries.
+fn lost(alloc: Global, image: &Image, before: usize) -> Result<String, Fail> {
+    let mut told = String::new(alloc);
+    let mut machine = Machine::load(alloc, image.code(), CELLS)?;
+    tell_lost(&mut told, &mut machine, before)?;
+    Ok(told)
 }
 
 // The letters of answers that aren't silent.
@@ -104,31 +120,44 @@ fn loud(alloc: Global, told: &str) -> Result<String, AllocError> {
     Ok(loud)
 }
 
+// Whether an answer begins with that of B alone up to its try, and then A's come.
+fn begins_alone(told: &str, free: &str, before: usize) -> bool {
+    told.get(..before) == free.get(..before) && told.get(before..=before) == Some("/")
+}
+
 #[test]
 fn an_exchange_is_lost(rt: HostRuntime) -> Result<(), Fail> {
     let alloc = rt.alloc();
     let free = with_image(alloc, LOCKED, TWICE_AND_TRIES, |image| alone(alloc, image))?;
     assert_eq!(rt; loud(alloc, free.as_str())?.as_str(), "cnefT");
     let before = free.len().saturating_sub(1);
-    let [first, locks, tries, again] = with_image(
+    let told = with_image(
         alloc,
         LOCKED,
         TWICE_AND_TRIES,
         |image| lost(alloc, image, before),
     )?;
-    assert_eq!(rt; first.as_str(), free.as_str().get(..before).unwrap_or(""));
-    assert_eq!(rt; loud(alloc, locks.as_str())?.as_str(), "cnefLfLr");
-    assert_eq!(rt; tries.as_str(), "F");
-    assert_eq!(rt; loud(alloc, again.as_str())?.as_str(), "rcnefT");
+    assert!(rt; begins_alone(told.as_str(), free.as_str(), before));
+    assert_eq!(rt;
+        loud(alloc, told.as_str())?.as_str(),
+        "cnef/cnefLfLr/F/rcnefT"
+    );
     Ok(())
+}
+
+// Adds what fifty steps of B answer while A has the lock.
+fn tell_waiting(told: &mut String, machine: &mut Machine) -> Result<(), AllocError> {
+    pass(machine, 0, MANY);
+    pass(machine, 1, MANY);
+    tell(told, machine, 2, 50, 'w')
 }
 
 // What fifty steps of B answer while A has the lock.
 fn waiting(alloc: Global, image: &Image) -> Result<String, Fail> {
+    let mut told = String::new(alloc);
     let mut machine = Machine::load(alloc, image.code(), CELLS)?;
-    pass(&mut machine, 0, MANY);
-    pass(&mut machine, 1, MANY);
-    Ok(told(alloc, &mut machine, 2, 50, 'w')?)
+    tell_waiting(&mut told, &mut machine)?;
+    Ok(told)
 }
 
 #[test]
