@@ -1,4 +1,5 @@
 -- Histories with paths that lead to them.
+pub use Rattle.ls_source_rows.specs.Rows.{ActAll}
 use Rattle.std.specs.Prelude.{◌≡◌, ◌≢◌, ℕ, ◌<◌, ◌++◌, [], ◌∷◌, AllPairs, Bool, true, false, List, Option, length, map}
 use Rattle.std.specs.Prelude.{replicate, Contains, None, Some}
 use Rattle.std.specs.declared.cmp.Ordering.{Ordering}
@@ -90,10 +91,6 @@ pub record IsToldBy (rows : List Told) (history : List Event) : Type 0 where
   pub there : Contains rows row
   pub begins : IsBeginning history row.history
 
--- each step of the schedule acts
-abbrev pub ActAll : File → Program → List ℕ → Type 0
-ActAll file program schedule = map (λ e. e.thread) (source_trace file program schedule) ≡ schedule
-
 -- So many paths, no two the same, and those of the rows among them: after the setup's steps one step of each thread of
 -- a path acts, and the history of these steps is the beginning of a row's.
 pub record TellStates (file : File) (program : Program) (k : ℕ) (rows : List Told) (states : ℕ) : Type 0 where
@@ -102,7 +99,7 @@ pub record TellStates (file : File) (program : Program) (k : ℕ) (rows : List T
   pub apart : AllPairs (λ (p q : List ℕ). p ≢ q) paths
   pub acts : (path : List ℕ) →
       Contains paths path →
-      map (λ e. e.thread) (source_trace file program (replicate k 0 ++ path)) ≡ replicate k 0 ++ path
+      ActAll file program (replicate k 0 ++ path)
   pub told : (path : List ℕ) → Contains paths path → IsToldBy rows (source_history file program (replicate k 0 ++ path))
   pub own : (r : Told) → Contains rows r → Contains paths r.path
 

@@ -17,7 +17,7 @@ use Rattle.ls_search.specs.Found.{IsLinkOf}
 use Rattle.ls_search.specs.Searched.{IsAfter, IsLike, IsSound, noticed_at, pairs_at}
 use Rattle.ls_search.proofs.Likeness.{like_both, like_fold}
 use Rattle.ls_search.proofs.Pairs.{map_there}
-use Rattle.ls_search.proofs.Settling.{replicate_last}
+use Rattle.ls_search_laws.proofs.Acting.{replicate_last}
 
 some_is : {A : Type 0} {x y : A} → Some x ≡ Some y → x ≡ y
 some_is h = cc

@@ -15,7 +15,7 @@ use Rattle.ls_search_laws.proofs.Stepping.{one_more, still_stays, traced_events}
 use Rattle.ls_source.specs.Progress.{gone_on}
 use Rattle.ls_meaning.specs.Still.{has_acted}
 use Rattle.ls_search.specs.Runs.{progress_at}
-use Rattle.ls_search.proofs.Settling.{replicate_last}
+use Rattle.ls_search_laws.proofs.Acting.{replicate_last}
 
 acting_of : (d : Did) → has_acted d ≡ true → IsActing d
 acting_of (did.Acted action answer) e = tt

@@ -12,6 +12,7 @@ use Rattle.ls_meaning.specs.Runs.{has_ended}
 use Rattle.ls_search_laws.specs.AtOnce.{Choice}
 use Rattle.ls_search_laws.specs.Configuration.{Configuration, Stride, stride}
 use Rattle.ls_search_laws.specs.Search.{IsPrompt, LeadsTo}
+use Rattle.ls_search_laws.proofs.Acting.{replicate_last}
 use Rattle.ls_transitions.specs.declared.moves.Step.{Step}
 use Rattle.ls_transitions.specs.Tables.{Table, Grows}
 use Rattle.ls_transitions.proofs.Keeping.{still_below}
@@ -21,15 +22,6 @@ use Rattle.ls_search.proofs.Strides.{goes_on_still, set_elsewhere, set_here}
 
 some_is : {A : Type 0} {x y : A} → Some x ≡ Some y → x ≡ y
 some_is h = cc
-
-replicate_suc : {A : Type 0} (n : ℕ) (x : A) → replicate (suc n) x ≡ replicate n x ++ x ∷ []
-replicate_suc zero x = refl
-replicate_suc (suc n) x = ap (λ l. x ∷ l) (replicate_suc n x)
-
-pub replicate_last : {A : Type 0} (n : ℕ) (x : A) → replicate (n + 1) x ≡ replicate n x ++ x ∷ []
-replicate_last n x =
-    let one_more : n + 1 ≡ suc n = omega arith in
-    ap (λ k. replicate k x) one_more ∙ replicate_suc n x
 
 leads_on : (quiet : Choice) (file : File) (c : Configuration) (ts : List ℕ) (last : Configuration) (t : ℕ) →
     LeadsTo quiet file c ts last →

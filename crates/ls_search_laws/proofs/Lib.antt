@@ -1,4 +1,5 @@
 pub mod Stepping
+pub mod Acting
 pub mod Covering
 pub mod Noting
 pub mod Reading

@@ -1,12 +1,12 @@
 -- Runs of the source, one step more.
-use Rattle.std.specs.Prelude.{◌≡◌, ℕ, ◌<◌, List, [], ◌∷◌, ◌++◌, Option, Some, None, length, replicate}
+use Rattle.std.specs.Prelude.{◌≡◌, ℕ, ◌<◌, List, [], ◌∷◌, ◌++◌, Option, Some, None, length, map, replicate}
 use Rattle.ls_events.specs.declared.event.Event.{Event}
 use Rattle.ls_checked.specs.CheckedTree.{File}
 use Rattle.ls_checked.specs.CheckedProgram.{Program}
 use Rattle.ls_meaning.specs.declared.step.Did.{Did}
 use Rattle.ls_meaning.specs.declared.step.Did.TheVariants as did
 use Rattle.ls_meaning.specs.Still.{IsActing, IsStill}
-use Rattle.ls_meaning.specs.Runs.{State, event_of, source_history, source_run, step}
+use Rattle.ls_meaning.specs.Runs.{State, event_of, source_history, source_run, source_trace, step}
 
 abbrev pub events_in : Option Event → List Event
 events_in None = []
@@ -35,6 +35,10 @@ pub record IsNoStep (file : File) (program : Program) (s : State) (t : ℕ) : Ty
 
 abbrev pub OthersStay : Type 0
 OthersStay = (file : File) (program : Program) (s : State) (t : ℕ) → IsNoStep file program s t
+
+-- each step of the schedule acts: the threads of its trace are its steps
+abbrev pub ActAll : File → Program → List ℕ → Type 0
+ActAll file program schedule = map (λ e. e.thread) (source_trace file program schedule) ≡ schedule
 
 -- the first k steps of the setup act; so no other thread has started before
 abbrev pub SetsUp : File → Program → ℕ → Type 0

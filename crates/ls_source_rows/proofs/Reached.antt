@@ -19,6 +19,7 @@ use Rattle.ls_meaning.specs.Still.{IsActing}
 use Rattle.ls_search_laws.specs.Configuration.{Configuration, renamed_did, stride}
 use Rattle.ls_search_laws.specs.Noticing.{Noticed, noticed_after, noticed_of}
 use Rattle.ls_search_laws.specs.Stepping.{SetsUp}
+use Rattle.ls_search_laws.proofs.Acting.{acts_more}
 use Rattle.ls_search_laws.proofs.Renamed.{step_stride, stride_other}
 use Rattle.ls_search_laws.proofs.Stepping.{trace-append}
 use Rattle.ls_search_laws.proofs.Telling.{long_of_all, tells_truth}
@@ -30,7 +31,6 @@ use Rattle.ls_search.specs.Searched.{IsAfter, IsLike, IsOther, IsSound, noticed_
 use Rattle.ls_search.proofs.Expanding.{pairs_length}
 use Rattle.ls_search.proofs.Likeness.{like_both, like_fold, like_same}
 use Rattle.ls_search.proofs.Pairs.{map_there}
-use Rattle.ls_search.proofs.Settling.{replicate_last}
 use Rattle.ls_search.proofs.Tracks.{path_none, path_on}
 use Rattle.ls_source_rows.specs.Rows.{ActAll}
 
@@ -51,33 +51,6 @@ acts_other file c d h u acts =
     (acting_renamed h.names (stride file c u).did acts)
 
 -- ---- schedules each of whose steps acts
-
-traced_acting : (t : ℕ) (d : Did) (s : State) → IsActing d →
-    map (λ (e : Entry Value). e.thread) (traced (stepped t d s) []) ≡ t ∷ []
-traced_acting t (did.Acted action answer) s acts = refl
-traced_acting t did.Waits s acts = absurd acts
-traced_acting t did.Idle s acts = absurd acts
-
-module _ (file : File) (program : Program) where
-  pub acts_more : (s : List ℕ) (t : ℕ) → ActAll file program s →
-      IsActing (step file program (source_run file program s) t).did → ActAll file program (s ++ t ∷ [])
-  acts_more s t all acts =
-      ap (map (λ (e : Entry Value). e.thread)) (trace-append (source_step file program) (start program) s (t ∷ []))
-      ∙ map-append (λ (e : Entry Value). e.thread) (source_trace file program s)
-      (trace (source_step file program) (source_run file program s) (t ∷ []))
-      ∙ ap (λ l. l ++ map (λ (e : Entry Value). e.thread)
-      (trace (source_step file program) (source_run file program s) (t ∷ []))) all
-      ∙ ap (λ l. s ++ l) (traced_acting t (step file program (source_run file program s) t).did
-      (step file program (source_run file program s) t).after acts)
-
-  pub setup_acts : (k : ℕ) → SetsUp file program k → ActAll file program (replicate k 0)
-  setup_acts zero up = refl
-  setup_acts (suc k) up =
-      let one : suc k ≡ k + 1 = omega arith in
-      let is : replicate (suc k) 0 ≡ replicate k 0 ++ 0 ∷ [] =
-      ap (λ n. replicate n 0) one ∙ replicate_last k 0 in
-      subst (ActAll file program) (sym is)
-      (acts_more (replicate k 0) 0 (setup_acts k (λ j less. up j (omega (arith, less)))) (up k (omega arith)))
 
 module _ {S : Type 0} (first : S) (next : S → Event → S) (file : File) (program : Program) where
   -- each thread in turn acts

@@ -27,7 +27,8 @@ use Rattle.ls_search.proofs.Pairs.{map_there}
 use Rattle.ls_search.proofs.Strides.{missing_stride}
 use Rattle.ls_search.specs.Nameless.{nameless_next}
 use Rattle.ls_search.proofs.Judging.{noted_is}
-use Rattle.ls_source_rows.proofs.Reached.{Leads, acting_renamed, all_act, leads, setup_acts}
+use Rattle.ls_search_laws.proofs.Acting.{setup_acts}
+use Rattle.ls_source_rows.proofs.Reached.{Leads, acting_renamed, all_act, leads}
 use Rattle.ls_source_rows.proofs.Whole.{folded}
 use Rattle.ls_source_rows.specs.Listed.{IsRowOf, ending_by, ending_of}
 use Rattle.ls_source_rows.specs.Rows.{ActAll, EndsAs, IsRow, schedule_of}

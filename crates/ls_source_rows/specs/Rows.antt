@@ -1,4 +1,5 @@
 -- What rows tell of all schedules of a program.
+pub use Rattle.ls_search_laws.specs.Stepping.{ActAll}
 use Rattle.std.specs.Prelude.{◌≡◌, ◌≢◌, ℕ, ◌++◌, List, AllPairs, Contains, length, map, replicate}
 use Rattle.std.specs.declared.cmp.Ordering.{Ordering}
 use Rattle.std.specs.Ordering.{nat_cmp, ordering_then}
@@ -19,10 +20,6 @@ use Rattle.ls_source_rows.specs.declared.rows.Row.{Row}
 -- the schedule of a row: so many steps of the setup, and then one of each thread of its path
 abbrev pub schedule_of : ℕ → Row → List ℕ
 schedule_of k r = replicate k 0 ++ r.path.items
-
--- each step of the schedule acts
-abbrev pub ActAll : File → Program → List ℕ → Type 0
-ActAll file program schedule = map (λ e. e.thread) (source_trace file program schedule) ≡ schedule
 
 -- after the schedule no thread acts, and none waits
 pub record HaveEnded (file : File) (program : Program) (schedule : List ℕ) : Type 0 where
