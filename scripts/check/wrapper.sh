@@ -24,7 +24,7 @@ copy() {
     printf 'class A { }\n%%%%\nsetup { }\n' >all.txt
     printf 'setup*9\n' >s.txt && printf 'setup*9' >end.txt && : >empty
     stub bin/rt 'echo "tried: $*"; cat' && stub proved "$tells; exit 3" && proves 0
-    sed -i 's/rattle-kit-[0-9a-z]*/rattle-kit-1/' README.md && echo rattle-kit-1 >KIT-ID
+    sed -i 's/rattle-kit-[0-9a-z]*/rattle-kit-1/g' README.md && echo rattle-kit-1 >KIT-ID
 }
 
 # terminal COMMAND: what is shown where its three streams are a terminal, at which Ctrl-D is typed
