@@ -1,6 +1,6 @@
 -- Schedules that become more.
 use Rattle.std.proofs.Common.{◌≡◌, ◌⊎◌, inl, inr, ℕ, zero, suc, ◌+◌, ◌<◌, ◌≤◌, Bool, true, false, List, [], ◌∷◌, ◌++◌}
-use Rattle.std.proofs.Common.{None, Some, Contains}
+use Rattle.std.proofs.Common.{Some, Contains, refl}
 use Rattle.std.proofs.Common.{length, replicate, slice_get, slice_index_or, sym, ap, ◌∙◌, subst, arith, append_assoc}
 use Rattle.std.proofs.Common.{append-nil}
 use Rattle.std.proofs.lemmas.Bool.{cases_lt}
@@ -10,9 +10,11 @@ use Rattle.ls_checked.specs.CheckedProgram.{Program}
 use Rattle.ls_meaning.specs.Runs.{source_history}
 use Rattle.ls_serial.specs.Serial.{IsSerial}
 use Rattle.ls_serial.proofs.Lists.{contains_get, get_contains, get_within, is_get}
+use Rattle.ls_search_laws.specs.Stepping.{ActAll}
+use Rattle.ls_search_laws.proofs.Acting.{acts_times}
 use Rattle.ls_serial_search.specs.Following.{IsFollowed}
 use Rattle.ls_serial_search.specs.Happened.{EndsIn}
-use Rattle.ls_serial_search.specs.Searched.{AreSerial, IsSearched}
+use Rattle.ls_serial_search.specs.Searched.{AreActing, AreSerial, IsSearched}
 use Rattle.ls_serial_search.specs.Told.{AreMore}
 
 -- what follows from one of two
@@ -23,7 +25,7 @@ one_or_other a b P (inr e) first second = second e
 module _ (file : File) (program : Program) where
   -- the same schedules
   pub no_more : (known : List (List ℕ)) → AreMore file program known known
-  no_more known = record { more = []; is = append-nil known; serial = λ s. s }
+  no_more known = record { more = []; is = append-nil known; serial = λ s. s; acts = λ s. s }
 
   -- more, and more again
   pub more_again : (a b c : List (List ℕ)) → AreMore file program a b → AreMore file program b c →
@@ -32,6 +34,7 @@ module _ (file : File) (program : Program) where
     more = m.more ++ n.more;
     is = sym (append_assoc a m.more n.more) ∙ ap (λ l. l ++ n.more) m.is ∙ n.is;
     serial = λ s. n.serial (m.serial s);
+    acts = λ s. n.acts (m.acts s);
   }
 
   pub there_more : (a b : List (List ℕ)) (s : List ℕ) → AreMore file program a b → Contains a s → Contains b s
@@ -70,8 +73,15 @@ module _ (file : File) (program : Program) where
     is = sym more;
     serial = λ serial x inside. by_place serial x
         (Contains-push_cases a longer x (subst (λ l. Contains l x) more inside));
+    acts = λ acts x inside. acts_by_place acts x
+        (Contains-push_cases a longer x (subst (λ l. Contains l x) more inside));
   }
     where
+      acts_by_place : AreActing file program a → (x : List ℕ) → Contains a x ⊎ (longer ≡ x) → ActAll file program x
+      acts_by_place acts x (inl old) = acts x old
+      acts_by_place acts x (inr new) = subst (ActAll file program) (sym is ∙ new)
+          (acts_times file program s t n (acts s there) f.acts)
+
       by_place : AreSerial file program a → (x : List ℕ) → Contains a x ⊎ (longer ≡ x) →
           IsSerial (source_history file program x)
       by_place serial x (inl old) = serial x old
@@ -164,21 +174,23 @@ module _ (file : File) (program : Program) where
   pub record IsGone (known : List (List ℕ)) (n : ℕ) (complete : Bool) : Type 0 where
     pub start : Contains known []
     pub serial : AreSerial file program known
+    pub acts : AreActing file program known
     pub done : complete ≡ true → AreDone known n
 
   pub gone_first : (known : List (List ℕ)) → known ≡ [] ∷ [] → IsGone known 0 true
   gone_first known is = record {
     start = subst (λ l. Contains l []) (sym is) (Contains-push [] []);
-    serial = λ s there. by_place s (Contains-push_cases [] [] s (subst (λ l. Contains l s) is there));
+    serial = λ s there. subst (λ l. IsSerial (source_history file program l)) (only s there) tt;
+    acts = λ s there. subst (ActAll file program) (only s there) refl;
     done = λ all i s lt at. absurd (omega arith);
   }
     where
-      by_place : (s : List ℕ) → Contains [] s ⊎ ([] ≡ s) → IsSerial (source_history file program s)
-      by_place s (inl there) = absurd (nothing (contains_get [] s there).1)
-        where
-          nothing : None ≡ Some s → ⊥
-          nothing h = cc
-      by_place s (inr same) = subst (λ l. IsSerial (source_history file program l)) same tt
+      by_place : (s : List ℕ) → Contains [] s ⊎ ([] ≡ s) → [] ≡ s
+      by_place s (inl there) = absurd (omega (arith, there.1))
+      by_place s (inr same) = same
+
+      only : (s : List ℕ) → Contains known s → [] ≡ s
+      only s there = by_place s (Contains-push_cases [] [] s (subst (λ l. Contains l s) is there))
 
   pub gone_more : (a b : List (List ℕ)) (s x : List ℕ) (n : ℕ) (all followed both : Bool) →
       n < length a →
@@ -192,6 +204,7 @@ module _ (file : File) (program : Program) where
   gone_more a b s x n all followed both lt is same old more new split = record {
     start = there_more a b [] (more there) old.start;
     serial = (more there).serial old.serial;
+    acts = (more there).acts old.acts;
     done = λ is_so. done_more a b s n lt at (more there) (old.done (split is_so).0) (new (split is_so).1 there);
   }
     where

@@ -7,7 +7,7 @@ use Rattle.ls_meaning.specs.Runs.{source_history}
 use Rattle.ls_serial.specs.Serial.{HaveBeginning, IsSerial}
 use Rattle.ls_linearizable.specs.Linearizable.{IsLinearizable, TellSerial}
 use Rattle.ls_serial_search.specs.Open.{HasLongCall, HasManyOrders}
-use Rattle.ls_serial_search.specs.Searched.{AreSerial, TellTruth}
+use Rattle.ls_serial_search.specs.Searched.{AreActing, AreSerial, TellTruth}
 use Rattle.ls_serial_search.specs.declared.telling.Bounds.{Bounds}
 use Rattle.ls_serial_search.specs.declared.telling.Doubt.{Doubt}
 use Rattle.ls_serial_search.specs.declared.telling.Doubt.TheVariants as doubts
@@ -20,6 +20,7 @@ pub record AreMore (file : File) (program : Program) (before after : List (List 
   pub more : List (List ℕ)
   pub is : before ++ more ≡ after
   pub serial : AreSerial file program before → AreSerial file program after
+  pub acts : AreActing file program before → AreActing file program after
 
 -- the runs begin with the serial histories with which histories of these schedules begin, and with no others
 abbrev pub AreRunsOf : File → Program → List (List ℕ) → List (List Event) → Type 0

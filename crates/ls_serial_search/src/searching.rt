@@ -5,10 +5,11 @@ ghost use Rattle.std.specs.Prelude.{slice_get};
 ghost use Rattle.ls_checked.specs.Plain.{plain_file};
 ghost use Rattle.ls_checked.specs.PlainProgram.{plain_program};
 ghost use Rattle.ls_meaning.specs.Runs.{source_history};
+ghost use Rattle.ls_search_laws.specs.Stepping.{ActAll};
 ghost use Rattle.ls_serial.specs.Serial.{IsSerial};
 ghost use Rattle.ls_serial_search.specs.Following.{IsFollowed};
-ghost use Rattle.ls_serial_search.specs.Open.{HasLongCall};
-ghost use Rattle.ls_serial_search.specs.Searched.{AreSerial, IsSearched};
+ghost use Rattle.ls_serial_search.specs.Open.{HasLongCall, IsLongAfter};
+ghost use Rattle.ls_serial_search.specs.Searched.{AreActing, AreSerial, IsSearched};
 ghost use Rattle.ls_serial_search.specs.Told.{AreMore};
 ghost use Rattle.ls_serial_search.specs.Tree.{AreApart, IsTree};
 
@@ -57,7 +58,9 @@ fn follow_thread(
         thread) }
     ensures long { IfOk result (λ b. b ≡ false →
         IsSerial (source_history (plain_file task.now.file.now) (plain_program task.now.program.now) schedule.now) →
-        HasLongCall (plain_file task.now.file.now) (plain_program task.now.program.now) task.now.most_steps) }
+        ActAll (plain_file task.now.file.now) (plain_program task.now.program.now) schedule.now →
+        IsLongAfter (plain_file task.now.file.now) (plain_program task.now.program.now) task.now.most_steps
+        schedule.now thread) }
     ensures tree { OnOk result ((place : ℕ) → slice_get known.old.items place ≡ Some schedule.now →
         IsTree (plain_file task.now.file.now) (plain_program task.now.program.now) known.old.items place thread →
         IsTree (plain_file task.now.file.now) (plain_program task.now.program.now) known.new.items place
@@ -91,6 +94,7 @@ fn follow_threads(
         IsFollowed (plain_file task.now.file.now) (plain_program task.now.program.now) known.new.items schedule.now t) }
     ensures long { IfOk result (λ b. b ≡ false →
         IsSerial (source_history (plain_file task.now.file.now) (plain_program task.now.program.now) schedule.now) →
+        ActAll (plain_file task.now.file.now) (plain_program task.now.program.now) schedule.now →
         HasLongCall (plain_file task.now.file.now) (plain_program task.now.program.now) task.now.most_steps) }
     ensures tree { OnOk result ((place : ℕ) → slice_get known.old.items place ≡ Some schedule.now →
         IsTree (plain_file task.now.file.now) (plain_program task.now.program.now) known.old.items place 0 →
@@ -108,6 +112,8 @@ fn follow_threads(
 /// out.
 pub(crate) fn search(alloc: Global, task: &Task, most_orders: usize) -> Result<Known, AllocError>
     ensures serial { IfOk result (λ s. AreSerial (plain_file task.now.file.now)
+        (plain_program task.now.program.now) s.schedules.items) }
+    ensures acts { IfOk result (λ s. AreActing (plain_file task.now.file.now)
         (plain_program task.now.program.now) s.schedules.items) }
     ensures complete { IfOk result (λ s. s.complete ≡ true →
         IsSearched (plain_file task.now.file.now) (plain_program task.now.program.now) s.schedules.items) }

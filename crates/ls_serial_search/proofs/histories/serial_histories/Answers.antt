@@ -67,9 +67,12 @@ returns-clause-doubt c =
     let file : File = plain_file c.args.file.now in
     let program : Program = plain_program c.args.program.now in
     doubted file program c.args.bounds c.doubt_of.result c.doubt_of.ensures.long c.doubt_of.ensures.many
-    c.in_ok-known.ensures.long (λ many. record {
-      known = c.in_ok-known.known.schedules.items;
-      serial = c.in_ok-known.ensures.serial;
-      apart = c.in_ok-known.ensures.apart;
-      many = c.in_ok-known.ensures.many many;
-    })
+    c.in_ok-known.ensures.long (λ many. (
+      c.in_ok-known.known.schedules.items,
+      record {
+        serial = c.in_ok-known.ensures.serial;
+        acts = c.in_ok-known.ensures.acts;
+        apart = c.in_ok-known.ensures.apart;
+        many = c.in_ok-known.ensures.many many;
+      },
+    ))

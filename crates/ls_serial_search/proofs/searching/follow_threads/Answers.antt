@@ -5,6 +5,7 @@ use Rattle.ls_checked.specs.PlainProgram.{plain_program}
 use Rattle.ls_serial_search.specs.Open.{HasLongCall}
 use Rattle.ls_serial_search.proofs.Apart.{still_there, tree_next}
 use Rattle.ls_serial_search.proofs.Gone.{more_again, one_or_other, there_more, threads_more}
+use Rattle.ls_serial_search.proofs.Open.{is_long_call}
 use Rattle.ls_serial_search.proofs.searching.follow_threads.Goals as goal
 
 pub loop-thread-preserved : goal.loop-thread-preserved
@@ -22,10 +23,13 @@ loop-thread-preserved c = record {
       c.args.known.now.items c.loop-thread.known.items c.args.schedule.now (c.loop-thread.invariant.more there) there))
       (c.loop-thread.invariant.followed (c.both-all.ensures.hold all).0 there)
       (c.in_ok-followed.ensures.followed (c.both-all.ensures.hold all).1);
-  long = λ unfollowed serial. one_or_other c.loop-thread.all c.in_ok-followed.followed
+  long = λ unfollowed serial acts. one_or_other c.loop-thread.all c.in_ok-followed.followed
       (HasLongCall (plain_file c.args.task.now.file.now) (plain_program c.args.task.now.program.now)
-      c.args.task.now.most_steps) (c.both-all.ensures.fail unfollowed) (λ e. c.loop-thread.invariant.long e serial)
-      (λ e. c.in_ok-followed.ensures.long e serial);
+      c.args.task.now.most_steps) (c.both-all.ensures.fail unfollowed)
+      (λ e. c.loop-thread.invariant.long e serial acts)
+      (λ e. is_long_call (plain_file c.args.task.now.file.now) (plain_program c.args.task.now.program.now)
+      c.args.schedule.now c.loop-thread.thread c.args.task.now.most_steps serial
+      (c.in_ok-followed.ensures.long e serial acts));
   tree = λ place at tree.
       let old = c.loop-thread.invariant.tree place at tree in (
         c.in_ok-followed.ensures.tree place old.1 old.0,

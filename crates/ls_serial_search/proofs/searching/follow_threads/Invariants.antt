@@ -4,6 +4,7 @@ use Rattle.std.proofs.Common.{◌≡◌, ℕ, true, false, Contains, Some, slice
 use Rattle.ls_checked.specs.Plain.{plain_file}
 use Rattle.ls_checked.specs.PlainProgram.{plain_program}
 use Rattle.ls_meaning.specs.Runs.{source_history}
+use Rattle.ls_search_laws.specs.Stepping.{ActAll}
 use Rattle.ls_serial.specs.Serial.{IsSerial}
 use Rattle.ls_serial_search.specs.Open.{HasLongCall}
 use Rattle.ls_serial_search.specs.Told.{AreMore}
@@ -19,6 +20,7 @@ invariant-loop-thread l = record {
       AreFollowed (plain_file l.task.file.now) (plain_program l.task.program.now) l.known.items l.schedule l.thread;
   long : l.all ≡ false →
       IsSerial (source_history (plain_file l.task.file.now) (plain_program l.task.program.now) l.schedule) →
+      ActAll (plain_file l.task.file.now) (plain_program l.task.program.now) l.schedule →
       HasLongCall (plain_file l.task.file.now) (plain_program l.task.program.now) l.task.most_steps;
   tree : (place : ℕ) → slice_get l.initial.known.items place ≡ Some l.schedule →
       IsTree (plain_file l.task.file.now) (plain_program l.task.program.now) l.initial.known.items place 0 →

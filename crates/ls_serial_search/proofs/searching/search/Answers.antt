@@ -14,6 +14,8 @@ pub loop-at-preserved : goal.loop-at-preserved
 loop-at-preserved c =
     let file : File = plain_file c.args.task.now.file.now in
     let program : Program = plain_program c.args.task.now.program.now in
+    let there = gone_there file program c.loop-at.schedules.items c.in_ok-schedule.schedule c.index.result.now
+    c.loop-at.at (omega arith) c.index.ensures c.in_ok-schedule.ensures in
     record {
       gone = gone_more file program c.loop-at.schedules.items c.follow_threads.new.known.items
           c.in_ok-schedule.schedule c.index.result.now c.loop-at.at c.loop-at.complete c.in_ok-followed.followed
@@ -25,9 +27,8 @@ loop-at-preserved c =
       long = λ unfollowed. one_or_other c.loop-at.complete c.in_ok-followed.followed
           (HasLongCall file program c.args.task.now.most_steps) (c.both-complete.ensures.fail unfollowed)
           c.loop-at.invariant.long
-          (λ e. c.in_ok-followed.ensures.long e (c.loop-at.invariant.gone.serial c.in_ok-schedule.schedule
-          (gone_there file program c.loop-at.schedules.items c.in_ok-schedule.schedule c.index.result.now c.loop-at.at
-          (omega arith) c.index.ensures c.in_ok-schedule.ensures)));
+          (λ e. c.in_ok-followed.ensures.long e (c.loop-at.invariant.gone.serial c.in_ok-schedule.schedule there)
+          (c.loop-at.invariant.gone.acts c.in_ok-schedule.schedule there));
       tree = c.in_ok-followed.ensures.tree c.loop-at.at (gone_at file program c.loop-at.schedules.items
           c.in_ok-schedule.schedule c.index.result.now c.loop-at.at (omega arith) c.index.ensures
           c.in_ok-schedule.ensures) c.loop-at.invariant.tree;

@@ -19,10 +19,13 @@ returns c =
       serial = λ complete. tell_serial (plain_file c.args.file.now) (plain_program c.args.program.now)
           c.in_ok-known.known.schedules.items c.in_ok-runs.runs are (c.in_ok-known.ensures.complete complete);
       long = c.in_ok-known.ensures.long;
-      many = λ many. record {
-        known = c.in_ok-known.known.schedules.items;
-        serial = c.in_ok-known.ensures.serial;
-        apart = c.in_ok-known.ensures.apart;
-        many = c.in_ok-known.ensures.many many;
-      };
+      many = λ many. (
+        c.in_ok-known.known.schedules.items,
+        record {
+          serial = c.in_ok-known.ensures.serial;
+          acts = c.in_ok-known.ensures.acts;
+          apart = c.in_ok-known.ensures.apart;
+          many = c.in_ok-known.ensures.many many;
+        },
+      );
     }
