@@ -14,8 +14,8 @@ use Rattle.ls_serial.specs.Serial.{IsEndOf}
 use Rattle.ls_search_laws.proofs.Telling.{long_of_all}
 use Rattle.ls_serial_search.specs.Following.{called, events_in, events_of}
 use Rattle.ls_serial_search.proofs.Between.{HasActed, has_acted}
-use Rattle.ls_serial_search.proofs.Inside.{EndsCall, IsDue, IsEnding, IsIn, IsOwn, begins, ending_event, in_own, in_stays}
-use Rattle.ls_serial_search.proofs.Inside.{loud}
+use Rattle.ls_serial_search.proofs.Inside.{EndsCall, IsDue, IsEnding, IsIn, IsOwn, begins, ending_event, in_own}
+use Rattle.ls_serial_search.proofs.Inside.{in_stays, loud}
 use Rattle.ls_serial_search.proofs.Further.{IsQuiet}
 use Rattle.ls_serial_search.proofs.Open.{acting}
 use Rattle.ls_serial_search.proofs.Stepping.{acts_within, state_more, steps_more}
@@ -120,7 +120,8 @@ module _ (file : File) (program : Program) (schedule : List ℕ) (t call : ℕ) 
 
   pub first_inside : IsAt 0 → events_of t d ≡ called t call ∷ [] → InsideAt 1
   first_inside at is = subst (λ ts. IsInside file program ts t call) (steps_more schedule t 0)
-      (inside_first file program (schedule ++ replicate 0 t) t call (subst (λ x. events_of t x ≡ called t call ∷ []) at is))
+      (inside_first file program (schedule ++ replicate 0 t) t call
+      (subst (λ x. events_of t x ≡ called t call ∷ []) at is))
 
   pub next_inside : (j : ℕ) → IsAt j → InsideAt j → IsActing d → events_of t d ≡ [] → InsideAt (j + 1)
   next_inside j at is acts none = subst (λ ts. IsInside file program ts t call) (steps_more schedule t j)

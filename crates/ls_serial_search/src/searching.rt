@@ -8,6 +8,7 @@ ghost use Rattle.ls_meaning.specs.Runs.{source_history};
 ghost use Rattle.ls_search_laws.specs.Stepping.{ActAll};
 ghost use Rattle.ls_serial.specs.Serial.{IsSerial};
 ghost use Rattle.ls_serial_search.specs.Following.{IsFollowed};
+ghost use Rattle.ls_serial_search.specs.Found.{IsSearchedWithin};
 ghost use Rattle.ls_serial_search.specs.Open.{HasLongCall, IsLongAfter};
 ghost use Rattle.ls_serial_search.specs.Searched.{AreActing, AreSerial, IsSearched};
 ghost use Rattle.ls_serial_search.specs.Told.{AreMore};
@@ -92,6 +93,13 @@ fn follow_threads(
     ensures followed { IfOk result (λ b. b ≡ true → Contains known.old.items schedule.now →
         (t : ℕ) → t < length task.now.program.now.threads.items →
         IsFollowed (plain_file task.now.file.now) (plain_program task.now.program.now) known.new.items schedule.now t) }
+    ensures tried { OnOk result (Contains known.old.items schedule.now →
+        IsSerial (source_history (plain_file task.now.file.now) (plain_program task.now.program.now) schedule.now) →
+        ActAll (plain_file task.now.file.now) (plain_program task.now.program.now) schedule.now →
+        (t : ℕ) → t < length task.now.program.now.threads.items →
+        IsFollowed (plain_file task.now.file.now) (plain_program task.now.program.now) known.new.items schedule.now t
+        ⊎ IsLongAfter (plain_file task.now.file.now) (plain_program task.now.program.now) task.now.most_steps
+        schedule.now t) }
     ensures long { IfOk result (λ b. b ≡ false →
         IsSerial (source_history (plain_file task.now.file.now) (plain_program task.now.program.now) schedule.now) →
         ActAll (plain_file task.now.file.now) (plain_program task.now.program.now) schedule.now →
@@ -117,6 +125,8 @@ pub(crate) fn search(alloc: Global, task: &Task, most_orders: usize) -> Result<K
         (plain_program task.now.program.now) s.schedules.items) }
     ensures complete { IfOk result (λ s. s.complete ≡ true →
         IsSearched (plain_file task.now.file.now) (plain_program task.now.program.now) s.schedules.items) }
+    ensures within { IfOk result (λ s. s.many ≡ false → IsSearchedWithin (plain_file task.now.file.now)
+        (plain_program task.now.program.now) task.now.most_steps s.schedules.items) }
     ensures long { IfOk result (λ s. s.complete ≡ false → s.many ≡ false →
         HasLongCall (plain_file task.now.file.now) (plain_program task.now.program.now) task.now.most_steps) }
     ensures many { IfOk result (λ s. s.many ≡ true → most_orders < length s.schedules.items) }
