@@ -2,6 +2,7 @@
 use Rattle.std.proofs.Common.{◌≡◌, ◌⊎◌, inl, inr, ℕ, zero, suc, ◌+◌, ◌-◌, ◌<◌, ◌≤◌, true, false, List, [], ◌∷◌, ◌++◌}
 use Rattle.std.proofs.Common.{length, replicate, sym, ap, ◌∙◌, subst, arith, append-nil, append_assoc}
 use Rattle.std.proofs.lemmas.Bool.{cases_lt}
+use Rattle.std.proofs.lemmas.List.{length-append, length-replicate}
 use Rattle.ls_events.specs.Limits.{most_steps}
 use Rattle.ls_events.specs.declared.event.Event.{Event}
 use Rattle.ls_checked.specs.CheckedTree.{File}
@@ -15,6 +16,7 @@ use Rattle.ls_search_laws.specs.Stepping.{ActAll}
 use Rattle.ls_search_laws.proofs.Acting.{acts_times}
 use Rattle.ls_serial_search.specs.Following.{IsBegun, called, events_of}
 use Rattle.ls_serial_search.specs.Happened.{ActsFor, IsLast}
+use Rattle.ls_serial_search.specs.Laws.{LongCallsAreRuns}
 use Rattle.ls_serial_search.specs.Open.{HasEnded, HasLongCall, IsLongAfter, IsOpen}
 use Rattle.ls_serial_search.proofs.Answering.{between_acts}
 use Rattle.ls_serial_search.proofs.Between.{all_between}
@@ -182,3 +184,18 @@ pub is_long_call : (file : File) (program : Program) (schedule : List ℕ) (t bo
     HasLongCall file program bound
 is_long_call file program schedule t bound serial long =
     record { schedule = schedule; thread = t; serial = serial; goes_on = long }
+
+-- it ends a run of so many steps
+pub long_run : LongCallsAreRuns
+long_run file program bound h =
+    (h.schedule ++ replicate h.goes_on.steps h.thread, h.goes_on.acts, by_long h.goes_on.long)
+  where
+    many : length (h.schedule ++ replicate h.goes_on.steps h.thread) ≡ length h.schedule + h.goes_on.steps
+    many = length-append h.schedule (replicate h.goes_on.steps h.thread)
+        ∙ ap (λ n. length h.schedule + n) (length-replicate h.goes_on.steps h.thread)
+
+    by_long : (bound ≤ h.goes_on.steps) ⊎ (most_steps ≤ length h.schedule + h.goes_on.steps) →
+        (bound ≤ length (h.schedule ++ replicate h.goes_on.steps h.thread))
+        ⊎ (most_steps ≤ length (h.schedule ++ replicate h.goes_on.steps h.thread))
+    by_long (inl le) = inl (omega (arith, le, many))
+    by_long (inr le) = inr (omega (arith, le, many))
