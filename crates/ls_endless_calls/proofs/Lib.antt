@@ -5,6 +5,4 @@ pub mod Fine
 pub mod Left
 pub mod Places
 pub mod Runs
-mod Splits
-mod Inside
 mod Pending

@@ -19,12 +19,12 @@ use Rattle.ls_meaning.specs.Effect.{Effect, Waits, Does, effect}
 use Rattle.ls_meaning.specs.Threads.{Next, Goes, Ended, Trapped, calls_in, next}
 use Rattle.ls_meaning.specs.Runs.{State, Step, answers_of, event_of, has_ended, has_started, idle, performed}
 use Rattle.ls_meaning.specs.Runs.{source_history, source_run, start, step, step_of}
-use Rattle.ls_serial.specs.Serial.{IsCall, IsEnd, IsEndOf}
+use Rattle.ls_serial.specs.Serial.{IsCall, IsEndOf}
 use Rattle.ls_serial_search.specs.Following.{events_in, events_of}
 use Rattle.ls_serial_search.proofs.Answering.{cases_nat, others_answers}
+use Rattle.ls_serial_search.proofs.Inside.{EndsCall, IsDue, IsGoing, IsIn, begins, ending_event, in_goes, in_stays}
 use Rattle.ls_serial_search.proofs.Stepping.{acts_within, holds_of_all}
 use Rattle.ls_endless_calls.specs.Laws.{NoWaitNoneForEver, PendingWaits}
-use Rattle.ls_endless_calls.proofs.Inside.{EndsCall, IsDue, IsEnding, IsGoing, IsIn, begins, in_goes, in_stays}
 
 -- ---- a step that acts
 
@@ -76,13 +76,6 @@ module _ (file : File) (s : State) (t : ℕ) where
   next_waits (Goes a sort) true started goes still = effect_waits a (effect file.classes s.store t a) still
   next_waits Ended true started goes still = absurd goes
   next_waits Trapped true started goes still = absurd goes
-
--- an action that ends a call has the event of its end
-ending_event : (t k : ℕ) (a : Action Value) → IsEnding k a →
-    (e : Event) × (event_of t a ≡ Some e) × IsEnd e × (e.thread ≡ t) × (e.call ≡ k)
-ending_event t k (act.Return n v) ends = (_, refl, refl, refl, ends)
-ending_event t k (act.Trap n kind) ends = (_, refl, refl, refl, ends)
-ending_event t k _ ends = absurd ends
 
 event_thread : (t : ℕ) (a : Action Value) (e : Event) → event_of t a ≡ Some e → e.thread ≡ t
 event_thread t (act.Call n) e is = cc

@@ -9,8 +9,9 @@ use Rattle.ls_explore_reports.specs.Below.{IsBelow}
 use Rattle.ls_report.specs.Events.{Text}
 use Rattle.ls_linearizable.specs.Linearizable.{IsLinearizable}
 use Rattle.ls_explore_reports.specs.Rows.{RowsExplain}
-use Rattle.ls_serial_search.specs.Open.{HasLongCall, HasManyOrders}
+use Rattle.ls_serial_search.specs.Found.{IsNotJudged}
 use Rattle.ls_serial_search.specs.Told.{IsMeant, usual}
+use Rattle.ls_serial_search.specs.declared.telling.Doubt.TheVariants as doubts
 use Rattle.ls_serial_search.specs.declared.judging.Linearity.{Linearity}
 use Rattle.ls_serial_search.specs.declared.judging.Linearity.TheVariants as linearities
 use Rattle.ls_verdicts.specs.Verdicts.{IsHistoryOf, IsVerdict}
@@ -37,15 +38,16 @@ IsJudged p j = IsVerdict p j.row.history j.verdict
 
 -- A history is linearizable if one of the rows begins with a serial history that explains it. If none does, it is not
 -- linearizable where the rows tell of every schedule. Where they don't, the serial runs of the program say it; or it is
--- not known, since a call alone doesn't end or there are too many orders.
+-- not known, since a call alone doesn't end or there are too many orders, and no serial history that was found explains
+-- it.
 abbrev pub IsLinearity : File → Program → Bool → List Told → List Event → Linearity → Type 0
 IsLinearity file program whole rows h linearities.Linearizable = RowsExplain rows h ⊎ IsLinearizable file program h
 IsLinearity file program whole rows h linearities.NotLinearizable =
     ¬ RowsExplain rows h × ((whole ≡ true) ⊎ (¬ IsLinearizable file program h))
 IsLinearity file program whole rows h linearities.LongCall =
-    ¬ RowsExplain rows h × (whole ≡ false) × HasLongCall file program usual.steps
+    ¬ RowsExplain rows h × (whole ≡ false) × IsNotJudged file program usual doubts.LongCall h
 IsLinearity file program whole rows h linearities.ManyOrders =
-    ¬ RowsExplain rows h × (whole ≡ false) × HasManyOrders file program usual.orders
+    ¬ RowsExplain rows h × (whole ≡ false) × IsNotJudged file program usual doubts.ManyOrders h
 
 -- it is said so of the row's history
 abbrev pub IsToldLinear : File → Program → Bool → List Told → Judged → Type 0

@@ -14,7 +14,7 @@ use Rattle.ls_source.specs.declared.playing.Playing.{Playing}
 use Rattle.ls_source.specs.Progress.{Progress, gone_on}
 use Rattle.ls_source.specs.Stands.{StandsFor}
 use Rattle.ls_serial_search.specs.Following.{IsBegun, called, events_of}
-use Rattle.ls_serial_search.specs.Happened.{EndsIn, IsLast}
+use Rattle.ls_serial_search.specs.Happened.{ActsFor, EndsIn, IsLast}
 use Rattle.ls_serial_search.specs.Orders.{progress_at}
 use Rattle.ls_serial_search.proofs.SoFar.{serial_more}
 use Rattle.ls_serial_search.proofs.Stepping.{history_more, state_more, steps_more, traced_events}
@@ -145,13 +145,16 @@ module _ (file : File) (program : Program) (schedule : List ℕ) (t call : ℕ) 
           ∙ append-nil (source_history file program (schedule ++ replicate j t))
           ∙ within j b le
 
-  pub ends_in : (j : ℕ) → IsAt j → 1 ≤ j → IsBegun file program schedule t call j → IsLast t call (events_of t d) →
+  pub ends_in : (j : ℕ) → IsAt j → 1 ≤ j → IsBegun file program schedule t call j →
+      ActsFor file program schedule t (j + 1) →
+      IsLast t call (events_of t d) →
       EndsIn file program schedule t (j + 1)
-  ends_in j at le b last = record {
+  ends_in j at le b acts last = record {
     call = call;
     before = j;
     is = refl;
     begun = b;
+    acts = acts;
     serial = λ s. subst IsSerial
         (sym (history_after j at ∙ ap (λ l. l ++ events_of t d) (within j b le)
         ∙ ap (λ es. (source_history file program schedule ++ called t call ∷ []) ++ es) last.is))

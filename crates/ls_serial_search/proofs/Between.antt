@@ -1,7 +1,7 @@
 -- Where calls run one at a time, each thread but that of the pending call is between its calls.
 use Rattle.std.proofs.Common.{◌≡◌, ◌≢◌, ◌⊎◌, inl, inr, ℕ, zero, suc, ◌+◌, Bool, true, false, List, [], ◌∷◌, ◌++◌}
 use Rattle.std.proofs.Common.{Option, Some, None, refl, sym, ap, ◌∙◌, subst, append-nil, map}
-use Rattle.std.specs.Prelude.{if◌then◌else◌, slice_get, slice_index_or}
+use Rattle.std.specs.Prelude.{if◌then◌else◌, slice_get, slice_index_or, slice_set}
 use Rattle.ls_events.specs.declared.value.Value.{Value}
 use Rattle.ls_events.specs.declared.action.Action.{Action}
 use Rattle.ls_events.specs.declared.action.Action.TheVariants as act
@@ -91,14 +91,13 @@ event_thread (act.Trap n k) t e is = cc
 event_thread _ t e is = absurd (cc)
 
 -- what a step did that acts
-record HasActed (file : File) (program : Program) (s : State) (t : ℕ) : Type 0 where
-  action : Action Value
-  sort : Sort
-  answer : Answer Value
-  asks : next file program t (answers_of s t) ≡ Goes action sort
-  events : events_of t (step file program s t).did ≡ events_in (event_of t action)
-  after : (answers_of (step file program s t).after t ≡ answers_of s t ++ answer ∷ [])
-      ⊎ (answers_of (step file program s t).after t ≡ [])
+pub record HasActed (file : File) (program : Program) (s : State) (t : ℕ) : Type 0 where
+  pub action : Action Value
+  pub sort : Sort
+  pub answer : Answer Value
+  pub asks : next file program t (answers_of s t) ≡ Goes action sort
+  pub events : events_of t (step file program s t).did ≡ events_in (event_of t action)
+  pub answers : (step file program s t).after.answers ≡ slice_set s.answers t (answers_of s t ++ answer ∷ [])
 
 module _ (file : File) (program : Program) (s : State) (t : ℕ) where
   record ActedBy (n : Next) (b : Bool) : Type 0 where
@@ -107,8 +106,8 @@ module _ (file : File) (program : Program) (s : State) (t : ℕ) where
     answer : Answer Value
     asks : n ≡ Goes action sort
     events : events_of t (if b then step_of file s t n else idle s).did ≡ events_in (event_of t action)
-    after : (answers_of (if b then step_of file s t n else idle s).after t ≡ answers_of s t ++ answer ∷ [])
-        ⊎ (answers_of (if b then step_of file s t n else idle s).after t ≡ [])
+    answers : (if b then step_of file s t n else idle s).after.answers ≡
+        slice_set s.answers t (answers_of s t ++ answer ∷ [])
 
   by_effect : (a : Action Value) (sort : Sort) (e : Effect) →
       effect file.classes s.store t a ≡ e →
@@ -121,9 +120,7 @@ module _ (file : File) (program : Program) (s : State) (t : ℕ) where
     answer = answer;
     asks = refl;
     events = ap (λ e. events_of t (performed s t a e).did) is;
-    after = subst (λ e. (answers_of (performed s t a e).after t ≡ answers_of s t ++ answer ∷ [])
-        ⊎ (answers_of (performed s t a e).after t ≡ [])) (sym is)
-        (own_answers s.answers t (answers_of s t ++ answer ∷ []) []);
+    answers = ap (λ e. (performed s t a e).after.answers) is;
   }
 
   acted_by : (n : Next) (b : Bool) → IsActing (if b then step_of file s t n else idle s).did → ActedBy n b
@@ -132,7 +129,7 @@ module _ (file : File) (program : Program) (s : State) (t : ℕ) where
   acted_by Ended true acts = absurd acts
   acted_by Trapped true acts = absurd acts
 
-  has_acted : IsActing (step file program s t).did → HasActed file program s t
+  pub has_acted : IsActing (step file program s t).did → HasActed file program s t
   has_acted acts = by_act (acted_by (next file program t (answers_of s t)) (has_started file program s t) acts)
     where
       by_act : ActedBy (next file program t (answers_of s t)) (has_started file program s t) →
@@ -143,7 +140,7 @@ module _ (file : File) (program : Program) (s : State) (t : ℕ) where
         answer = r.answer;
         asks = r.asks;
         events = r.events;
-        after = r.after;
+        answers = r.answers;
       }
 
 -- ---- along a schedule
@@ -166,15 +163,20 @@ module _ (file : File) (program : Program) where
   then_between : (s : State) (t : ℕ) (a : HasActed file program s t) →
       IsEnding a.action →
       IsBetween file program (step file program s t).after t
-  then_between s t a ends = by_answers a.after
+  then_between s t a ends = by_answers (own_answers s.answers t (answers_of s t ++ a.answer ∷ []) [])
     where
-      by_answers : (answers_of (step file program s t).after t ≡ answers_of s t ++ a.answer ∷ [])
-          ⊎ (answers_of (step file program s t).after t ≡ []) →
+      kept : answers_of (step file program s t).after t ≡
+          slice_index_or (slice_set s.answers t (answers_of s t ++ a.answer ∷ [])) t []
+      kept = ap (λ l. slice_index_or l t []) a.answers
+
+      by_answers : (slice_index_or (slice_set s.answers t (answers_of s t ++ a.answer ∷ [])) t [] ≡
+          answers_of s t ++ a.answer ∷ [])
+          ⊎ (slice_index_or (slice_set s.answers t (answers_of s t ++ a.answer ∷ [])) t [] ≡ []) →
           IsBetween file program (step file program s t).after t
-      by_answers (inl one) = subst (λ q. CallsNext (next file program t q)) (sym one)
+      by_answers (inl one) = subst (λ q. CallsNext (next file program t q)) (sym (kept ∙ one))
           (then_calls file program a.answer (calls_in (slice_get program.threads t)) 1 (answers_of s t)
           (subst (EndsCall file program a.answer) (sym a.asks) ends))
-      by_answers (inr none) = none_between file program (step file program s t).after t none
+      by_answers (inr none) = none_between file program (step file program s t).after t (kept ∙ none)
 
   module _ (s : State) (h : List Event) (t : ℕ) (o : IsOrderly s h) (acts : IsActing (step file program s t).did) where
     abbrev es : List Event

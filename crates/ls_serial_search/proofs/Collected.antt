@@ -10,8 +10,10 @@ use Rattle.ls_checked.specs.CheckedProgram.{Program}
 use Rattle.ls_meaning.specs.Runs.{source_history}
 use Rattle.ls_serial.specs.Serial.{Explains, HaveBeginning, IsExplainedBy, IsSerial}
 use Rattle.ls_linearizable.specs.Linearizable.{BeginningsAreHistories, IsLinearizable, TellSerial}
+use Rattle.ls_serial_search.specs.declared.telling.Bounds.{Bounds}
+use Rattle.ls_serial_search.specs.declared.telling.Doubt.{Doubt}
 use Rattle.ls_serial_search.specs.Searched.{IsHistory, IsSearched, TellTruth}
-use Rattle.ls_serial_search.specs.Told.{AreRunsOf}
+use Rattle.ls_serial_search.specs.Found.{AreFound, AreRunsOf, IsNotJudged}
 use Rattle.ls_serial_search.proofs.Covering.{known_history}
 
 -- one run more has its beginnings more
@@ -36,13 +38,13 @@ run_more runs run g = (to, from)
     from (inr b) = record { run = run; there = (zero, omega arith, refl); begins = b }
 
 module _ {A B : Type 0} (f : A → B) where
-  map_there : (xs : List A) (x : A) → Contains xs x → Contains (map f xs) (f x)
+  pub map_there : (xs : List A) (x : A) → Contains xs x → Contains (map f xs) (f x)
   map_there [] x (k, lt, e) = absurd (omega arith)
   map_there (y ∷ xs) x (zero, lt, e) = (zero, omega arith, ap f e)
   map_there (y ∷ xs) x (suc k, lt, e) =
       let there = map_there xs x (k, omega arith, e) in (suc there.0, omega (arith, there.1), there.2)
 
-  of_map : (xs : List A) (y : B) → Contains (map f xs) y → (x : A) × Contains xs x × (f x ≡ y)
+  pub of_map : (xs : List A) (y : B) → Contains (map f xs) y → (x : A) × Contains xs x × (f x ≡ y)
   of_map [] y (k, lt, e) = absurd (omega arith)
   of_map (x ∷ xs) y (zero, lt, e) = (x, (zero, omega arith, refl), e)
   of_map (x ∷ xs) y (suc k, lt, e) =
@@ -138,3 +140,21 @@ module _ (file : File) (program : Program) where
     history is.schedule,
     record { begun = tell is.schedule is.serial; serial = is.serial; explains = is.explains },
   )
+
+  -- what no run of the schedules that were found explains isn't judged
+  pub not_judged : (bounds : Bounds) (doubt : Doubt) (runs : List (List Event)) (h : List Event) →
+      AreFound file program bounds doubt runs →
+      ¬ IsExplainedBy runs h →
+      IsNotJudged file program bounds doubt h
+  not_judged bounds doubt runs h f none = record {
+    known = f.known;
+    found = f.found;
+    unexplained = λ e. none (
+      e.0,
+      record {
+        begun = (f.are e.0 e.1.serial).1 e.1.begun;
+        serial = e.1.serial;
+        explains = e.1.explains;
+      },
+    );
+  }

@@ -1,6 +1,6 @@
 -- Schedules that become more.
 use Rattle.std.proofs.Common.{◌≡◌, ◌⊎◌, inl, inr, ℕ, zero, suc, ◌+◌, ◌<◌, ◌≤◌, Bool, true, false, List, [], ◌∷◌, ◌++◌}
-use Rattle.std.proofs.Common.{None, Some, Contains}
+use Rattle.std.proofs.Common.{Some, Contains, refl}
 use Rattle.std.proofs.Common.{length, replicate, slice_get, slice_index_or, sym, ap, ◌∙◌, subst, arith, append_assoc}
 use Rattle.std.proofs.Common.{append-nil}
 use Rattle.std.proofs.lemmas.Bool.{cases_lt}
@@ -10,9 +10,13 @@ use Rattle.ls_checked.specs.CheckedProgram.{Program}
 use Rattle.ls_meaning.specs.Runs.{source_history}
 use Rattle.ls_serial.specs.Serial.{IsSerial}
 use Rattle.ls_serial.proofs.Lists.{contains_get, get_contains, get_within, is_get}
+use Rattle.ls_search_laws.specs.Stepping.{ActAll}
+use Rattle.ls_search_laws.proofs.Acting.{acts_times}
 use Rattle.ls_serial_search.specs.Following.{IsFollowed}
 use Rattle.ls_serial_search.specs.Happened.{EndsIn}
-use Rattle.ls_serial_search.specs.Searched.{AreSerial, IsSearched}
+use Rattle.ls_serial_search.specs.Found.{IsSearchedWithin}
+use Rattle.ls_serial_search.specs.Open.{IsLongAfter}
+use Rattle.ls_serial_search.specs.Searched.{AreActing, AreSerial, IsSearched}
 use Rattle.ls_serial_search.specs.Told.{AreMore}
 
 -- what follows from one of two
@@ -20,10 +24,15 @@ pub one_or_other : (a b : Bool) (P : Type 0) → (a ≡ false) ⊎ (b ≡ false)
 one_or_other a b P (inl e) first second = first e
 one_or_other a b P (inr e) first second = second e
 
+-- what is so either way
+pub either_is : (b : Bool) (P Q : Type 0) → (b ≡ true → P) → (b ≡ false → Q) → P ⊎ Q
+either_is true P Q first second = inl (first refl)
+either_is false P Q first second = inr (second refl)
+
 module _ (file : File) (program : Program) where
   -- the same schedules
   pub no_more : (known : List (List ℕ)) → AreMore file program known known
-  no_more known = record { more = []; is = append-nil known; serial = λ s. s }
+  no_more known = record { more = []; is = append-nil known; serial = λ s. s; acts = λ s. s }
 
   -- more, and more again
   pub more_again : (a b c : List (List ℕ)) → AreMore file program a b → AreMore file program b c →
@@ -32,6 +41,7 @@ module _ (file : File) (program : Program) where
     more = m.more ++ n.more;
     is = sym (append_assoc a m.more n.more) ∙ ap (λ l. l ++ n.more) m.is ∙ n.is;
     serial = λ s. n.serial (m.serial s);
+    acts = λ s. n.acts (m.acts s);
   }
 
   pub there_more : (a b : List (List ℕ)) (s : List ℕ) → AreMore file program a b → Contains a s → Contains b s
@@ -70,8 +80,15 @@ module _ (file : File) (program : Program) where
     is = sym more;
     serial = λ serial x inside. by_place serial x
         (Contains-push_cases a longer x (subst (λ l. Contains l x) more inside));
+    acts = λ acts x inside. acts_by_place acts x
+        (Contains-push_cases a longer x (subst (λ l. Contains l x) more inside));
   }
     where
+      acts_by_place : AreActing file program a → (x : List ℕ) → Contains a x ⊎ (longer ≡ x) → ActAll file program x
+      acts_by_place acts x (inl old) = acts x old
+      acts_by_place acts x (inr new) = subst (ActAll file program) (sym is ∙ new)
+          (acts_times file program s t n (acts s there) f.acts)
+
       by_place : AreSerial file program a → (x : List ℕ) → Contains a x ⊎ (longer ≡ x) →
           IsSerial (source_history file program x)
       by_place serial x (inl old) = serial x old
@@ -80,25 +97,62 @@ module _ (file : File) (program : Program) where
 
   -- ---- the threads of one schedule
 
+  -- what is said of a schedule's thread, among known schedules
+  abbrev pub Said : Type 1
+  Said = List (List ℕ) → List ℕ → ℕ → Type 0
+
+  -- more schedules keep it
+  abbrev IsKeptByMore : Said → Type 0
+  IsKeptByMore Q = (a b : List (List ℕ)) (s : List ℕ) (t : ℕ) → AreMore file program a b → Q a s t → Q b s t
+
+  -- it is so of the first threads
+  abbrev pub OfThreads : Said → List (List ℕ) → List ℕ → ℕ → Type 0
+  OfThreads Q known s n = (t : ℕ) → t < n → Q known s t
+
+  of_threads_more : (Q : Said) → IsKeptByMore Q → (a b : List (List ℕ)) (s : List ℕ) (n : ℕ) →
+      AreMore file program a b →
+      OfThreads Q a s n →
+      Q b s n →
+      OfThreads Q b s (n + 1)
+  of_threads_more Q kept a b s n m old new t lt = by_place (cases_lt t n)
+    where
+      by_place : (t < n) ⊎ (n ≤ t) → Q b s t
+      by_place (inl less) = kept a b s t m (old t less)
+      by_place (inr past) = let same : n ≡ t = omega arith in subst (Q b s) same new
+
   abbrev pub AreFollowed : List (List ℕ) → List ℕ → ℕ → Type 0
-  AreFollowed known s n = (t : ℕ) → t < n → IsFollowed file program known s t
+  AreFollowed known s n = OfThreads (IsFollowed file program) known s n
 
   pub threads_more : (a b : List (List ℕ)) (s : List ℕ) (n : ℕ) →
       AreMore file program a b →
       AreFollowed a s n →
       IsFollowed file program b s n →
       AreFollowed b s (n + 1)
-  threads_more a b s n m old new t lt = by_place (cases_lt t n)
-    where
-      by_place : (t < n) ⊎ (n ≤ t) → IsFollowed file program b s t
-      by_place (inl less) = followed_more a b s t m (old t less)
-      by_place (inr past) = let same : n ≡ t = omega arith in subst (IsFollowed file program b s) same new
+  threads_more = of_threads_more (IsFollowed file program) followed_more
+
+  -- a call was followed, or it is too long
+  abbrev pub IsTried : ℕ → Said
+  IsTried bound known s t = IsFollowed file program known s t ⊎ IsLongAfter file program bound s t
+
+  tried_more : (bound : ℕ) → IsKeptByMore (IsTried bound)
+  tried_more bound a b s t m (inl followed) = inl (followed_more a b s t m followed)
+  tried_more bound a b s t m (inr long) = inr long
+
+  pub tries_more : (bound : ℕ) (a b : List (List ℕ)) (s : List ℕ) (n : ℕ) →
+      AreMore file program a b →
+      OfThreads (IsTried bound) a s n →
+      IsTried bound b s n →
+      OfThreads (IsTried bound) b s (n + 1)
+  tries_more bound = of_threads_more (IsTried bound) (tried_more bound)
 
   -- ---- the schedules up to a place
 
+  abbrev pub AreSo : Said → List (List ℕ) → ℕ → Type 0
+  AreSo Q known n = (i : ℕ) (s : List ℕ) → i < n → slice_get known i ≡ Some s →
+      OfThreads Q known s (length program.threads)
+
   abbrev pub AreDone : List (List ℕ) → ℕ → Type 0
-  AreDone known n = (i : ℕ) (s : List ℕ) → i < n → slice_get known i ≡ Some s →
-      AreFollowed known s (length program.threads)
+  AreDone known n = AreSo (IsFollowed file program) known n
 
   get_before : (a more : List (List ℕ)) (i : ℕ) (s : List ℕ) →
       i < length a →
@@ -111,37 +165,32 @@ module _ (file : File) (program : Program) where
   some_is : {x y : List ℕ} → Some x ≡ Some y → x ≡ y
   some_is h = cc
 
-  pub done_more : (a b : List (List ℕ)) (s : List ℕ) (n : ℕ) →
+  so_more : (Q : Said) → IsKeptByMore Q → (a b : List (List ℕ)) (s : List ℕ) (n : ℕ) →
       n < length a →
       slice_get a n ≡ Some s →
       AreMore file program a b →
-      AreDone a n →
-      AreFollowed b s (length program.threads) →
-      AreDone b (n + 1)
-  done_more a b s n within at m old new i x lt there = by_place (cases_lt i n)
+      AreSo Q a n →
+      OfThreads Q b s (length program.threads) →
+      AreSo Q b (n + 1)
+  so_more Q kept a b s n within at m old new i x lt there = by_place (cases_lt i n)
     where
       before : i < length a → slice_get a i ≡ Some x
       before less = get_before a m.more i x less (subst (λ l. slice_get l i ≡ Some x) (sym m.is) there)
 
-      by_place : (i < n) ⊎ (n ≤ i) → AreFollowed b x (length program.threads)
-      by_place (inl less) = λ t l. followed_more a b x t m (old i x less (before (omega arith)) t l)
+      by_place : (i < n) ⊎ (n ≤ i) → OfThreads Q b x (length program.threads)
+      by_place (inl less) = λ t l. kept a b x t m (old i x less (before (omega arith)) t l)
       by_place (inr past) =
           let same : n ≡ i = omega arith in
-          subst (λ y. AreFollowed b y (length program.threads))
+          subst (λ y. OfThreads Q b y (length program.threads))
           (some_is (sym at ∙ ap (slice_get a) same ∙ before (omega arith))) new
 
-  pub done_searched : (known : List (List ℕ)) (n : ℕ) →
+  -- all of them
+  all_so : (Q : Said) (known : List (List ℕ)) (n : ℕ) →
       length known ≤ n →
-      Contains known [] →
-      AreSerial file program known →
-      AreDone known n →
-      IsSearched file program known
-  done_searched known n le start serial done = record {
-    start = start;
-    serial = serial;
-    followed = λ s there t lt. let at = contains_get known s there in
-        done at.0 s (omega (arith, get_within known at.0 s at.1)) at.1 t lt;
-  }
+      AreSo Q known n →
+      (s : List ℕ) → Contains known s → OfThreads Q known s (length program.threads)
+  all_so Q known n le so s there t lt =
+      let at = contains_get known s there in so at.0 s (omega (arith, get_within known at.0 s at.1)) at.1 t lt
 
   -- ---- the search so far
 
@@ -161,38 +210,46 @@ module _ (file : File) (program : Program) where
   gone_there a s x n lt is same = get_contains a n s (gone_at a s x n lt is same)
 
   -- what is known when so many schedules were gone on from
-  pub record IsGone (known : List (List ℕ)) (n : ℕ) (complete : Bool) : Type 0 where
+  pub record IsGone (bound : ℕ) (known : List (List ℕ)) (n : ℕ) (complete : Bool) : Type 0 where
     pub start : Contains known []
     pub serial : AreSerial file program known
+    pub acts : AreActing file program known
     pub done : complete ≡ true → AreDone known n
+    pub tried : AreSo (IsTried bound) known n
 
-  pub gone_first : (known : List (List ℕ)) → known ≡ [] ∷ [] → IsGone known 0 true
-  gone_first known is = record {
+  pub gone_first : (bound : ℕ) (known : List (List ℕ)) → known ≡ [] ∷ [] → IsGone bound known 0 true
+  gone_first bound known is = record {
     start = subst (λ l. Contains l []) (sym is) (Contains-push [] []);
-    serial = λ s there. by_place s (Contains-push_cases [] [] s (subst (λ l. Contains l s) is there));
+    serial = λ s there. subst (λ l. IsSerial (source_history file program l)) (only s there) tt;
+    acts = λ s there. subst (ActAll file program) (only s there) refl;
     done = λ all i s lt at. absurd (omega arith);
+    tried = λ i s lt at. absurd (omega arith);
   }
     where
-      by_place : (s : List ℕ) → Contains [] s ⊎ ([] ≡ s) → IsSerial (source_history file program s)
-      by_place s (inl there) = absurd (nothing (contains_get [] s there).1)
-        where
-          nothing : None ≡ Some s → ⊥
-          nothing h = cc
-      by_place s (inr same) = subst (λ l. IsSerial (source_history file program l)) same tt
+      by_place : (s : List ℕ) → Contains [] s ⊎ ([] ≡ s) → [] ≡ s
+      by_place s (inl there) = absurd (omega (arith, there.1))
+      by_place s (inr same) = same
 
-  pub gone_more : (a b : List (List ℕ)) (s x : List ℕ) (n : ℕ) (all followed both : Bool) →
+      only : (s : List ℕ) → Contains known s → [] ≡ s
+      only s there = by_place s (Contains-push_cases [] [] s (subst (λ l. Contains l s) is there))
+
+  pub gone_more : (bound : ℕ) (a b : List (List ℕ)) (s x : List ℕ) (n : ℕ) (all followed both : Bool) →
       n < length a →
       x ≡ slice_index_or a n x →
       s ≡ x →
-      IsGone a n all →
+      IsGone bound a n all →
       (Contains a s → AreMore file program a b) →
       (followed ≡ true → Contains a s → AreFollowed b s (length program.threads)) →
+      OfThreads (IsTried bound) b s (length program.threads) →
       (both ≡ true → (all ≡ true) × (followed ≡ true)) →
-      IsGone b (n + 1) both
-  gone_more a b s x n all followed both lt is same old more new split = record {
+      IsGone bound b (n + 1) both
+  gone_more bound a b s x n all followed both lt is same old more new tries split = record {
     start = there_more a b [] (more there) old.start;
     serial = (more there).serial old.serial;
-    done = λ is_so. done_more a b s n lt at (more there) (old.done (split is_so).0) (new (split is_so).1 there);
+    acts = (more there).acts old.acts;
+    done = λ is_so. so_more (IsFollowed file program) followed_more a b s n lt at (more there)
+        (old.done (split is_so).0) (new (split is_so).1 there);
+    tried = so_more (IsTried bound) (tried_more bound) a b s n lt at (more there) old.tried tries;
   }
     where
       at : slice_get a n ≡ Some s
@@ -201,9 +258,24 @@ module _ (file : File) (program : Program) where
       there : Contains a s
       there = get_contains a n s at
 
-  pub gone_all : (known : List (List ℕ)) (n : ℕ) (complete : Bool) →
-      IsGone known n complete →
+  pub gone_all : (bound : ℕ) (known : List (List ℕ)) (n : ℕ) (complete : Bool) →
+      IsGone bound known n complete →
       length known ≤ n →
       complete ≡ true →
       IsSearched file program known
-  gone_all known n complete g le is_so = done_searched known n le g.start g.serial (g.done is_so)
+  gone_all bound known n complete g le is_so = record {
+    start = g.start;
+    serial = g.serial;
+    followed = all_so (IsFollowed file program) known n le (g.done is_so);
+  }
+
+  pub gone_within : (bound : ℕ) (known : List (List ℕ)) (n : ℕ) (complete : Bool) →
+      IsGone bound known n complete →
+      length known ≤ n →
+      IsSearchedWithin file program bound known
+  gone_within bound known n complete g le = record {
+    start = g.start;
+    serial = g.serial;
+    acts = g.acts;
+    followed = all_so (IsTried bound) known n le g.tried;
+  }

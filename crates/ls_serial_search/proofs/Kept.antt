@@ -1,6 +1,7 @@
 -- The serial histories that are kept of searched schedules.
 use Rattle.std.proofs.Common.{◌≡◌, ◌⊎◌, inl, inr, ℕ, zero, suc, ◌+◌, ◌<◌, ◌≤◌, List, [], ◌∷◌, ◌++◌, Some, Contains}
 use Rattle.std.proofs.Common.{length, sym, ap, ◌∙◌, subst, arith, slice_get, slice_index_or, append-nil, get_or}
+use Rattle.std.proofs.Common.{append_assoc, map}
 use Rattle.std.proofs.lemmas.Bool.{cases_lt}
 use Rattle.std.proofs.lemmas.List.{get_or-map}
 use Rattle.std.proofs.lemmas.List.Elements.{Contains-append_left, Contains-push, Contains-push_cases}
@@ -16,6 +17,8 @@ use Rattle.ls_serial.proofs.Lists.{contains_get, get_contains, get_within, is_ge
 use Rattle.ls_linearizable.specs.Linearizable.{AreTrue, TellSerial}
 use Rattle.ls_serial_search.specs.Searched.{AreSerial, IsSearched}
 use Rattle.ls_serial_search.specs.Histories.{AreSerialRuns, IsKept, lists_of}
+use Rattle.ls_serial_search.specs.Found.{AreRunsOf}
+use Rattle.ls_serial_search.proofs.Collected.{map_there, of_map}
 use Rattle.ls_serial_search.proofs.Covering.{known_history}
 
 -- Each history that is kept is that of one of the schedules, and one of them begins with that of each schedule from
@@ -114,6 +117,34 @@ module _ (file : File) (program : Program) (known : List (List ℕ)) where
 
     pub are_true : AreTrue file program runs
     are_true run there = let t = h.told run there in (t.0, t.2)
+
+    -- they are the runs of these schedules
+    pub are_runs : AreRunsOf file program known runs
+    are_runs g serial = (to, from)
+      where
+        to : HaveBeginning runs g → HaveBeginning (map (source_history file program) known) g
+        to b =
+            let t = h.told b.run b.there in
+            record {
+              run = source_history file program t.0;
+              there = map_there (source_history file program) known t.0 t.1;
+              begins = subst (IsBeginning g) t.2 b.begins;
+            }
+
+        from : HaveBeginning (map (source_history file program) known) g → HaveBeginning runs g
+        from b =
+            let s = of_map (source_history file program) known b.run b.there in
+            let place = contains_get known s.0 s.1 in
+            let r = h.begun place.0 s.0 (omega arith) place.1 in
+            record {
+              run = r.run;
+              there = r.there;
+              begins = (
+                b.begins.0 ++ r.begins.0,
+                sym (append_assoc g b.begins.0 r.begins.0) ∙ ap (λ l. l ++ r.begins.0) (b.begins.1 ∙ sym s.2)
+                    ∙ r.begins.1,
+              );
+            }
 
     pub tell_serial : IsSearched file program known → TellSerial file program runs
     tell_serial searched schedule serial =

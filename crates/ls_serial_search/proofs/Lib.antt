@@ -2,7 +2,10 @@ mod SoFar
 pub mod Stepping
 pub mod Answering
 pub mod Further
+mod Splits
+pub mod Inside
 mod Between
+pub mod Within
 pub mod Covering
 pub mod Doubts
 pub mod Open

@@ -2,7 +2,7 @@
 use Rattle.std.proofs.Common.{◌≡◌, ◌⊎◌, inl, inr, ℕ, zero, suc, ◌+◌, ◌-◌, ◌<◌, ◌≤◌, true, false, List, [], ◌∷◌, ◌++◌}
 use Rattle.std.proofs.Common.{length, replicate, sym, ap, ◌∙◌, subst, arith, append-nil, append_assoc}
 use Rattle.std.proofs.lemmas.Bool.{cases_lt}
-use Rattle.std.proofs.lemmas.List.{replicate-append-replicate}
+use Rattle.std.proofs.lemmas.List.{length-append, length-replicate}
 use Rattle.ls_events.specs.Limits.{most_steps}
 use Rattle.ls_events.specs.declared.event.Event.{Event}
 use Rattle.ls_checked.specs.CheckedTree.{File}
@@ -11,20 +11,18 @@ use Rattle.ls_meaning.specs.declared.step.Did.{Did}
 use Rattle.ls_meaning.specs.declared.step.Did.TheVariants as did
 use Rattle.ls_meaning.specs.Still.{IsActing}
 use Rattle.ls_meaning.specs.Runs.{source_history, source_run, step}
-use Rattle.ls_serial.specs.Serial.{IsEnd, IsEndOf, IsSerial}
+use Rattle.ls_serial.specs.Serial.{IsEnd, IsSerial}
+use Rattle.ls_search_laws.specs.Stepping.{ActAll}
+use Rattle.ls_search_laws.proofs.Acting.{acts_times}
 use Rattle.ls_serial_search.specs.Following.{IsBegun, called, events_of}
-use Rattle.ls_serial_search.specs.Happened.{IsLast}
-use Rattle.ls_serial_search.specs.Open.{HasEnded, HasLongCall, IsOpen}
+use Rattle.ls_serial_search.specs.Happened.{ActsFor, IsLast}
+use Rattle.ls_serial_search.specs.Laws.{LongCallsAreRuns}
+use Rattle.ls_serial_search.specs.Open.{HasEnded, HasLongCall, IsLongAfter, IsOpen}
 use Rattle.ls_serial_search.proofs.Answering.{between_acts}
 use Rattle.ls_serial_search.proofs.Between.{all_between}
-use Rattle.ls_serial_search.proofs.Stepping.{history_longer, history_more, steps_more}
+use Rattle.ls_serial_search.proofs.Stepping.{history_more, steps_more}
 
 -- ---- two events after a history
-
-two_of : (h : List Event) (x y c e : Event) (rest : List Event) → h ++ x ∷ y ∷ [] ≡ (h ++ c ∷ e ∷ []) ++ rest →
-    (x ≡ c) × (y ≡ e)
-two_of [] x y c e rest is = (cc, cc)
-two_of (z ∷ h) x y c e rest is = two_of h x y c e rest (cc)
 
 one_is_no_two : (h : List Event) (x c e : Event) → h ++ x ∷ [] ≡ h ++ c ∷ e ∷ [] → ⊥
 one_is_no_two [] x c e is = cc
@@ -35,14 +33,14 @@ none_is_no_two [] c e is = cc
 none_is_no_two (z ∷ h) c e is = none_is_no_two h c e (cc)
 
 -- a call is no end
-not_end : (t k : ℕ) → IsEnd (called t k) → ⊥
+pub not_end : (t k : ℕ) → IsEnd (called t k) → ⊥
 not_end t k ends = not_both ends
   where
     not_both : true ≡ false → ⊥
     not_both h = cc
 
 -- a step with an event acts
-acting : (t : ℕ) (d : Did) (e : Event) → events_of t d ≡ e ∷ [] → IsActing d
+pub acting : (t : ℕ) (d : Did) (e : Event) → events_of t d ≡ e ∷ [] → IsActing d
 acting t (did.Acted action answer) e is = tt
 acting t did.Waits e is = absurd (nothing is)
   where
@@ -59,40 +57,6 @@ module _ (file : File) (program : Program) (schedule : List ℕ) (t : ℕ) where
 
   abbrev h_at : ℕ → List Event
   h_at n = source_history file program (schedule ++ replicate n t)
-
-  grows : (n k : ℕ) → (rest : List Event) × (h_at n ++ rest ≡ h_at (n + k))
-  grows n k =
-      let b = history_longer file program (schedule ++ replicate n t) (replicate k t) in (
-        b.0,
-        b.1 ∙ ap (source_history file program) (append_assoc schedule (replicate n t) (replicate k t)
-            ∙ ap (λ ts. schedule ++ ts) (replicate-append-replicate n k t)),
-      )
-
-  -- after two events, the second of which isn't the end of the first
-  spoiled : (j : ℕ) (x y : Event) → h_at j ≡ h ++ x ∷ y ∷ [] → ¬ IsEndOf x y → (n : ℕ) →
-      ¬ HasEnded file program schedule t n
-  spoiled j x y at not n ended = by_place (cases_lt n j)
-    where
-      same : (a b k : ℕ) → a ≤ b → k ≡ b - a → a + k ≡ b
-      same a b k le is = omega arith
-
-      not_so : x ≡ called t ended.call → y ≡ ended.end → ⊥
-      not_so p q = not (subst (λ z. IsEndOf z y) (sym p) (subst (λ z. IsEndOf (called t ended.call) z) (sym q)
-          ended.ends))
-
-      by_place : (n < j) ⊎ (j ≤ n) → ⊥
-      by_place (inl less) =
-          let g = grows n (j - n) in
-          let two = two_of h x y (called t ended.call) ended.end g.0
-          (sym at ∙ ap h_at (sym (same n j (j - n) (omega arith) (omega arith))) ∙ sym g.1
-          ∙ ap (λ l. l ++ g.0) ended.is) in
-          not_so two.0 two.1
-      by_place (inr past) =
-          let g = grows j (n - j) in
-          let two = two_of h (called t ended.call) ended.end x y g.0
-          (sym ended.is ∙ ap h_at (sym (same j n (n - j) past (omega arith))) ∙ sym g.1
-          ∙ ap (λ l. l ++ g.0) at) in
-          not_so (sym two.0) (sym two.1)
 
   -- where the call has begun and has no end yet
   not_ended : (call j : ℕ) → IsBegun file program schedule t call j → (n : ℕ) → n ≤ j →
@@ -122,19 +86,16 @@ module _ (file : File) (program : Program) (schedule : List ℕ) (t : ℕ) where
       (all_between file program schedule serial t) (subst IsActing is acts) in
       (k.0, ap (events_of t) is ∙ k.1)
 
-  pub silent_first : (d : Did) (most : ℕ) → IsAt d 0 → IsActing d → events_of t d ≡ [] → IsSerial h →
-      IsOpen file program schedule t most
-  silent_first d most at acts none serial =
-      let k = first_calls d at acts serial in absurd (nothing (sym none ∙ k.1))
+  pub silent_first : (d : Did) → IsAt d 0 → IsActing d → events_of t d ≡ [] → IsSerial h → ⊥
+  silent_first d at acts none serial = let k = first_calls d at acts serial in nothing (sym none ∙ k.1)
     where
       nothing : {x : Event} → [] ≡ x ∷ [] → ⊥
       nothing e = cc
 
-  pub ends_first : (d : Did) (most call : ℕ) → IsAt d 0 → IsLast t call (events_of t d) → IsSerial h →
-      IsOpen file program schedule t most
-  ends_first d most call at last serial =
+  pub ends_first : (d : Did) (call : ℕ) → IsAt d 0 → IsLast t call (events_of t d) → IsSerial h → ⊥
+  ends_first d call at last serial =
       let k = first_calls d at (acting t d last.end last.is) serial in
-      absurd (not_end t k.0 (subst IsEnd (only (sym last.is ∙ k.1)) last.ends.ends))
+      not_end t k.0 (subst IsEnd (only (sym last.is ∙ k.1)) last.ends.ends)
     where
       only : {x y : Event} → x ∷ [] ≡ y ∷ [] → x ≡ y
       only e = cc
@@ -142,16 +103,16 @@ module _ (file : File) (program : Program) (schedule : List ℕ) (t : ℕ) where
   -- ---- a call without its end
 
   module _ (first : Did) (at_first : IsAt first 0) (call : ℕ) (begins : events_of t first ≡ called t call ∷ []) where
-    open_by : (most : ℕ) → ((n : ℕ) → n ≤ most → ¬ HasEnded file program schedule t n) →
-        IsOpen file program schedule t most
-    open_by most none = record {
-      acts = first_acts first at_first (acting t first (called t call) begins);
-      none = none;
-    }
-
     pub past_bound : (most j : ℕ) → most ≤ j → IsBegun file program schedule t call j →
-        IsOpen file program schedule t most
-    past_bound most j le begun = open_by most (λ n few. not_ended call j begun n (omega arith))
+        ActsFor file program schedule t j →
+        IsOpen file program schedule t most × ActsFor file program schedule t most
+    past_bound most j le begun each = (
+      record {
+        acts = first_acts first at_first (acting t first (called t call) begins);
+        none = λ n few. not_ended call j begun n (omega arith);
+      },
+      λ i less. each i (omega (arith, le, less)),
+    )
 
     module _ (d : Did) (j : ℕ) (at : IsAt d j) (some : 1 ≤ j) (begun : IsBegun file program schedule t call j) where
       -- with one event more
@@ -175,36 +136,66 @@ module _ (file : File) (program : Program) (schedule : List ℕ) (t : ℕ) where
         is = two_events last.end last.is;
       }
 
-      pub calls_within : (most other : ℕ) → events_of t d ≡ called t other ∷ [] → IsOpen file program schedule t most
-      calls_within most other is = open_by most (λ n few. spoiled (j + 1) (called t call) (called t other)
-          (two_events (called t other) is) (λ e. not_end t other e.ends) n)
+-- ---- steps that act
 
-      pub ends_other : (most other : ℕ) → IsLast t other (events_of t d) → (other ≡ call → ⊥) →
-          IsOpen file program schedule t most
-      ends_other most other last unlike = open_by most (λ n few. spoiled (j + 1) (called t call) last.end
-          (two_events last.end last.is) (λ e. unlike (sym last.ends.call ∙ e.call)) n)
+module _ (file : File) (program : Program) (schedule : List ℕ) (t : ℕ) where
+  abbrev ActsAt : ℕ → Type 0
+  ActsAt j = IsActing (step file program (source_run file program (schedule ++ replicate j t)) t).did
+
+  -- a step with an event acts
+  pub acts_by : (d : Did) (j : ℕ) (e : Event) →
+      d ≡ (step file program (source_run file program (schedule ++ replicate j t)) t).did → events_of t d ≡ e ∷ [] →
+      ActsAt j
+  acts_by d j e at is = subst IsActing at (acting t d e is)
+
+  pub acts_first : ActsAt 0 → ActsFor file program schedule t 1
+  acts_first acts j less = let none : 0 ≡ j = omega (arith, less) in subst ActsAt none acts
+
+  pub acts_next : (j : ℕ) → ActsFor file program schedule t j → ActsAt j → ActsFor file program schedule t (j + 1)
+  acts_next j each acts i less = by_place (cases_lt i j)
+    where
+      by_place : (i < j) ⊎ (j ≤ i) → ActsAt i
+      by_place (inl before) = each i before
+      by_place (inr past) = let same : j ≡ i = omega (arith, less, past) in subst ActsAt same acts
 
 -- ---- calls that are too long
 
 pub is_long : (file : File) (program : Program) (schedule : List ℕ) (t bound room most : ℕ) →
     room ≡ most_steps - length schedule →
     (most ≡ bound) ⊎ (most ≡ room) →
+    ActAll file program schedule →
+    IsOpen file program schedule t most × ActsFor file program schedule t most →
+    IsLongAfter file program bound schedule t
+is_long file program schedule t bound room most of_room is acts so = record {
+  steps = most;
+  acts = acts_times file program schedule t most acts so.1;
+  is_open = so.0;
+  long = by_least is;
+}
+  where
+    by_least : (most ≡ bound) ⊎ (most ≡ room) → (bound ≤ most) ⊎ (most_steps ≤ length schedule + most)
+    by_least (inl e) = inl (omega (arith, e))
+    by_least (inr e) = inr (omega (arith, e, of_room))
+
+-- so it is where calls ran one at a time before
+pub is_long_call : (file : File) (program : Program) (schedule : List ℕ) (t bound : ℕ) →
     IsSerial (source_history file program schedule) →
-    IsOpen file program schedule t most →
+    IsLongAfter file program bound schedule t →
     HasLongCall file program bound
-is_long file program schedule t bound room most of_room (inl is) serial so = record {
-  schedule = schedule;
-  thread = t;
-  steps = most;
-  serial = serial;
-  is_open = so;
-  long = inl (omega arith);
-}
-is_long file program schedule t bound room most of_room (inr is) serial so = record {
-  schedule = schedule;
-  thread = t;
-  steps = most;
-  serial = serial;
-  is_open = so;
-  long = inr (omega arith);
-}
+is_long_call file program schedule t bound serial long =
+    record { schedule = schedule; thread = t; serial = serial; goes_on = long }
+
+-- it ends a run of so many steps
+pub long_run : LongCallsAreRuns
+long_run file program bound h =
+    (h.schedule ++ replicate h.goes_on.steps h.thread, h.goes_on.acts, by_long h.goes_on.long)
+  where
+    many : length (h.schedule ++ replicate h.goes_on.steps h.thread) ≡ length h.schedule + h.goes_on.steps
+    many = length-append h.schedule (replicate h.goes_on.steps h.thread)
+        ∙ ap (λ n. length h.schedule + n) (length-replicate h.goes_on.steps h.thread)
+
+    by_long : (bound ≤ h.goes_on.steps) ⊎ (most_steps ≤ length h.schedule + h.goes_on.steps) →
+        (bound ≤ length (h.schedule ++ replicate h.goes_on.steps h.thread))
+        ⊎ (most_steps ≤ length (h.schedule ++ replicate h.goes_on.steps h.thread))
+    by_long (inl le) = inl (omega (arith, le, many))
+    by_long (inr le) = inr (omega (arith, le, many))

@@ -1,5 +1,5 @@
 -- What a step does to its thread's call, and what comes of a call.
-use Rattle.std.specs.Prelude.{◌≡◌, ℕ, ◌+◌, ◌≤◌, List, [], ◌∷◌, ◌++◌, replicate}
+use Rattle.std.specs.Prelude.{◌≡◌, ℕ, ◌+◌, ◌<◌, ◌≤◌, List, [], ◌∷◌, ◌++◌, replicate}
 use Rattle.ls_events.specs.declared.event.Event.{Event}
 use Rattle.ls_checked.specs.CheckedTree.{File}
 use Rattle.ls_checked.specs.CheckedProgram.{Program}
@@ -33,12 +33,18 @@ HasHappened thread did happened.GoesOn = IsActing did × (events_of thread did �
 HasHappened thread did (happened.Begins call) = events_of thread did ≡ called thread call ∷ []
 HasHappened thread did (happened.Ends call) = IsLast thread call (events_of thread did)
 
--- with the last of so many steps the call ends
+-- each of so many steps of the thread acts
+abbrev pub ActsFor : File → Program → List ℕ → ℕ → ℕ → Type 0
+ActsFor file program schedule thread steps = (j : ℕ) → j < steps →
+    IsActing (step file program (source_run file program (schedule ++ replicate j thread)) thread).did
+
+-- each of so many steps acts, and with the last of them the call ends
 pub record EndsIn (file : File) (program : Program) (schedule : List ℕ) (thread steps : ℕ) : Type 0 where
   pub call : ℕ
   pub before : ℕ
   pub is : steps ≡ before + 1
   pub begun : IsBegun file program schedule thread call before
+  pub acts : ActsFor file program schedule thread steps
   pub serial : IsSerial (source_history file program schedule) →
       IsSerial (source_history file program (schedule ++ replicate steps thread))
 
@@ -50,4 +56,5 @@ HasFollowed file program schedule thread most (followed.Never call) = NeverEnds 
 HasFollowed file program schedule thread most (followed.Ends steps) =
     EndsIn file program schedule thread steps × (steps ≤ most) × HasEnded file program schedule thread steps
 HasFollowed file program schedule thread most followed.GoesOn =
-    IsSerial (source_history file program schedule) → IsOpen file program schedule thread most
+    IsSerial (source_history file program schedule) →
+    IsOpen file program schedule thread most × ActsFor file program schedule thread most

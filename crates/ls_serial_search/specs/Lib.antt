@@ -6,6 +6,7 @@ pub mod Laws
 pub mod Orders
 pub mod Happened
 pub mod Marks
+pub mod Found
 pub mod Told
 pub mod Histories
 pub mod Endless

@@ -1,13 +1,15 @@
 // Calls that never end while no other thread goes on, after calls that ran one at a time.
 
-ghost use Rattle.std.specs.Prelude.{◌≡◌, ◌++◌, ◌∷◌, [], List, true, Contains, IfOk, OnOk, length};
+ghost use Rattle.std.specs.Prelude.{◌≡◌, ◌⊎◌, ◌++◌, ◌∷◌, [], List, true, false, Contains, IfOk, OnOk, length};
 ghost use Rattle.ls_checked.specs.Plain.{plain_file};
 ghost use Rattle.ls_checked.specs.PlainProgram.{plain_program};
 ghost use Rattle.ls_events.specs.declared.event.Event.{Event as EventValue};
 ghost use Rattle.ls_meaning.specs.Runs.{source_history};
+ghost use Rattle.ls_search_laws.specs.Stepping.{ActAll};
 ghost use Rattle.ls_serial.specs.Serial.{IsSerial};
 ghost use Rattle.ls_serial_search.specs.Following.{called};
 ghost use Rattle.ls_serial_search.specs.Histories.{lists_of};
+ghost use Rattle.ls_serial_search.specs.Open.{HasLongCall, HasManyOrders};
 ghost use Rattle.ls_serial_search.specs.Endless.{AreEndlessRuns, HasTried, HaveTried, TellEndlessRuns};
 
 use crate::following::{Followed, Task, follow};
@@ -60,6 +62,10 @@ fn try_thread(
     ensures tried { IfOk result (λ known. known ≡ true →
         HasTried (plain_file task.now.file.now) (plain_program task.now.program.now) (lists_of runs.new.items)
         schedule.now thread) }
+    ensures why { IfOk result (λ known. known ≡ false →
+        IsSerial (source_history (plain_file task.now.file.now) (plain_program task.now.program.now) schedule.now) →
+        ActAll (plain_file task.now.file.now) (plain_program task.now.program.now) schedule.now →
+        HasLongCall (plain_file task.now.file.now) (plain_program task.now.program.now) task.now.most_steps) }
 {
     match follow(alloc, task, schedule, thread, task.most_steps)? {
         Followed::Never(call) => {
@@ -90,6 +96,10 @@ fn try_threads(
     ensures tried { IfOk result (λ known. known ≡ true →
         HaveTried (plain_file task.now.file.now) (plain_program task.now.program.now) (lists_of runs.new.items)
         schedule.now (length task.now.program.now.threads.items)) }
+    ensures why { IfOk result (λ known. known ≡ false →
+        IsSerial (source_history (plain_file task.now.file.now) (plain_program task.now.program.now) schedule.now) →
+        ActAll (plain_file task.now.file.now) (plain_program task.now.program.now) schedule.now →
+        HasLongCall (plain_file task.now.file.now) (plain_program task.now.program.now) task.now.most_steps) }
 {
     let mut all = true;
     for thread in 0..task.program.threads.len() {
@@ -103,7 +113,8 @@ fn try_threads(
 #[derive(Drop)]
 pub struct EndlessRuns {
     pub runs: Vec<Vec<Event>>,
-    /// Whether no bound was met. Then they are all.
+    /// Whether no bound was met. Then they are all. Else a call alone doesn't end within the most steps, or there are
+    /// too many orders.
     pub complete: bool,
 }
 
@@ -120,6 +131,9 @@ pub fn endless_runs(
         (lists_of s.runs.items)) }
     ensures all { IfOk result (λ s. s.complete ≡ true →
         TellEndlessRuns (plain_file file.now) (plain_program program.now) (lists_of s.runs.items)) }
+    ensures why { IfOk result (λ s. s.complete ≡ false →
+        HasManyOrders (plain_file file.now) (plain_program program.now) bounds.now.orders
+        ⊎ HasLongCall (plain_file file.now) (plain_program program.now) bounds.now.steps) }
 {
     let task = Task {
         file,

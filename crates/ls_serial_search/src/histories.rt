@@ -7,6 +7,7 @@ ghost use Rattle.ls_events.specs.Beginnings.{IsBeginning};
 ghost use Rattle.ls_meaning.specs.Runs.{source_history};
 ghost use Rattle.ls_serial.specs.Serial.{HaveBeginning};
 ghost use Rattle.ls_linearizable.specs.Linearizable.{AreTrue, TellSerial};
+ghost use Rattle.ls_serial_search.specs.Found.{AreFound};
 ghost use Rattle.ls_serial_search.specs.Histories.{AreSerialRuns, IsKept, lists_of};
 ghost use Rattle.ls_serial_search.specs.Told.{IsDoubt};
 ghost use Rattle.ls_serial_search.specs.declared.telling.Doubt.TheVariants.{LongCall, ManyOrders};
@@ -103,6 +104,8 @@ pub fn serial_histories(
     ensures tells { IfOk result (λ s. IfNone s.doubt (TellSerial (plain_file file.now)
         (plain_program program.now) (lists_of s.histories.items))) }
     ensures doubt { IfOk result (λ s. IfSome s.doubt (IsDoubt (plain_file file.now) (plain_program program.now) bounds)) }
+    ensures found { IfOk result (λ s. IfSome s.doubt (λ doubt. AreFound (plain_file file.now)
+        (plain_program program.now) bounds doubt (lists_of s.histories.items))) }
 {
     let task = Task {
         file,

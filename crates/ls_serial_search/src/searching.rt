@@ -5,10 +5,12 @@ ghost use Rattle.std.specs.Prelude.{slice_get};
 ghost use Rattle.ls_checked.specs.Plain.{plain_file};
 ghost use Rattle.ls_checked.specs.PlainProgram.{plain_program};
 ghost use Rattle.ls_meaning.specs.Runs.{source_history};
+ghost use Rattle.ls_search_laws.specs.Stepping.{ActAll};
 ghost use Rattle.ls_serial.specs.Serial.{IsSerial};
 ghost use Rattle.ls_serial_search.specs.Following.{IsFollowed};
-ghost use Rattle.ls_serial_search.specs.Open.{HasLongCall};
-ghost use Rattle.ls_serial_search.specs.Searched.{AreSerial, IsSearched};
+ghost use Rattle.ls_serial_search.specs.Found.{IsSearchedWithin};
+ghost use Rattle.ls_serial_search.specs.Open.{HasLongCall, IsLongAfter};
+ghost use Rattle.ls_serial_search.specs.Searched.{AreActing, AreSerial, IsSearched};
 ghost use Rattle.ls_serial_search.specs.Told.{AreMore};
 ghost use Rattle.ls_serial_search.specs.Tree.{AreApart, IsTree};
 
@@ -57,7 +59,9 @@ fn follow_thread(
         thread) }
     ensures long { IfOk result (λ b. b ≡ false →
         IsSerial (source_history (plain_file task.now.file.now) (plain_program task.now.program.now) schedule.now) →
-        HasLongCall (plain_file task.now.file.now) (plain_program task.now.program.now) task.now.most_steps) }
+        ActAll (plain_file task.now.file.now) (plain_program task.now.program.now) schedule.now →
+        IsLongAfter (plain_file task.now.file.now) (plain_program task.now.program.now) task.now.most_steps
+        schedule.now thread) }
     ensures tree { OnOk result ((place : ℕ) → slice_get known.old.items place ≡ Some schedule.now →
         IsTree (plain_file task.now.file.now) (plain_program task.now.program.now) known.old.items place thread →
         IsTree (plain_file task.now.file.now) (plain_program task.now.program.now) known.new.items place
@@ -89,8 +93,16 @@ fn follow_threads(
     ensures followed { IfOk result (λ b. b ≡ true → Contains known.old.items schedule.now →
         (t : ℕ) → t < length task.now.program.now.threads.items →
         IsFollowed (plain_file task.now.file.now) (plain_program task.now.program.now) known.new.items schedule.now t) }
+    ensures tried { OnOk result (Contains known.old.items schedule.now →
+        IsSerial (source_history (plain_file task.now.file.now) (plain_program task.now.program.now) schedule.now) →
+        ActAll (plain_file task.now.file.now) (plain_program task.now.program.now) schedule.now →
+        (t : ℕ) → t < length task.now.program.now.threads.items →
+        IsFollowed (plain_file task.now.file.now) (plain_program task.now.program.now) known.new.items schedule.now t
+        ⊎ IsLongAfter (plain_file task.now.file.now) (plain_program task.now.program.now) task.now.most_steps
+        schedule.now t) }
     ensures long { IfOk result (λ b. b ≡ false →
         IsSerial (source_history (plain_file task.now.file.now) (plain_program task.now.program.now) schedule.now) →
+        ActAll (plain_file task.now.file.now) (plain_program task.now.program.now) schedule.now →
         HasLongCall (plain_file task.now.file.now) (plain_program task.now.program.now) task.now.most_steps) }
     ensures tree { OnOk result ((place : ℕ) → slice_get known.old.items place ≡ Some schedule.now →
         IsTree (plain_file task.now.file.now) (plain_program task.now.program.now) known.old.items place 0 →
@@ -109,8 +121,12 @@ fn follow_threads(
 pub(crate) fn search(alloc: Global, task: &Task, most_orders: usize) -> Result<Known, AllocError>
     ensures serial { IfOk result (λ s. AreSerial (plain_file task.now.file.now)
         (plain_program task.now.program.now) s.schedules.items) }
+    ensures acts { IfOk result (λ s. AreActing (plain_file task.now.file.now)
+        (plain_program task.now.program.now) s.schedules.items) }
     ensures complete { IfOk result (λ s. s.complete ≡ true →
         IsSearched (plain_file task.now.file.now) (plain_program task.now.program.now) s.schedules.items) }
+    ensures within { IfOk result (λ s. s.many ≡ false → IsSearchedWithin (plain_file task.now.file.now)
+        (plain_program task.now.program.now) task.now.most_steps s.schedules.items) }
     ensures long { IfOk result (λ s. s.complete ≡ false → s.many ≡ false →
         HasLongCall (plain_file task.now.file.now) (plain_program task.now.program.now) task.now.most_steps) }
     ensures many { IfOk result (λ s. s.many ≡ true → most_orders < length s.schedules.items) }

@@ -5,7 +5,8 @@ ghost use Rattle.ls_events.specs.declared.event.Event.{Event as EventValue};
 ghost use Rattle.ls_checked.specs.Plain.{plain_file};
 ghost use Rattle.ls_checked.specs.PlainProgram.{plain_program};
 ghost use Rattle.ls_serial.specs.Serial.{HaveBeginning, IsSerial};
-ghost use Rattle.ls_serial_search.specs.Told.{AreRunsOf, Tells, usual};
+ghost use Rattle.ls_serial_search.specs.Found.{AreRunsOf};
+ghost use Rattle.ls_serial_search.specs.Told.{Tells, usual};
 
 use crate::following::Task;
 use crate::playing::played;

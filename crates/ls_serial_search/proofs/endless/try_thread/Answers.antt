@@ -1,11 +1,12 @@
--- Why `try_thread` in src/endless.rt keeps its clauses `endless`, `kept` and `tried`.
+-- Why `try_thread` in src/endless.rt keeps its clauses.
 
-use Rattle.std.proofs.Common.{◌∙◌, ◌∷◌, ◌++◌, [], List, Contains, ap, subst, sym}
+use Rattle.std.proofs.Common.{◌∙◌, ◌∷◌, ◌++◌, ◌-◌, ℕ, [], List, Contains, ap, inl, length, refl, subst, sym}
 use Rattle.std.proofs.lemmas.List.Elements.{Contains-append_left}
 use Rattle.ls_checked.specs.CheckedTree.{File}
 use Rattle.ls_checked.specs.CheckedProgram.{Program}
 use Rattle.ls_checked.specs.Plain.{plain_file}
 use Rattle.ls_checked.specs.PlainProgram.{plain_program}
+use Rattle.ls_events.specs.Limits.{most_steps}
 use Rattle.ls_events.specs.declared.event.Event.{Event}
 use Rattle.ls_meaning.specs.Runs.{source_history}
 use Rattle.ls_serial_search.specs.Following.{called}
@@ -14,6 +15,7 @@ use Rattle.ls_serial_search.specs.Histories.{lists_of}
 use Rattle.ls_serial_search.specs.Endless.{AreEndlessRuns, HasTried}
 use Rattle.ls_serial_search.proofs.Kept.{lists_pushed}
 use Rattle.ls_serial_search.proofs.NeverEnding.{endless_pushed, tried_ended, tried_idle, tried_pushed}
+use Rattle.ls_serial_search.proofs.Open.{is_long, is_long_call}
 use Rattle.ls_serial_search.proofs.endless.try_thread.Goals as goal
 
 pub returns-in_ok-push-in-Never-clause-endless : goal.returns-in_ok-push-in-Never-clause-endless
@@ -69,3 +71,14 @@ returns-in-Ends-clause-tried c =
     (lists_of c.args.runs.now.items)
     (subst (HasFollowed file program c.args.schedule.now c.args.thread c.args.task.now.most_steps)
     c.in-Ends.is c.in_ok-call.ensures).2
+
+pub returns-in-GoesOn-clause-why : goal.returns-in-GoesOn-clause-why
+returns-in-GoesOn-clause-why c = λ unknown serial acts.
+    let file : File = plain_file c.args.task.now.file.now in
+    let program : Program = plain_program c.args.task.now.program.now in
+    let most : ℕ = c.args.task.now.most_steps in
+    is_long_call file program c.args.schedule.now c.args.thread most serial
+    (is_long file program c.args.schedule.now c.args.thread most (most_steps - length c.args.schedule.now) most refl
+    (inl refl) acts
+    (subst (HasFollowed file program c.args.schedule.now c.args.thread most) c.in-GoesOn.is c.in_ok-call.ensures
+    serial))

@@ -7,11 +7,12 @@ use Rattle.ls_checked.specs.Plain.{plain_file}
 use Rattle.ls_checked.specs.PlainProgram.{plain_program}
 use Rattle.ls_meaning.specs.declared.step.Did.{Did}
 use Rattle.ls_meaning.specs.Runs.{source_run, step}
-use Rattle.ls_meaning.specs.Still.{IsStill}
-use Rattle.ls_serial_search.specs.Following.{events_of}
+use Rattle.ls_meaning.specs.Still.{IsActing, IsStill}
+use Rattle.ls_serial_search.specs.Following.{called, events_of}
 use Rattle.ls_serial_search.specs.Happened.{IsLast}
 use Rattle.ls_serial_search.proofs.Along.{did_at, ends_in, first_begun, go_on_more, more_begun}
-use Rattle.ls_serial_search.proofs.Open.{calls_within, ends_other, ends_own, past_bound}
+use Rattle.ls_serial_search.proofs.Open.{acts_by, acts_first, acts_next, ends_own, not_end, past_bound}
+use Rattle.ls_serial_search.proofs.Within.{end_inside, first_inside, next_inside}
 use Rattle.ls_serial_search.proofs.Stalls.{still_never}
 use Rattle.ls_serial_search.specs.declared.marks.Mark.{Mark}
 use Rattle.ls_serial_search.proofs.ComingBack.{IsMarked, back_at_mark, mark_here, mark_stays}
@@ -34,6 +35,9 @@ loop-steps-init c =
     let t : ℕ = c.args.next.now.thread in
     record {
       at = c.requires.run;
+      acts = acts_first file program schedule t
+          (acts_by file program schedule t _ 0 _ (same_first file program schedule t) c.requires.begun);
+      inside = first_inside file program schedule t c.args.call _ (same_first file program schedule t) c.requires.begun;
       begun = first_begun file program schedule t c.args.call _ (same_first file program schedule t) c.requires.begun;
       marked = mark_here file program schedule t c.args.mark.now c.args.run.now 1 (omega arith) c.requires.mark
           c.requires.run;
@@ -50,7 +54,9 @@ returns-then-ended-call c =
     let last : IsLast t c.args.call (events_of t c.in_ok-did.did) =
     subst (λ k. IsLast t k (events_of t c.in_ok-did.did)) c.if-ended-call.true c.in-Ends.ensures in (
       ends_in file program schedule t c.args.call c.in_ok-did.did c.loop-steps.steps at c.loop-steps.auto.steps
-          c.loop-steps.invariant.begun last,
+          c.loop-steps.invariant.begun
+          (acts_next file program schedule t c.loop-steps.steps c.loop-steps.invariant.acts
+          (acts_by file program schedule t c.in_ok-did.did c.loop-steps.steps last.end at last.is)) last,
       omega (arith, c.loop-steps-test.true),
       ends_own file program schedule t _ (same_first file program schedule t) c.args.call c.requires.begun
           c.in_ok-did.did c.loop-steps.steps at c.loop-steps.auto.steps c.loop-steps.invariant.begun last,
@@ -75,9 +81,8 @@ returns-in-Begins c = λ serial.
     let t : ℕ = c.args.next.now.thread in
     let at = did_at file program (schedule ++ replicate c.loop-steps.steps t) t _ c.in_ok-did.did
     c.loop-steps.invariant.at c.in_ok-did.ensures.did in
-    calls_within file program schedule t _ (same_first file program schedule t) c.args.call c.requires.begun
-    c.in_ok-did.did c.loop-steps.steps at c.loop-steps.auto.steps c.loop-steps.invariant.begun
-    c.args.next.now.most _ c.in-Begins.ensures
+    absurd (not_end t c.in-Begins.field-0 (end_inside file program schedule t c.args.call c.in_ok-did.did
+    c.loop-steps.steps at c.loop-steps.invariant.inside (called t c.in-Begins.field-0) c.in-Begins.ensures).ends)
 
 pub returns-in-Ends : goal.returns-in-Ends
 returns-in-Ends c = λ serial.
@@ -87,9 +92,10 @@ returns-in-Ends c = λ serial.
     let t : ℕ = c.args.next.now.thread in
     let at = did_at file program (schedule ++ replicate c.loop-steps.steps t) t _ c.in_ok-did.did
     c.loop-steps.invariant.at c.in_ok-did.ensures.did in
-    ends_other file program schedule t _ (same_first file program schedule t) c.args.call c.requires.begun
-    c.in_ok-did.did c.loop-steps.steps at c.loop-steps.auto.steps c.loop-steps.invariant.begun
-    c.args.next.now.most _ c.in-Ends.ensures c.if-ended-call.false
+    let last = c.in-Ends.ensures in
+    let own = end_inside file program schedule t c.args.call c.in_ok-did.did c.loop-steps.steps at
+    c.loop-steps.invariant.inside last.end last.is in
+    absurd (c.if-ended-call.false (sym last.ends.call ∙ own.call))
 
 pub returns : goal.returns
 returns c = λ serial.
@@ -99,6 +105,7 @@ returns c = λ serial.
     let t : ℕ = c.args.next.now.thread in
     past_bound file program schedule t _ (same_first file program schedule t) c.args.call c.requires.begun
     c.args.next.now.most c.loop-steps.steps c.loop-steps-test.false c.loop-steps.invariant.begun
+    c.loop-steps.invariant.acts
 
 pub returns-then-is_at : goal.returns-then-is_at
 returns-then-is_at c =
@@ -127,6 +134,10 @@ loop-steps-preserved c =
     let is_marked : Mark → Type 0 = λ m. IsMarked file program schedule t m (c.loop-steps.steps + 1) in
     record {
       at = at;
+      acts = acts_next file program schedule t c.loop-steps.steps c.loop-steps.invariant.acts
+          (subst IsActing did c.in-GoesOn.ensures.0);
+      inside = next_inside file program schedule t c.args.call c.in_ok-did.did c.loop-steps.steps did
+          c.loop-steps.invariant.inside c.in-GoesOn.ensures.0 c.in-GoesOn.ensures.1;
       begun = more_begun file program schedule t c.args.call c.in_ok-did.did c.loop-steps.steps did
           c.loop-steps.auto.steps c.loop-steps.invariant.begun c.in-GoesOn.ensures.1;
       marked = elim c.if-is_marked.branch [

@@ -24,9 +24,9 @@ returns-in-GoesOn c = λ serial.
     let program : Program = plain_program c.args.next.now.task.now.program.now in
     let schedule : List ℕ = c.args.next.now.schedule.now in
     let t : ℕ = c.args.next.now.thread in
-    silent_first file program schedule t c.in_ok-first.first c.args.next.now.most
+    absurd (silent_first file program schedule t c.in_ok-first.first
     (did_first file program schedule t _ c.in_ok-first.first c.requires c.in_ok-first.ensures.did)
-    c.in-GoesOn.ensures.0 c.in-GoesOn.ensures.1 serial
+    c.in-GoesOn.ensures.0 c.in-GoesOn.ensures.1 serial)
 
 pub returns-in-Ends : goal.returns-in-Ends
 returns-in-Ends c = λ serial.
@@ -34,9 +34,9 @@ returns-in-Ends c = λ serial.
     let program : Program = plain_program c.args.next.now.task.now.program.now in
     let schedule : List ℕ = c.args.next.now.schedule.now in
     let t : ℕ = c.args.next.now.thread in
-    ends_first file program schedule t c.in_ok-first.first c.args.next.now.most _
+    absurd (ends_first file program schedule t c.in_ok-first.first _
     (did_first file program schedule t _ c.in_ok-first.first c.requires c.in_ok-first.ensures.did) c.in-Ends.ensures
-    serial
+    serial)
 
 pub follow_on-requires-clause-begun : goal.follow_on-requires-clause-begun
 follow_on-requires-clause-begun c =

@@ -6,9 +6,9 @@ use Rattle.ls_checked.specs.CheckedProgram.{Program}
 use Rattle.ls_checked.specs.Plain.{plain_file}
 use Rattle.ls_checked.specs.PlainProgram.{plain_program}
 use Rattle.ls_serial_search.specs.Histories.{lists_of}
-use Rattle.ls_serial_search.proofs.Kept.{AreKept, are_serial, are_true, kept_more, kept_none, tell_serial}
+use Rattle.ls_serial_search.proofs.Kept.{AreKept, are_runs, are_serial, are_true, kept_more, kept_none, tell_serial}
 use Rattle.ls_linearizable.specs.Linearizable.{TellSerial}
-use Rattle.ls_serial_search.proofs.Doubts.{doubted, told}
+use Rattle.ls_serial_search.proofs.Doubts.{are_doubts, are_found, told}
 use Rattle.ls_serial_search.proofs.histories.serial_histories.Goals as goal
 
 pub loop-at-init : goal.loop-at-init
@@ -62,14 +62,24 @@ returns-clause-tells c =
     (subst (λ n. AreKept file program c.as_slice-schedules.result.now n (lists_of c.loop-at.histories.items)) none
     c.loop-at.invariant)) (c.in_ok-known.ensures.complete complete))
 
-pub returns-clause-doubt : goal.returns-clause-doubt
-returns-clause-doubt c =
+pub returns-clause-found : goal.returns-clause-found
+returns-clause-found c =
     let file : File = plain_file c.args.file.now in
     let program : Program = plain_program c.args.program.now in
-    doubted file program c.args.bounds c.doubt_of.result c.doubt_of.ensures.long c.doubt_of.ensures.many
-    c.in_ok-known.ensures.long (λ many. record {
-      known = c.in_ok-known.known.schedules.items;
+    let known = c.in_ok-known.known.schedules.items in
+    let none : c.loop-at.at ≡ 0 = omega (arith, c.loop-at-test.false) in
+    are_found file program c.args.bounds known c.in_ok-known.known.complete c.in_ok-known.known.many
+    c.in_ok-known.ensures.long c.in_ok-known.ensures.within (λ many. record {
       serial = c.in_ok-known.ensures.serial;
+      acts = c.in_ok-known.ensures.acts;
       apart = c.in_ok-known.ensures.apart;
       many = c.in_ok-known.ensures.many many;
-    })
+    }) c.doubt_of.result (lists_of c.loop-at.histories.items) c.doubt_of.ensures.long c.doubt_of.ensures.many
+    (are_runs file program known (lists_of c.loop-at.histories.items)
+    (subst (λ vs. AreKept file program vs 0 (lists_of c.loop-at.histories.items)) c.as_slice-schedules.ensures.value
+    (subst (λ n. AreKept file program c.as_slice-schedules.result.now n (lists_of c.loop-at.histories.items)) none
+    c.loop-at.invariant)))
+
+pub returns-clause-doubt : goal.returns-clause-doubt
+returns-clause-doubt c = are_doubts (plain_file c.args.file.now) (plain_program c.args.program.now) c.args.bounds
+    c.doubt_of.result (lists_of c.loop-at.histories.items) (returns-clause-found c)

@@ -19,9 +19,9 @@ returns-clause-more c = ends_more (plain_file c.args.task.now.file.now)
     c.in_ok-longer.ensures c.in_ok-push.ensures.items
 
 pub returns-in-GoesOn-clause-long : goal.returns-in-GoesOn-clause-long
-returns-in-GoesOn-clause-long c = λ unfollowed serial. is_long (plain_file c.args.task.now.file.now)
+returns-in-GoesOn-clause-long c = λ unfollowed serial acts. is_long (plain_file c.args.task.now.file.now)
     (plain_program c.args.task.now.program.now) c.args.schedule.now c.args.thread c.args.task.now.most_steps _
-    c.least-most.result (omega arith) c.least-most.ensures.2 serial
+    c.least-most.result (omega arith) c.least-most.ensures.2 acts
     (subst (HasFollowed (plain_file c.args.task.now.file.now) (plain_program c.args.task.now.program.now)
     c.args.schedule.now c.args.thread c.least-most.result) c.in-GoesOn.is c.in_ok-follow.ensures serial)
 

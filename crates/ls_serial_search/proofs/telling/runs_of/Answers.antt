@@ -5,7 +5,7 @@ use Rattle.ls_checked.specs.CheckedTree.{File}
 use Rattle.ls_checked.specs.CheckedProgram.{Program}
 use Rattle.ls_checked.specs.Plain.{plain_file}
 use Rattle.ls_checked.specs.PlainProgram.{plain_program}
-use Rattle.ls_serial_search.specs.Told.{AreRunsOf}
+use Rattle.ls_serial_search.specs.Found.{AreRunsOf}
 use Rattle.ls_serial_search.proofs.Along.{history_is}
 use Rattle.ls_serial_search.proofs.Collected.{all_of, runs_more, runs_none}
 use Rattle.ls_serial_search.proofs.telling.runs_of.Goals as goal

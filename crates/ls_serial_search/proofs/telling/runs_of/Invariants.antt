@@ -3,7 +3,7 @@
 use Rattle.std.proofs.Common.{◌≤◌, drop, length}
 use Rattle.ls_checked.specs.Plain.{plain_file}
 use Rattle.ls_checked.specs.PlainProgram.{plain_program}
-use Rattle.ls_serial_search.specs.Told.{AreRunsOf}
+use Rattle.ls_serial_search.specs.Found.{AreRunsOf}
 use Rattle.ls_serial_search.proofs.telling.runs_of.Given as goal
 
 abbrev pub invariant-loop-at : goal.invariant-loop-at

@@ -3,7 +3,7 @@
 use Rattle.std.proofs.Common.{subst}
 use Rattle.ls_checked.specs.Plain.{plain_file}
 use Rattle.ls_checked.specs.PlainProgram.{plain_program}
-use Rattle.ls_serial_search.specs.Told.{AreRunsOf}
+use Rattle.ls_serial_search.specs.Found.{AreRunsOf}
 use Rattle.ls_serial_search.proofs.Collected.{tell_serial, tell_truth}
 use Rattle.ls_serial_search.proofs.telling.serial_runs.Goals as goal
 
@@ -18,11 +18,19 @@ returns c =
           c.in_ok-known.known.schedules.items c.in_ok-runs.runs are;
       serial = λ complete. tell_serial (plain_file c.args.file.now) (plain_program c.args.program.now)
           c.in_ok-known.known.schedules.items c.in_ok-runs.runs are (c.in_ok-known.ensures.complete complete);
-      long = c.in_ok-known.ensures.long;
+      long = λ cut few. record {
+        known = c.in_ok-known.known.schedules.items;
+        found = (c.in_ok-known.ensures.within few, c.in_ok-known.ensures.long cut few);
+        are = are;
+      };
       many = λ many. record {
         known = c.in_ok-known.known.schedules.items;
-        serial = c.in_ok-known.ensures.serial;
-        apart = c.in_ok-known.ensures.apart;
-        many = c.in_ok-known.ensures.many many;
+        found = record {
+          serial = c.in_ok-known.ensures.serial;
+          acts = c.in_ok-known.ensures.acts;
+          apart = c.in_ok-known.ensures.apart;
+          many = c.in_ok-known.ensures.many many;
+        };
+        are = are;
       };
     }

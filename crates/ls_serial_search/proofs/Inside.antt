@@ -11,9 +11,9 @@ use Rattle.ls_checked.specs.CheckedProgram.{Program, ProgramCall, Making, Callin
 use Rattle.ls_meaning.specs.Course.{Answers, Evaluated, Asks, Results, Throws}
 use Rattle.ls_meaning.specs.Threads.{Next, Goes, Ended, Trapped, after_call, all_calls, one_call}
 use Rattle.ls_meaning.specs.Runs.{event_of}
-use Rattle.ls_serial.specs.Serial.{IsCall}
-use Rattle.ls_serial_search.proofs.Further.{Further, IsLoud, body_of_call}
-use Rattle.ls_endless_calls.proofs.Splits.{Splits, call_of_program_splits}
+use Rattle.ls_serial.specs.Serial.{IsCall, IsEnd}
+use Rattle.ls_serial_search.proofs.Further.{Further, IsLoud, IsQuiet, body_of_call}
+use Rattle.ls_serial_search.proofs.Splits.{Splits, call_of_program_splits}
 
 -- ---- what comes next
 
@@ -40,7 +40,7 @@ EndsCall k (Goes a s) = IsEnding k a
 EndsCall k Ended = ⊥
 EndsCall k Trapped = ⊥
 
-loud : (t : ℕ) (a : Action Value) (e : Event) → event_of t a ≡ Some e → IsLoud a
+pub loud : (t : ℕ) (a : Action Value) (e : Event) → event_of t a ≡ Some e → IsLoud a
 loud t (act.Call n) e is = tt
 loud t (act.Return n v) e is = tt
 loud t (act.Trap n k) e is = tt
@@ -51,6 +51,13 @@ loud t _ e is = absurd (nothing is)
 
 not_both : true ≡ false → ⊥
 not_both h = cc
+
+-- an action that ends a call has the event of its end
+pub ending_event : (t k : ℕ) (a : Action Value) → IsEnding k a →
+    (e : Event) × (event_of t a ≡ Some e) × IsEnd e × (e.thread ≡ t) × (e.call ≡ k)
+ending_event t k (act.Return n v) ends = (_, refl, refl, refl, ends)
+ending_event t k (act.Trap n kind) ends = (_, refl, refl, refl, ends)
+ending_event t k _ ends = absurd ends
 
 -- ---- one answer more is used up
 
@@ -124,6 +131,31 @@ module _ (file : File) (program : Program) where
   in_goes k n (c ∷ cs) (y ∷ q) is =
       after_goes k n (one_call file program n c (y ∷ q)) (IsIn k (n + 1) cs) (all_calls file program (n + 1) cs)
       (λ r. in_goes k (n + 1) cs r) is
+
+  -- what it asks for has no event, or ends the call
+  abbrev pub IsOwn : ℕ → Next → Type 0
+  IsOwn k (Goes a s) = IsQuiet a ⊎ IsEnding k a
+  IsOwn k Ended = ⊥
+  IsOwn k Trapped = ⊥
+
+  after_own : (k n : ℕ) (x x' : Evaluated (Option Value)) (later : Answers → Type 0) (go : Answers → Next)
+      (y : Answer Value) → Further (y ∷ []) x x' → ((r : Answers) → later r → IsOwn k (go r)) →
+      InAfter k n x later →
+      IsOwn k (after_call n x go)
+  after_own k n (Asks a s) x' later go y f on is = inl f.is
+  after_own k n (Results v []) x' later go y f on is = inr is
+  after_own k n (Results v (z ∷ rest)) x' later go y f on is = on rest is
+  after_own k n (Throws kind []) x' later go y f on is = inr is
+  after_own k n (Throws kind (z ∷ rest)) x' later go y f on is = absurd is
+
+  pub in_own : (k n : ℕ) (cs : List ProgramCall) (q : Answers) → IsIn k n cs q →
+      IsOwn k (all_calls file program n cs q)
+  in_own k n [] q is = absurd is
+  in_own k n (c ∷ cs) [] is = absurd is
+  in_own k n (c ∷ cs) (y ∷ q) is =
+      after_own k n (one_call file program n c (y ∷ q)) (one_call file program n c (y ∷ q ++ y ∷ []))
+      (IsIn k (n + 1) cs) (all_calls file program (n + 1) cs) y (body_of_call (y ∷ []) file program n c y q)
+      (λ r. in_own k (n + 1) cs r) is
 
   module _ (y : Answer Value) where
     -- with one answer more it stands in it still, or it has ended it
