@@ -23,7 +23,7 @@ function readExplored(out) {
   const lines = out.split("\n").filter(Boolean);
   return { why: lines[0], range: lines.at(-1), schedule: lines[1]?.startsWith("@") ? lines[1] + "\n" : null };
 }
-// What this means: `good`, `bad` or neither, and words. Of what wasn't looked for nothing is said.
+// What this means: `good`, `bad` or neither, and words.
 const MEANINGS = [
   [/^none, but/, "", "No wrong run, but threads may turn for ever."],
   [/^none in what/, "", "No wrong run in what was explored, which isn't all."],
@@ -33,13 +33,21 @@ const MEANINGS = [
   [/turn for ever/, "bad", "Threads turn for ever, and no schedule leads out."],
   [/wait/, "bad", "Threads wait for ever."],
 ];
-function meaningOf(why, range, options = "") {
-  const isPart = / cut\b/.test(range) && !/ 0 cut\b/.test(range);
-  if (why !== "none" || isPart) {
-    const told = why === "none" ? "none in what was explored" : why;
-    return MEANINGS.find(([pattern]) => pattern.test(told))?.slice(1) ?? ["", told];
-  }
+const isPart = range => / cut\b/.test(range) && !/ 0 cut\b/.test(range);
+const meaningIn = told => MEANINGS.find(([pattern]) => pattern.test(told))?.slice(1) ?? ["", told];
+// Of one program.
+function meaningOfExplored({ why, range }) {
+  if (why !== "none") return meaningIn(why);
+  if (isPart(range)) return meaningIn("none in what was explored");
+  return ["good", "No run is wrong: an order of whole calls explains each, and no thread waits or turns for ever."];
+}
+// Of the programs of a class. Of what wasn't looked for nothing is said.
+function meaningOfFound({ why, range }, options) {
+  if (why !== "none") return meaningIn(why);
+  if (isPart(range)) return meaningIn("none in what was explored");
   const looked = [["waits", "--no-waiting"], ["turns", "--no-turning"]].filter(([, it]) => !options.includes(it));
-  const never = looked.length ? `, and no thread ${looked.map(([it]) => it).join(" or ")} for ever` : "";
-  return ["good", `No run is wrong: an order of whole calls explains each${never}.`];
+  const never = `no thread ${looked.map(([it]) => it).join(" or ")} for ever in a call that ends when calls run one at `
+    + "a time";
+  const words = "None of these programs has a wrong run: an order of whole calls explains each";
+  return ["good", looked.length ? `${words}, and ${never}.` : `${words}.`];
 }

@@ -62,7 +62,7 @@ const find = () => start("explored", async () => {
   });
   const out = await search.result();
   if (task !== mine) throw new Stopped();
-  const found = readFound(out), [kind, meaning] = meaningOf(found.why, found.range, boundsNow());
+  const found = readFound(out), [kind, meaning] = meaningOfFound(found, boundsNow());
   outcome(kind, meaning, out);
   if (found.program !== null) {
     const own = made === null ? fileOf("program").text : "", ownSchedule = fileOf("schedule").text;
@@ -86,7 +86,7 @@ function offerBack(program, schedule) {
 }
 const explore = () => start("explores,", async () => {
   const out = await asked(["explore", "--verdict", "--explain", ...wordsOf(["states"])], files(2));
-  const { why, schedule, range } = readExplored(out), [kind, meaning] = meaningOf(why, range);
+  const explored = readExplored(out), { why, schedule } = explored, [kind, meaning] = meaningOfExplored(explored);
   outcome(kind, meaning, out);
   if (schedule !== null) {
     texts.schedule.text = schedule;

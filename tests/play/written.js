@@ -59,6 +59,22 @@ module.exports = {
     }
     trial.note(`${commands.length} commands`);
   },
+  // What is said of a class is no more than what find says of it.
+  async "what is said where none is found"(trial) {
+    const page = await trial.open(), say = "in a call that ends when calls run one at a time";
+    await trial.put(page, "class L { int f() { while (true) { } } }\n", "setup { l = new L(); }\nthread A { l.f(); }\n");
+    await trial.done(page, "find()");
+    trial.has("what came out", await trial.outcome(page), "no thread waits or turns for ever " + say);
+    await page.evaluate("takeBounds('--no-turning')");
+    await trial.done(page, "find()");
+    trial.has("what came out", await trial.outcome(page), "no thread waits for ever " + say);
+    await trial.done(page, "explore()");
+    trial.has("of the program", await trial.outcome(page), "Threads turn for ever");
+    await page.evaluate("takeBounds('--states 2')");
+    await trial.put(page, ...trial.kept("page/play/examples/tickets_locked.txt").split("%%\n"));
+    await trial.done(page, "explore()");
+    trial.has("of a part", await trial.outcome(page), "isn't all");
+  },
   async "a run of one's own"(trial) {
     const page = await trial.open(), [classes, program, schedule] = parts(trial);
     await trial.put(page, classes, program, schedule);
