@@ -10,6 +10,7 @@ pub mod Following
 pub mod Answering
 pub mod Unrenamed
 pub mod Telling
+pub mod Closed
 pub mod Likeness
 pub mod Others
 pub mod Lists

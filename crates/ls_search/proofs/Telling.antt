@@ -34,10 +34,10 @@ some_map P Q None f h = tt
 some_map P Q (Some x) f h = f x h
 
 -- what stands at a place is there, and the other way round
-at_there : {A : Type 0} (xs : List A) (k : ℕ) (x : A) → slice_get xs k ≡ Some x → Contains xs x
+pub at_there : {A : Type 0} (xs : List A) (k : ℕ) (x : A) → slice_get xs k ≡ Some x → Contains xs x
 at_there xs k x e = (k, below xs k x e, get_or_from_slice_get xs k x x e)
 
-there_at : {A : Type 0} (xs : List A) (x : A) → (h : Contains xs x) → slice_get xs h.0 ≡ Some x
+pub there_at : {A : Type 0} (xs : List A) (x : A) → (h : Contains xs x) → slice_get xs h.0 ≡ Some x
 there_at xs x h = slice_get-get_or xs h.0 x h.1 ∙ ap Some h.2
 
 acting_still : (d : Did) → IsActing d → IsStill d → ⊥
@@ -94,7 +94,7 @@ module _ {S : Type 0} (first : S) (next : S → Event → S) (file : File) (prog
       seen)
       (all : length seen ≡ length nodes) where
     -- what is known of one of them
-    known : (at : ℕ) (p : Noticed S) → slice_get (pairs_at first t states nodes) at ≡ Some p →
+    pub known : (at : ℕ) (p : Noticed S) → slice_get (pairs_at first t states nodes) at ≡ Some p →
         (s : Seen) × (slice_get seen at ≡ Some s)
         × IsExpanded first next file program (pairs_at first t states nodes) threads p s
     known at p here =

@@ -8,6 +8,7 @@ pub mod Listed
 pub mod Watching
 pub mod Grown
 pub mod Tried
+pub mod Closed
 pub mod Verdicts
 pub mod Nameless
 pub mod Runs

@@ -1,5 +1,5 @@
 -- What is told of all schedules of a program.
-use Rattle.std.specs.Prelude.{◌≡◌, ℕ, ◌++◌, Bool, false, List, replicate}
+use Rattle.std.specs.Prelude.{◌≡◌, ℕ, ◌++◌, Bool, false, List, length, replicate}
 use Rattle.std.specs.List.{fold}
 use Rattle.ls_events.specs.declared.event.Event.{Event}
 use Rattle.ls_checked.specs.CheckedTree.{File}
@@ -7,6 +7,8 @@ use Rattle.ls_checked.specs.CheckedProgram.{Program}
 use Rattle.ls_meaning.specs.declared.step.Did.TheVariants as did
 use Rattle.ls_meaning.specs.Runs.{source_history, source_run, step}
 use Rattle.ls_meaning.specs.Still.{IsActing, IsOver}
+use Rattle.ls_search_laws.specs.Configuration.{configuration_of}
+use Rattle.ls_search.specs.Closed.{HasClosed}
 use Rattle.ls_search.specs.Tried.{HasTried}
 
 -- no schedule, of any length, has a bad history
@@ -33,3 +35,10 @@ ActsAfter file program setup path thread =
 -- that acts there, and no two go on from the same one by the same thread.
 abbrev pub AreReached : File → Program → ℕ → ℕ → Type 0
 AreReached file program setup states = HasTried (ActsAfter file program setup) states
+
+-- There are so many states, from the one that these steps of the setup lead to. Whatever a thread does that acts at one of
+-- them leads to one of them, but for steps that no other thread notices and for names of objects.
+abbrev pub AreAll : File → Program → ℕ → ℕ → Type 0
+AreAll file program setup states =
+    HasClosed file (length program.threads)
+    (configuration_of file program (source_run file program (replicate setup 0))) states

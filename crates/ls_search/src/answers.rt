@@ -15,6 +15,7 @@ ghost use Rattle.ls_search.specs.declared.places.Seen.{Seen as SeenValue};
 ghost use Rattle.ls_search.specs.Places.{AreThere};
 ghost use Rattle.ls_search.specs.Searched.{AreExpanded, HidesNames};
 ghost use Rattle.ls_search.specs.SeenSearch.{IsSoundSearch, pairs_of};
+ghost use Rattle.ls_search.specs.Closed.{HasClosed};
 ghost use Rattle.ls_search.specs.Tried.{HasTried};
 ghost use Rattle.ls_search.specs.Answers.{ClosesAll, IsStuck, root_of};
 
@@ -231,6 +232,11 @@ fn tell<O: Observer>(
         IsTrue f.complete → ClosesAll (O.stands ground.now.observer.now) (O.first ground.now.observer.now)
         (O.next ground.now.observer.now) (O.bad ground.now.observer.now) (plain_file ground.now.file.now)
         (plain_program ground.now.program.now) ground.now.threads r f.bad f.stuck) }
+    ensures all { IfOk result (λ f. (r : Noticed O.State) →
+        slice_get (pairs_of (O.first ground.now.observer.now) (O.stands ground.now.observer.now) search.old) 0 ≡ Some
+        r →
+        IsTrue f.complete →
+        HasClosed (plain_file ground.now.file.now) ground.now.threads r.configuration f.states) }
     ensures bad { IfOk result (λ f. (r : Noticed O.State) →
         slice_get (pairs_of (O.first ground.now.observer.now) (O.stands ground.now.observer.now) search.old) 0 ≡ Some
         r →
@@ -284,6 +290,9 @@ pub fn search_from<'a, O: Observer>(
         (O.next ground.now.observer.now) (O.bad ground.now.observer.now)
         (plain_file ground.now.file.now) (plain_program ground.now.program.now) ground.now.threads
         (root_of (O.stands ground.now.observer.now) (table_of transitions.entry) root) f.bad f.stuck) }
+    ensures all { IfOk result (λ f. IsTrue f.complete →
+        HasClosed (plain_file ground.now.file.now) ground.now.threads
+        (root_of (O.stands ground.now.observer.now) (table_of transitions.entry) root).configuration f.states) }
     ensures bad { IfOk result (λ f. IfSome f.bad (λ path. O.bad ground.now.observer.now
         (fold (noticed_after (O.first ground.now.observer.now) (O.next ground.now.observer.now)
         (plain_file ground.now.file.now) (plain_program ground.now.program.now))

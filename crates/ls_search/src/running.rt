@@ -13,6 +13,7 @@ ghost use Rattle.ls_search.specs.Answers.{ClosesAll, IsStuck, root_of};
 ghost use Rattle.ls_search.specs.Places.{AreThere};
 ghost use Rattle.ls_search.specs.Searched.{HidesNames};
 ghost use Rattle.ls_search.specs.Tried.{HasTried};
+ghost use Rattle.ls_search.specs.Verdicts.{AreAll};
 
 use crate::answers::{Found, Root, search_from};
 use crate::numbering::{Numbered, number};
@@ -96,6 +97,8 @@ pub fn search_run<O: Observer>(
         (plain_file file.now) (plain_program program.now) (length (plain_program program.now).threads)
         (noticed_of (O.first observer.now) (O.next observer.now) (plain_file file.now) (plain_program program.now)
         (replicate r.setup 0)) r.found.bad r.found.stuck) }
+    ensures all { IfOk result (λ r. IsTrue r.found.complete →
+        AreAll (plain_file file.now) (plain_program program.now) r.setup r.found.states) }
     ensures bad { IfOk result (λ r. IfSome r.found.bad (λ path. O.bad observer.now
         (fold (noticed_after (O.first observer.now) (O.next observer.now) (plain_file file.now)
         (plain_program program.now))

@@ -7,7 +7,7 @@ ghost use Rattle.ls_checked.specs.PlainProgram.{plain_program};
 ghost use Rattle.ls_meaning.specs.Runs.{source_history};
 ghost use Rattle.ls_search_laws.specs.Noticing.{StaysBad};
 ghost use Rattle.ls_search_laws.specs.Stepping.{SetsUp};
-ghost use Rattle.ls_search.specs.Verdicts.{AllGood, AreReached, LeavesStuck, NeverStuck};
+ghost use Rattle.ls_search.specs.Verdicts.{AllGood, AreAll, AreReached, LeavesStuck, NeverStuck};
 
 use crate::answers::Found;
 use crate::nameless::Nameless;
@@ -53,6 +53,8 @@ pub fn verdict<O: Observer>(
         (NeverStuck (plain_file file.now) (plain_program program.now))) }
     ensures stuck { IfOk result (λ f. IfSome f.stuck (λ path.
         LeavesStuck (plain_file file.now) (plain_program program.now) (replicate f.setup 0 ++ path.items))) }
+    ensures all { IfOk result (λ f. IsTrue f.complete →
+        AreAll (plain_file file.now) (plain_program program.now) f.setup f.states) }
     ensures cut { IfOk result (λ f. f.complete ≡ false → f.states ≡ limit) }
     ensures few { IfOk result (λ f. f.states ≤ limit) }
     ensures reached { IfOk result (λ f.

@@ -18,6 +18,15 @@ returns-clause-closes g c =
     ap (λ (l : List (Noticed g.O.Observer.State)). slice_get l 0) c.in_ok-search.ensures.root in
     IfOk-weaker c.tell.result _ _ (λ f h. h root begins) c.tell.ensures.closes
 
+pub returns-clause-all : goal.returns-clause-all
+returns-clause-all g c =
+    let first = g.O.Observer.first c.args.ground.now.observer.now in
+    let stands = g.O.Observer.stands c.args.ground.now.observer.now in
+    let root : Noticed g.O.Observer.State = root_of stands (table_of c.args.transitions) c.args.root in
+    let begins : slice_get (pairs_of first stands c.in_ok-search.search) 0 ≡ Some root =
+    ap (λ (l : List (Noticed g.O.Observer.State)). slice_get l 0) c.in_ok-search.ensures.root in
+    IfOk-weaker c.tell.result _ _ (λ f h. h root begins) c.tell.ensures.all
+
 pub returns-clause-bad : goal.returns-clause-bad
 returns-clause-bad g c =
     let first = g.O.Observer.first c.args.ground.now.observer.now in

@@ -12,10 +12,12 @@ use Rattle.ls_search_laws.specs.Configuration.{stride}
 use Rattle.ls_search_laws.specs.Noticing.{Noticed, noticed_after}
 use Rattle.ls_transitions.specs.Seen.{table_of}
 use Rattle.ls_search.specs.Answers.{IsStuck}
+use Rattle.ls_search.specs.Closed.{HasClosed}
 use Rattle.ls_search.specs.SeenSearch.{pairs_of}
 use Rattle.ls_search.specs.Tried.{HasTried}
 use Rattle.ls_search.proofs.Growing.{grown_one}
 use Rattle.ls_search.proofs.Pairs.{map_from}
+use Rattle.ls_search.proofs.Closed.{has_closed}
 use Rattle.ls_search.proofs.Telling.{closes_all, some_map}
 use Rattle.ls_search.proofs.Trying.{has_tried}
 use Rattle.ls_search.proofs.answers.tell.Goals as goal
@@ -36,6 +38,22 @@ returns-clause-closes g c = λ root here complete.
     stands (g.O.Observer.bad c.args.ground.now.observer.now) root c.in_ok-bad.bad c.in_ok-stuck.stuck
     (λ k s e. let m = map_from stands c.close.new.search.pool.values.items k s e in (m.0, m.2)) begins
     c.in_ok-bad.ensures.none c.in_ok-stuck.ensures.none
+
+pub returns-clause-all : goal.returns-clause-all
+returns-clause-all g c = λ root here complete.
+    let first = g.O.Observer.first c.args.ground.now.observer.now in
+    let next = g.O.Observer.next c.args.ground.now.observer.now in
+    let stands = g.O.Observer.stands c.args.ground.now.observer.now in
+    let file : File = plain_file c.args.ground.now.file.now in
+    let program : Program = plain_program c.args.ground.now.program.now in
+    let begins : slice_get (pairs_of first stands c.close.new.search) 0 ≡ Some root =
+    c.in_ok-complete.ensures.keeps 0 root here in
+    let count : length c.close.new.search.found.nodes.items ≡ c.len.result = search rules in
+    subst (HasClosed file c.args.ground.now.threads root.configuration) count
+    (has_closed first next file program c.args.ground.now.threads (table_of c.close.new.search.transitions)
+    (map stands c.close.new.search.pool.values.items) c.close.new.search.found.nodes.items
+    c.in_ok-complete.ensures.sound c.close.new.search.seen.items c.in_ok-complete.ensures.expanded
+    (c.in_ok-complete.ensures.all complete) root begins)
 
 pub returns-clause-bad : goal.returns-clause-bad
 returns-clause-bad g c = λ root here.

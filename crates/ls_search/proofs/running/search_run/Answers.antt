@@ -12,6 +12,7 @@ use Rattle.ls_meaning.specs.Still.{IsActing}
 use Rattle.ls_search_laws.specs.Configuration.{stride}
 use Rattle.ls_search_laws.specs.Noticing.{Noticed, noticed_after, noticed_of}
 use Rattle.ls_search.specs.Answers.{ClosesAll, IsStuck}
+use Rattle.ls_search.specs.Closed.{HasClosed}
 use Rattle.ls_search.specs.Tried.{HasTried}
 use Rattle.ls_search.proofs.running.search_run.Goals as goal
 
@@ -30,6 +31,18 @@ returns-clause-closes g c = λ complete.
     (subst (λ (r : Noticed g.O.Observer.State). ClosesAll stands first next is_bad file program
     c.len.result r c.in_ok-found.found.bad c.in_ok-found.found.stuck)
     c.in_ok-steps.ensures.root (c.in_ok-found.ensures.closes complete))
+
+pub returns-clause-all : goal.returns-clause-all
+returns-clause-all g c = λ complete.
+    let file : File = plain_file c.args.file.now in
+    let first = g.O.Observer.first c.args.observer.now in
+    let next = g.O.Observer.next c.args.observer.now in
+    let len_is : c.len.result ≡ length c.args.program.now.threads.items = search rules in
+    subst (λ (n : ℕ). HasClosed file n
+    (noticed_of first next file (plain_program c.args.program.now) (replicate c.in_ok-steps.field-0.steps 0)).configuration
+    c.in_ok-found.found.states) (len_is ∙ sym (length-map c.args.program.now.threads.items plain_thread))
+    (subst (λ (r : Noticed g.O.Observer.State). HasClosed file c.len.result r.configuration c.in_ok-found.found.states)
+    c.in_ok-steps.ensures.root (c.in_ok-found.ensures.all complete))
 
 pub returns-clause-bad : goal.returns-clause-bad
 returns-clause-bad g c =
