@@ -22,7 +22,7 @@ use Rattle.ls_fewest_switches.specs.Levels.{IsWaiting}
 abbrev pub did_at : Progress → ℕ → Did
 did_at r u = (step r.file r.program r.state u).did
 
-still_or_acts : (d : Did) → IsStill d ⊎ IsActing d
+pub still_or_acts : (d : Did) → IsStill d ⊎ IsActing d
 still_or_acts (did.Acted action answer) = inr tt
 still_or_acts did.Waits = inl tt
 still_or_acts did.Idle = inl tt

@@ -5,6 +5,7 @@ pub mod Forward
 pub mod Growing
 pub mod Passing
 pub mod Ending
+pub mod ActingSteps
 pub mod Roots
 pub mod Reaching
 pub mod Running

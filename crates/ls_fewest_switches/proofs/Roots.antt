@@ -99,7 +99,7 @@ module _ {S : Type 0} (first : S) (next : S → Event → S) (is_bad : S → Boo
       HaveAtLeast first next is_bad stuck file program counted level →
       IsFirstWithin first next is_bad stuck file program counted schedule
   first_of level schedule w least = record {
-    within = record { sought = w.sought; ends = w.ends; few = omega arith; short = w.short };
+    within = record { acts = w.acts; sought = w.sought; ends = w.ends; few = omega arith; short = w.short };
     fewest = λ s sought ends. let h = least s sought ends in let few = w.few in omega (arith, h, few);
   }
 

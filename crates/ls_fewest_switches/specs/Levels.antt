@@ -7,6 +7,7 @@ use Rattle.ls_checked.specs.CheckedProgram.{Program}
 use Rattle.ls_meaning.specs.declared.step.Did.TheVariants as did
 use Rattle.ls_meaning.specs.Runs.{source_history, step}
 use Rattle.ls_meaning.specs.Still.{IsOver}
+use Rattle.ls_search_laws.specs.Stepping.{ActAll}
 use Rattle.ls_source.specs.Progress.{Progress}
 use Rattle.ls_fewest_switches.specs.declared.levels.Level.{Level}
 use Rattle.ls_fewest_switches.specs.declared.levels.Level.TheVariants as levels
@@ -21,8 +22,9 @@ module _ {S : Type 0} (first : S) (next : S → Event → S) (is_bad : S → Boo
   NoneWithin most = (s : List ℕ) → IsSought first next is_bad (source_history file program s) →
       EndsSo stuck file program s → costs counted 0 s ≤ most → ⊥
 
-  -- a schedule whose history is looked for, with an end as is asked, that costs so little
+  -- a schedule whose history is looked for, with an end as is asked, that costs so little, and each step of which acts
   pub record IsWithin (most : ℕ) (schedule : List ℕ) : Type 0 where
+    pub acts : ActAll file program schedule
     pub sought : IsSought first next is_bad (source_history file program schedule)
     pub ends : EndsSo stuck file program schedule
     pub few : costs counted 0 schedule ≤ most

@@ -3,6 +3,7 @@ pub mod Costs
 pub mod Shortest
 pub mod Reached
 pub mod Spots
+pub mod Acting
 pub mod Levels
 pub mod Wording
 pub mod Along

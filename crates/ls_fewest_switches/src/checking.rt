@@ -7,11 +7,12 @@ ghost use Rattle.ls_checked.specs.PlainProgram.{plain_program};
 ghost use Rattle.ls_meaning.specs.Runs.{source_history};
 ghost use Rattle.ls_meaning.specs.Still.{IsStill};
 ghost use Rattle.ls_meaning.specs.declared.step.Did.TheVariants.{Waits};
-ghost use Rattle.ls_search.specs.Runs.{progress_at};
+ghost use Rattle.ls_search_laws.specs.Stepping.{ActAll};
 ghost use Rattle.ls_source.specs.Shown.{progress_of};
 ghost use Rattle.ls_fewest_switches.specs.Switches.{EndsSo, IsSought};
 ghost use Rattle.ls_fewest_switches.specs.Levels.{IsWaiting};
 
+use crate::acting::run_along;
 use ls_checked::program::Program;
 use ls_checked::tree::File;
 use ls_events::event::Event;
@@ -20,23 +21,6 @@ use ls_observers::observer::Observer;
 use ls_search::observing::noted_of;
 use ls_source::run::SourceRun;
 use std::alloc::{AllocError, Global};
-
-/// The run after a schedule.
-fn run_after<'a>(
-    alloc: Global,
-    file: &'a File,
-    program: &'a Program,
-    steps: &[u8],
-) -> Result<SourceRun<'a>, AllocError>
-    ensures { IfOk result (λ r. progress_of r ≡
-        progress_at (plain_file file.now) (plain_program program.now) steps.now) }
-{
-    let mut run = SourceRun::new(alloc, file, program)?;
-    for thread in steps {
-        let _did = run.step(alloc, *thread as usize)?;
-    }
-    Ok(run)
-}
 
 /// Whether a step didn't act.
 fn is_still(did: Did) -> bool
@@ -87,7 +71,8 @@ fn is_bad_history<O: Observer>(
     Ok(observer.is_bad(&noted))
 }
 
-/// Whether an observer calls a schedule's history bad, and the schedule ends as is asked. True only where it is so.
+/// Whether each step of a schedule acts, an observer calls its history bad, and it ends as is asked. True only where it is
+/// so.
 pub(crate) fn is_such<O: Observer>(
     alloc: Global,
     observer: &O,
@@ -101,8 +86,13 @@ pub(crate) fn is_such<O: Observer>(
         (source_history (plain_file file.now) (plain_program program.now) steps.now)) }
     ensures ends { IfOk result (λ b. IsTrue b →
         EndsSo stuck (plain_file file.now) (plain_program program.now) steps.now) }
+    ensures acts { IfOk result (λ b. IsTrue b →
+        ActAll (plain_file file.now) (plain_program program.now) steps.now) }
 {
-    let mut run = run_after(alloc, file, program, steps)?;
+    let Some(run) = run_along(alloc, file, program, steps)? else {
+        return Ok(false);
+    };
+    let mut run = run;
     if !is_bad_history(alloc, observer, run.history())? {
         return Ok(false);
     }

@@ -5,6 +5,7 @@ ghost use Rattle.ls_checked.specs.Plain.{plain_file};
 ghost use Rattle.ls_checked.specs.PlainProgram.{plain_program};
 ghost use Rattle.ls_meaning.specs.Runs.{source_history, start};
 ghost use Rattle.ls_search_laws.specs.Configuration.{configuration_of};
+ghost use Rattle.ls_search_laws.specs.Stepping.{ActAll};
 ghost use Rattle.ls_search.specs.Places.{AreThere, configuration_at};
 ghost use Rattle.ls_transitions.specs.Seen.{table_of};
 ghost use Rattle.ls_fewest_switches.specs.Levels.{IsBelow};
@@ -130,6 +131,8 @@ pub fn simplest(
         source_history (plain_file file.now) (plain_program program.now) found.now) }
     ensures ends { IfOk result (λ r. EndsSo target.stuck (plain_file file.now) (plain_program program.now) found.now →
         EndsSo target.stuck (plain_file file.now) (plain_program program.now) r.schedule) }
+    ensures acts { IfOk result (λ r. ActAll (plain_file file.now) (plain_program program.now) found.now →
+        ActAll (plain_file file.now) (plain_program program.now) r.schedule) }
     ensures few { IfOk result (λ r. switches r.schedule ≤ switches found.now) }
     ensures fewest { IfOk result (λ r. IsTrue r.fewest →
         HasFewest target.stuck (plain_file file.now) (plain_program program.now) r.schedule) }
@@ -180,6 +183,8 @@ pub fn simplest_bad<O: Observer>(
         (source_history (plain_file file.now) (plain_program program.now) r.schedule)) }
     ensures ends { IfOk result (λ r. EndsSo target.stuck (plain_file file.now) (plain_program program.now) found.now →
         EndsSo target.stuck (plain_file file.now) (plain_program program.now) r.schedule) }
+    ensures acts { IfOk result (λ r. ActAll (plain_file file.now) (plain_program program.now) found.now →
+        ActAll (plain_file file.now) (plain_program program.now) r.schedule) }
     ensures few { IfOk result (λ r. switches r.schedule ≤ switches found.now) }
     ensures fewest { IfOk result (λ r. IsTrue r.fewest →
         HasFewestOf (IsSought (O.first observer.now) (O.next observer.now) (O.bad observer.now)) target.stuck

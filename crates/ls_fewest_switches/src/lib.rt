@@ -2,6 +2,7 @@
 //! one.
 #![tactic(auto)]
 
+mod acting;
 mod along;
 mod among;
 mod anything;
@@ -17,6 +18,7 @@ mod starting;
 mod stuck;
 mod wording;
 
+pub use acting::{acting_steps, run_along};
 pub use fewest::{SimpleRun, Target, simplest, simplest_bad, switches};
 pub use shortest::{ShortRun, shortest_among};
 pub use stuck::simplest_stuck;

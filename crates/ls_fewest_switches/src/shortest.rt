@@ -6,6 +6,7 @@ ghost use Rattle.ls_checked.specs.Plain.{plain_file};
 ghost use Rattle.ls_checked.specs.PlainProgram.{plain_program};
 ghost use Rattle.ls_meaning.specs.Runs.{source_history, start};
 ghost use Rattle.ls_search_laws.specs.Configuration.{configuration_of};
+ghost use Rattle.ls_search_laws.specs.Stepping.{ActAll};
 ghost use Rattle.ls_search.specs.Places.{AreThere, configuration_at};
 ghost use Rattle.ls_transitions.specs.Seen.{table_of};
 ghost use Rattle.ls_fewest_switches.specs.Reached.{NeverBad};
@@ -58,6 +59,8 @@ fn shorten<'a, O: Observer>(
         (source_history (plain_file file.now) (plain_program program.now) schedule.old) →
         IsSought (O.first ground.old.observer.now) (O.next ground.old.observer.now) (O.bad ground.old.observer.now)
         (source_history (plain_file file.now) (plain_program program.now) schedule.new)) }
+    ensures acts { OnOk result (ActAll (plain_file file.now) (plain_program program.now) schedule.old →
+        ActAll (plain_file file.now) (plain_program program.now) schedule.new) }
     ensures short { OnOk result (length schedule.new ≤ length schedule.old) }
     ensures shortest { IfOk result (λ known. IsTrue known →
         IsShortestOf (IsSought (O.first ground.old.observer.now) (O.next ground.old.observer.now)
@@ -94,6 +97,8 @@ fn shortest_bad<O: Observer>(
         IsSought (O.first ground.entry.observer.now) (O.next ground.entry.observer.now)
         (O.bad ground.entry.observer.now)
         (source_history (plain_file file.now) (plain_program program.now) r.schedule)) }
+    ensures acts { IfOk result (λ r. ActAll (plain_file file.now) (plain_program program.now) found.now →
+        ActAll (plain_file file.now) (plain_program program.now) r.schedule) }
     ensures short { IfOk result (λ r. length r.schedule ≤ length found.now) }
     ensures shortest { IfOk result (λ r. IsTrue r.shortest →
         IsShortestOf (IsSought (O.first ground.entry.observer.now) (O.next ground.entry.observer.now)
@@ -122,6 +127,8 @@ pub fn shortest_among(
         (source_history (plain_file file.now) (plain_program program.now) found.now) →
         Contains (map (λ v. v.items) histories.now)
         (source_history (plain_file file.now) (plain_program program.now) r.schedule)) }
+    ensures acts { IfOk result (λ r. ActAll (plain_file file.now) (plain_program program.now) found.now →
+        ActAll (plain_file file.now) (plain_program program.now) r.schedule) }
     ensures short { IfOk result (λ r. length r.schedule ≤ length found.now) }
     ensures shortest { IfOk result (λ r. IsTrue r.shortest →
         IsShortestOf (Contains (map (λ v. v.items) histories.now)) (plain_file file.now) (plain_program program.now)

@@ -3,6 +3,7 @@
 ghost use Rattle.std.specs.Prelude.{◌≡◌, ◌≤◌, IfOk, IsTrue};
 ghost use Rattle.ls_checked.specs.Plain.{plain_file};
 ghost use Rattle.ls_checked.specs.PlainProgram.{plain_program};
+ghost use Rattle.ls_search_laws.specs.Stepping.{ActAll};
 ghost use Rattle.ls_search.specs.Verdicts.{LeavesStuck};
 ghost use Rattle.ls_fewest_switches.specs.Switches.{HasFewestStuck, switches};
 
@@ -26,6 +27,8 @@ pub fn simplest_stuck(
 ) -> Result<SimpleRun, AllocError>
     ensures stuck { IfOk result (λ r. LeavesStuck (plain_file file.now) (plain_program program.now) found.now →
         LeavesStuck (plain_file file.now) (plain_program program.now) r.schedule) }
+    ensures acts { IfOk result (λ r. ActAll (plain_file file.now) (plain_program program.now) found.now →
+        ActAll (plain_file file.now) (plain_program program.now) r.schedule) }
     ensures few { IfOk result (λ r. switches r.schedule ≤ switches found.now) }
     ensures fewest { IfOk result (λ r. IsTrue r.fewest →
         HasFewestStuck (plain_file file.now) (plain_program program.now) r.schedule) }

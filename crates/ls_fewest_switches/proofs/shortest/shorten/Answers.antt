@@ -7,6 +7,7 @@ use Rattle.ls_checked.specs.Plain.{plain_file}
 use Rattle.ls_checked.specs.PlainProgram.{plain_program}
 use Rattle.ls_meaning.specs.Runs.{source_history, start}
 use Rattle.ls_search_laws.specs.Configuration.{configuration_of}
+use Rattle.ls_search_laws.specs.Stepping.{ActAll}
 use Rattle.ls_transitions.specs.Tables.{Table}
 use Rattle.ls_transitions.specs.Seen.{table_of}
 use Rattle.ls_fewest_switches.specs.Switches.{IsSought}
@@ -25,6 +26,7 @@ rounds-init g c = record {
   width = c.requires.width;
   file = c.requires.file;
   start = c.requires.start;
+  acts = λ h. h;
   short = omega arith;
   sought = λ h. h;
 }
@@ -57,6 +59,7 @@ rounds-preserved g c =
       start = still_at t t' c.within.ensures.grows c.rounds.numbered.store c.within.new.numbered.store
           c.rounds.numbered.works.items c.within.new.numbered.works.items c.within.ensures.store
           c.within.ensures.works inv.there (configuration_of file program (start program)) inv.start;
+      acts = λ _. subst (ActAll file program) (sym (c.assign.ensures ∙ c.of.ensures)) w.acts;
       short = omega (arith, less, inv.short, c.len.ensures, ap length c.assign.ensures, ap length c.of.ensures);
       sought = λ _. subst (λ s. IsSought first next is_bad (source_history file program s)) (sym (c.assign.ensures ∙ c.of.ensures))
           w.sought;
