@@ -7,3 +7,4 @@ mod Stages
 mod Pushed
 mod Acting
 pub mod Once
+pub mod WholeRuns

@@ -5,6 +5,11 @@ use Rattle.ls_checked.specs.CheckedProgram.{Program}
 use Rattle.ls_meaning.specs.Runs.{source_history}
 use Rattle.ls_linearizable.specs.Linearizable.{IsLinearizable}
 use Rattle.ls_fewest_switches.specs.Switches.{switches}
+use Rattle.ls_search.specs.Verdicts.{LeavesStuck}
+use Rattle.ls_search_laws.specs.Stepping.{ActAll}
+use Rattle.ls_serial_search.specs.Found.{IsNotJudged}
+use Rattle.ls_serial_search.specs.Told.{usual}
+use Rattle.ls_serial_search.specs.declared.telling.Doubt.{Doubt}
 
 -- the history of each schedule, of any length, is linearizable
 abbrev pub AllLinearizable : File → Program → Type 0
@@ -13,6 +18,22 @@ AllLinearizable file program = (schedule : List ℕ) → IsLinearizable file pro
 -- that of this schedule isn't
 abbrev pub IsNotLinearizable : File → Program → List ℕ → Type 0
 IsNotLinearizable file program schedule = IsLinearizable file program (source_history file program schedule) → ⊥
+
+-- Each step of the schedule acts, and its history isn't linearizable.
+pub record IsBadRun (file : File) (program : Program) (schedule : List ℕ) : Type 0 where
+  pub acts : ActAll file program schedule
+  pub bad : IsNotLinearizable file program schedule
+
+-- Each step acts, and no serial history that was found explains the schedule's. Some may not have been found, for this
+-- reason.
+pub record IsUnjudged (file : File) (program : Program) (doubt : Doubt) (schedule : List ℕ) : Type 0 where
+  pub acts : ActAll file program schedule
+  pub unexplained : IsNotJudged file program usual doubt (source_history file program schedule)
+
+-- Each step acts, and after the schedule no thread acts and one waits for a lock.
+pub record IsStuckRun (file : File) (program : Program) (schedule : List ℕ) : Type 0 where
+  pub acts : ActAll file program schedule
+  pub stuck : LeavesStuck file program schedule
 
 -- no schedule whose history isn't linearizable, of any length, has fewer context switches
 abbrev pub IsSimplestBad : File → Program → List ℕ → Type 0

@@ -9,6 +9,9 @@ use Rattle.ls_linearizable.specs.Linearizable.{AreTrue, IsLinearizable, TellSeri
 use Rattle.ls_linearizable.specs.Judging.{Verdict, later, now}
 use Rattle.ls_linearizable.specs.Resting.{AreSerial, refutes}
 use Rattle.ls_linearizable.specs.Same.{same_event}
+use Rattle.ls_serial_search.specs.Found.{IsNotJudged}
+use Rattle.ls_serial_search.specs.declared.telling.Bounds.{Bounds}
+use Rattle.ls_serial_search.specs.declared.telling.Doubt.{Doubt}
 use Rattle.ls_source_judge.specs.Watched.{runs_of}
 use Rattle.ls_source_judge.specs.declared.watched.RestsObserver.{RestsObserver}
 
@@ -30,6 +33,12 @@ abbrev pub BadAreNotLinearizable : RestsObserver → File → Program → Type 0
 BadAreNotLinearizable o file program =
     (schedule : List ℕ) → is_bad o (source_history file program schedule) ≡ true →
     IsLinearizable file program (source_history file program schedule) → ⊥
+
+-- no history that was found explains one that is bad, where this bound was met
+abbrev pub BadAreNotJudged : RestsObserver → File → Program → Bounds → Doubt → Type 0
+BadAreNotJudged o file program bounds doubt =
+    (schedule : List ℕ) → is_bad o (source_history file program schedule) ≡ true →
+    IsNotJudged file program bounds doubt (source_history file program schedule)
 
 -- so it is if the runs are serial histories of schedules
 abbrev pub GoodIsLinearizable : Type 0

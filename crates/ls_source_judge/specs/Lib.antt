@@ -5,3 +5,4 @@ pub mod Stepped
 pub mod Watched
 pub mod Laws
 pub mod Once
+pub mod Wholes

@@ -1,22 +1,23 @@
 // What is told of the histories and the ends of all schedules of a program.
 
-ghost use Rattle.std.specs.Prelude.{◌≡◌, ◌≤◌, ◌++◌, IfNone, IfOk, IfSome, IsTrue, false, replicate};
+ghost use Rattle.std.specs.Prelude.{◌≡◌, ◌≤◌, IfNone, IfOk, IfSome, IsTrue, false};
 ghost use Rattle.ls_serial_search.specs.Told.{IsDoubt, usual};
 ghost use Rattle.ls_checked.specs.Plain.{plain_file};
 ghost use Rattle.ls_checked.specs.PlainProgram.{plain_program};
 ghost use Rattle.ls_search_laws.specs.Stepping.{SetsUp};
-ghost use Rattle.ls_search.specs.Verdicts.{AreReached, LeavesStuck, NeverStuck};
-ghost use Rattle.ls_source_judge.specs.Judged.{AllLinearizable, IsNotLinearizable};
+ghost use Rattle.ls_search.specs.Verdicts.{AreAll, AreReached, NeverStuck};
+ghost use Rattle.ls_source_judge.specs.Judged.{AllLinearizable, IsBadRun, IsStuckRun, IsUnjudged};
 
 use crate::laws::bad_stays_bad;
 use crate::watching::serial_observer;
+use crate::wholes::whole_of;
 use ls_checked::program::Program;
 use ls_checked::tree::File;
 use ls_search::verdict::{Finding, verdict};
 use ls_serial_search::telling::{Bounds, Doubt};
 use std::alloc::{AllocError, Global};
 
-/// What is told of all schedules of a program. A path is of steps after those of the setup.
+/// What is told of all schedules of a program.
 #[derive(Drop)]
 pub struct Judged {
     /// How many steps of the setup there are.
@@ -25,16 +26,17 @@ pub struct Judged {
     pub states: usize,
     /// Whether these are all.
     pub complete: bool,
-    /// A path to a history that no serial history explains that is known.
+    /// A schedule whose history no serial history explains that is known.
     pub bad: Option<Vec<u8>>,
     /// Why some serial histories may not be known. If there is no reason, that history isn't linearizable.
     pub doubt: Option<Doubt>,
-    /// A path to a state in which no thread acts and one waits for a lock.
+    /// A schedule after which no thread acts and one waits for a lock.
     pub stuck: Option<Vec<u8>>,
 }
 
 /// Judges the histories of all schedules of a program by its serial histories, and where threads come to wait. At most
-/// so many states are kept. A refusal is that memory ran out, or that a store, a work or a state has no number left.
+/// so many states are kept. Each step of a schedule that is told acts. A refusal is that memory ran out, or that a store,
+/// a work or a state has no number left.
 pub fn judge_schedules(
     alloc: Global,
     file: &File,
@@ -44,13 +46,17 @@ pub fn judge_schedules(
     ensures up { IfOk result (λ j. SetsUp (plain_file file.now) (plain_program program.now) j.setup) }
     ensures good { IfOk result (λ j. IsTrue j.complete → IfNone j.bad
         (AllLinearizable (plain_file file.now) (plain_program program.now))) }
-    ensures bad { IfOk result (λ j. IfNone j.doubt (IfSome j.bad (λ path.
-        IsNotLinearizable (plain_file file.now) (plain_program program.now) (replicate j.setup 0 ++ path.items)))) }
+    ensures bad { IfOk result (λ j. IfNone j.doubt (IfSome j.bad (λ s.
+        IsBadRun (plain_file file.now) (plain_program program.now) s.items))) }
     ensures doubt { IfOk result (λ j. IfSome j.doubt (IsDoubt (plain_file file.now) (plain_program program.now) usual)) }
+    ensures unjudged { IfOk result (λ j. IfSome j.doubt (λ d. IfSome j.bad (λ s.
+        IsUnjudged (plain_file file.now) (plain_program program.now) d s.items))) }
     ensures free { IfOk result (λ j. IsTrue j.complete → IfNone j.stuck
         (NeverStuck (plain_file file.now) (plain_program program.now))) }
-    ensures stuck { IfOk result (λ j. IfSome j.stuck (λ path.
-        LeavesStuck (plain_file file.now) (plain_program program.now) (replicate j.setup 0 ++ path.items))) }
+    ensures stuck { IfOk result (λ j. IfSome j.stuck (λ s.
+        IsStuckRun (plain_file file.now) (plain_program program.now) s.items)) }
+    ensures all { IfOk result (λ j. IsTrue j.complete →
+        AreAll (plain_file file.now) (plain_program program.now) j.setup j.states) }
     ensures cut { IfOk result (λ j. j.complete ≡ false → j.states ≡ limit) }
     ensures few { IfOk result (λ j. j.states ≤ limit) }
     ensures reached { IfOk result (λ j.
@@ -62,9 +68,11 @@ pub fn judge_schedules(
         setup,
         states,
         complete,
-        bad,
-        stuck,
+        bad: bad_path,
+        stuck: stuck_path,
     } = verdict(alloc, &serial.observer, file, program, limit)?;
+    let bad = whole_of(alloc, file, program, setup, bad_path)?;
+    let stuck = whole_of(alloc, file, program, setup, stuck_path)?;
     Ok(Judged {
         setup,
         states,

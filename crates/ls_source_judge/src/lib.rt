@@ -14,6 +14,7 @@ mod stepping;
 mod tabling;
 mod watched;
 pub mod watching;
+mod wholes;
 
 pub use judging::{Judged, judge_schedules};
 pub use simplifying::simplest_unexplained;

@@ -5,6 +5,7 @@ ghost use Rattle.ls_checked.specs.Plain.{plain_file};
 ghost use Rattle.ls_checked.specs.PlainProgram.{plain_program};
 ghost use Rattle.ls_fewest_switches.specs.Switches.{HasFewestOf, IsSought, switches};
 ghost use Rattle.ls_meaning.specs.Runs.{source_history};
+ghost use Rattle.ls_search_laws.specs.Stepping.{ActAll};
 ghost use Rattle.ls_source_judge.specs.Laws.{BadAreNotLinearizable, GoodAreLinearizable};
 ghost use Rattle.ls_source_judge.specs.Judged.{IsNotLinearizable, IsSimplestBad};
 
@@ -30,6 +31,8 @@ fn simplest_by(
     requires bad { BadAreNotLinearizable serial.now.observer (plain_file file.now) (plain_program program.now) }
     ensures bad { IfOk result (λ r. IsNotLinearizable (plain_file file.now) (plain_program program.now) found.now →
         IsNotLinearizable (plain_file file.now) (plain_program program.now) r.schedule) }
+    ensures acts { IfOk result (λ r. ActAll (plain_file file.now) (plain_program program.now) found.now →
+        ActAll (plain_file file.now) (plain_program program.now) r.schedule) }
     ensures few { IfOk result (λ r. switches r.schedule ≤ switches found.now) }
     ensures fewest { IfOk result (λ r. IsTrue r.fewest →
         IsSimplestBad (plain_file file.now) (plain_program program.now) r.schedule) }
@@ -55,6 +58,8 @@ pub fn simplest_unexplained(
 ) -> Result<SimpleRun, AllocError>
     ensures bad { IfOk result (λ r. IsNotLinearizable (plain_file file.now) (plain_program program.now) found.now →
         IsNotLinearizable (plain_file file.now) (plain_program program.now) r.schedule) }
+    ensures acts { IfOk result (λ r. ActAll (plain_file file.now) (plain_program program.now) found.now →
+        ActAll (plain_file file.now) (plain_program program.now) r.schedule) }
     ensures few { IfOk result (λ r. switches r.schedule ≤ switches found.now) }
     ensures fewest { IfOk result (λ r. IsTrue r.fewest →
         IsSimplestBad (plain_file file.now) (plain_program program.now) r.schedule) }

@@ -4,7 +4,7 @@ ghost use Rattle.std.specs.Prelude.{IfNone, IfOk, IfSome};
 ghost use Rattle.ls_checked.specs.Plain.{plain_file};
 ghost use Rattle.ls_checked.specs.PlainProgram.{plain_program};
 ghost use Rattle.ls_serial_search.specs.Told.{IsDoubt};
-ghost use Rattle.ls_source_judge.specs.Laws.{BadAreNotLinearizable, GoodAreLinearizable};
+ghost use Rattle.ls_source_judge.specs.Laws.{BadAreNotJudged, BadAreNotLinearizable, GoodAreLinearizable};
 
 use crate::watched::RestsObserver;
 use ls_checked::program::Program;
@@ -31,6 +31,8 @@ pub fn serial_observer(
     ensures good { IfOk result (λ s. GoodAreLinearizable s.observer (plain_file file.now) (plain_program program.now)) }
     ensures bad { IfOk result (λ s. IfNone s.doubt
         (BadAreNotLinearizable s.observer (plain_file file.now) (plain_program program.now))) }
+    ensures unjudged { IfOk result (λ s. IfSome s.doubt
+        (BadAreNotJudged s.observer (plain_file file.now) (plain_program program.now) bounds)) }
     ensures doubt { IfOk result (λ s. IfSome s.doubt (IsDoubt (plain_file file.now) (plain_program program.now) bounds)) }
 {
     let found = serial_histories(alloc, file, program, bounds)?;
