@@ -15,7 +15,7 @@ use Rattle.ls_source_rows.specs.Rows as rows
 use Rattle.ls_source_rows.specs.declared.rows.Ending.{Ending as SourceEnding}
 use Rattle.ls_source_rows.specs.declared.rows.Ending.TheVariants as source
 use Rattle.ls_source_rows.specs.declared.rows.Row.{Row as SourceRow}
-use Rattle.ls_source_rows.proofs.Reached.{acts_more}
+use Rattle.ls_search_laws.proofs.Acting.{acts_more}
 use Rattle.ls_explore.specs.declared.rows.Ending.{Ending}
 use Rattle.ls_explore.specs.declared.rows.Ending.TheVariants as ending
 use Rattle.ls_explore.specs.Rows.{ActAll, AreApart, HasEnd, IsEnd, IsToldBy, NoneEnds, StandAlone, TellStates, Told}

@@ -1,5 +1,5 @@
 -- Histories with paths that lead to them.
-pub use Rattle.ls_source_rows.specs.Rows.{ActAll}
+pub use Rattle.ls_search_laws.specs.Stepping.{ActAll}
 use Rattle.std.specs.Prelude.{◌≡◌, ◌≢◌, ℕ, ◌<◌, ◌++◌, [], ◌∷◌, AllPairs, Bool, true, false, List, Option, length, map}
 use Rattle.std.specs.Prelude.{replicate, Contains, None, Some}
 use Rattle.std.specs.declared.cmp.Ordering.{Ordering}

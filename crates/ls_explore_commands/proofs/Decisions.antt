@@ -1,5 +1,5 @@
 -- What `explore --verdict` may answer.
-use Rattle.std.proofs.Common.{◌≡◌, ◌⊎◌, inl, inr, ℕ, Bool, true, false, List, Ok, Err, sym, subst}
+use Rattle.std.proofs.Common.{◌≡◌, inl, inr, ℕ, Bool, true, false, List, Ok, Err, sym, subst}
 use Rattle.ls_checked.specs.CheckedTree.{File}
 use Rattle.ls_checked.specs.CheckedProgram.{Program}
 use Rattle.ls_checked.specs.declared.program.Program.{Program as CodeProgram}
@@ -12,18 +12,20 @@ use Rattle.ls_translation.specs.declared.fault.TranslationFault.{TranslationFaul
 use Rattle.ls_translation.specs.declared.fault.TranslationFault.TheVariants as translation
 use Rattle.ls_faults.specs.Faults.{lifted_translation}
 use Rattle.ls_faults.specs.Given.{GivesText}
-use Rattle.ls_explore_commands.specs.Verdicts.{Decided, TooLong}
+use Rattle.ls_explore_commands.specs.Verdicts.{Decided, IsRefusalOf, IsTold, TooLong}
 
 -- a schedule that is too long
-pub too_long : (i : Image) (limit : ℕ) (f : TranslationFault) →
-    (f ≡ translation.Memory) ⊎ (f ≡ translation.ResultTooLong) → ¬ AreBadStates limit →
+pub too_long : (i : Image) (limit : ℕ) (steps : List ℕ) (f : TranslationFault) → IsRefusalOf steps f →
+    ¬ AreBadStates limit →
+    IsTold i steps →
     GivesText (Decided i limit) (Err (lifted_translation f))
-too_long i limit translation.Memory only good = tt
-too_long i limit translation.BadCells (inl wrong) good = absurd cc
-too_long i limit translation.BadCells (inr wrong) good = absurd cc
-too_long i limit (translation.DoesNotFit step) (inl wrong) good = absurd cc
-too_long i limit (translation.DoesNotFit step) (inr wrong) good = absurd cc
-too_long i limit translation.ResultTooLong only good = TooLong good
+too_long i limit steps translation.Memory only good told = tt
+too_long i limit steps translation.BadCells (inl wrong) good told = absurd cc
+too_long i limit steps translation.BadCells (inr wrong) good told = let e = wrong.0 in absurd cc
+too_long i limit steps (translation.DoesNotFit step) (inl wrong) good told = absurd cc
+too_long i limit steps (translation.DoesNotFit step) (inr wrong) good told = let e = wrong.0 in absurd cc
+too_long i limit steps translation.ResultTooLong (inl wrong) good told = absurd cc
+too_long i limit steps translation.ResultTooLong (inr long) good told = TooLong steps good told long.1
 
 pub not_both : {b : Bool} → b ≡ true → b ≡ false → ⊥
 not_both e f = cc

@@ -1,4 +1,4 @@
--- What rows tell.
+-- Schedules that are printed: of rows, and of verdicts.
 use Rattle.ls_events.specs.Limits.{most_steps}
 use Rattle.std.specs.Prelude.{◌≡◌, ◌≤◌, ℕ, List, length, take, Ok, Contains}
 use Rattle.ls_image.specs.Images.{Compiles}
@@ -10,6 +10,7 @@ use Rattle.ls_explore.specs.Rows.{Told}
 use Rattle.ls_explore.specs.Tellings.{TellTruth, schedule_of}
 use Rattle.ls_commands.specs.Compiled.{names_of_image}
 use Rattle.ls_report.specs.Events.{Text}
+use Rattle.ls_explore_commands.specs.Readable.{AreReadBack}
 
 -- what is printed of a row's schedule, of at most 1,000,000 steps, reads back as the same
 abbrev pub RowsReadBack : Type 0
@@ -25,3 +26,7 @@ BeginningsReadBack =
     TellTruth (file_of i) (program_of i) k rows → Contains rows r → length (take n (schedule_of k r)) ≤ most_steps →
     steps_of (names_of_image i) (schedule_text (names_of_image i) (take n (schedule_of k r)))
     ≡ Ok (take n (schedule_of k r))
+
+-- so does what is printed of any schedule of at most 1,000,000 steps, each of which acts, as that of a verdict is
+abbrev pub VerdictsReadBack : Type 0
+VerdictsReadBack = (classes program : Text) (i : Image) → Compiles classes program i → AreReadBack i

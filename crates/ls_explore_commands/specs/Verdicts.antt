@@ -1,9 +1,11 @@
 -- What `explore --verdict` says.
-use Rattle.std.specs.Prelude.{◌≡◌, ◌≤◌, ℕ, Bool, true, false, List, Result, Ok, Err}
+use Rattle.std.specs.Prelude.{◌≡◌, ◌⊎◌, ◌≤◌, ◌<◌, ℕ, Bool, true, false, List, Result, Ok, Err, length}
+use Rattle.ls_events.specs.Limits.{most_steps}
 use Rattle.ls_checked.specs.CheckedTree.{File}
 use Rattle.ls_checked.specs.CheckedProgram.{Program}
 use Rattle.ls_image.specs.declared.image.Image.{Image}
 use Rattle.ls_translation.specs.Texts.{file_of, program_of}
+use Rattle.ls_translation.specs.declared.fault.TranslationFault.{TranslationFault}
 use Rattle.ls_translation.specs.declared.fault.TranslationFault.TheVariants as translation
 use Rattle.ls_explore.specs.Faults.{AreBadStates}
 use Rattle.ls_explore.specs.declared.fault.ExploreFault.TheVariants as explore
@@ -12,43 +14,59 @@ use Rattle.ls_faults.specs.declared.fault.ToolFault.{ToolFault}
 use Rattle.ls_faults.specs.declared.fault.ToolFault.TheVariants as faults
 use Rattle.ls_commands.specs.Compiled.{AnswersOn, names_of_image}
 use Rattle.ls_fewest_switches.specs.Switches.{HasFewest, HasFewestStuck}
-use Rattle.ls_search_laws.specs.Stepping.{SetsUp}
-use Rattle.ls_serial_search.specs.Told.{IsDoubt, usual}
+use Rattle.ls_search_laws.specs.Stepping.{ActAll, SetsUp}
 use Rattle.ls_serial_search.specs.declared.telling.Doubt.{Doubt}
-use Rattle.ls_source_judge.specs.Judged.{AllLinearizable, IsNotLinearizable, IsSimplestBad}
+use Rattle.ls_source_judge.specs.Judged.{AllLinearizable, IsBadRun, IsSimplestBad, IsStuckRun, IsUnjudged}
 use Rattle.ls_spinning.specs.Turning.{NeverTurns, TurnsForEver}
-use Rattle.ls_search.specs.Verdicts.{AreReached, LeavesStuck, NeverStuck}
+use Rattle.ls_search.specs.Verdicts.{AreAll, AreReached, NeverStuck}
 use Rattle.ls_explore_reports.specs.ImageNames.{names_in}
+use Rattle.ls_explore_commands.specs.Readable.{IsReadBack}
 use Rattle.ls_explore_commands.specs.Reports.{bad_text, doubtful_text, free_text, stuck_and_doubtful_text, stuck_text}
 use Rattle.ls_explore_commands.specs.Reports.{turning_text, unsure_text}
 
 -- At most so many states were kept; and if these aren't all, so many. After steps of the setup, each of which acts, there
 -- are as many schedules: each goes on from an earlier one by steps of a thread that acts there, and no two from the same
--- one by the same thread.
+-- one by the same thread. If these are all, there are as many states that threads don't leave, but for steps that no
+-- other thread notices and for names of objects.
 pub record IsExtent (file : File) (program : Program) (limit states : ℕ) (complete : Bool) : Type 0 where
   pub within : states ≤ limit
   pub cut : complete ≡ false → states ≡ limit
   pub setup : ℕ
   pub up : SetsUp file program setup
   pub reached : AreReached file program setup states
+  pub all : complete ≡ true → AreAll file program setup states
+
+-- What is told of a schedule: its history isn't linearizable, or it isn't known whether it is, or after it no thread
+-- acts, and one waits for a lock.
+pub data IsTold (i : Image) (schedule : List ℕ) : Type 0 where
+  Bad : IsBadRun (file_of i) (program_of i) schedule → IsTold i schedule
+  Unjudged : (doubt : Doubt) → IsUnjudged (file_of i) (program_of i) doubt schedule → IsTold i schedule
+  Stuck : IsStuckRun (file_of i) (program_of i) schedule → IsTold i schedule
+
+-- memory ran out, or these are more steps than a schedule may have
+abbrev pub IsRefusalOf : List ℕ → TranslationFault → Type 0
+IsRefusalOf steps f = (f ≡ translation.Memory) ⊎ ((f ≡ translation.ResultTooLong) × (most_steps < length steps))
 
 -- The text of a verdict, or why there is none. If all states were kept, it is said of each schedule, of any length. If the
 -- context switches of a run are printed, no schedule that is wrong so has fewer, of any length. Of a history of which it
--- isn't known whether it is linearizable, no schedule with this history has fewer.
+-- isn't known whether it is linearizable, no schedule with this history has fewer. Each step of a schedule that is printed
+-- acts, and the schedule is read as it is printed.
 pub data Decided (i : Image) (limit : ℕ) : Result Text ToolFault → Type 0 where
   NoStates : AreBadStates limit → Decided i limit (Err (faults.Explore explore.BadStates))
   -- the history of this schedule isn't linearizable
   IsBad : (schedule : List ℕ) (fewest : Bool) (states : ℕ) (complete : Bool) →
       ¬ AreBadStates limit →
       IsExtent (file_of i) (program_of i) limit states complete →
-      IsNotLinearizable (file_of i) (program_of i) schedule →
+      IsBadRun (file_of i) (program_of i) schedule →
+      IsReadBack i schedule →
       (fewest ≡ true → IsSimplestBad (file_of i) (program_of i) schedule) →
       Decided i limit (Ok (bad_text fewest (names_in i) (names_of_image i) schedule states complete))
   -- no serial history that was found explains it, and some may not have been found, for this reason
   IsDoubtful : (doubt : Doubt) (schedule : List ℕ) (fewest : Bool) (states : ℕ) (complete : Bool) →
       ¬ AreBadStates limit →
       IsExtent (file_of i) (program_of i) limit states complete →
-      IsDoubt (file_of i) (program_of i) usual doubt →
+      IsUnjudged (file_of i) (program_of i) doubt schedule →
+      IsReadBack i schedule →
       (complete ≡ true → NeverStuck (file_of i) (program_of i)) →
       (fewest ≡ true → HasFewest false (file_of i) (program_of i) schedule) →
       Decided i limit (Ok (doubtful_text doubt fewest (names_in i) (names_of_image i) schedule states complete))
@@ -57,8 +75,10 @@ pub data Decided (i : Image) (limit : ℕ) : Result Text ToolFault → Type 0 wh
       (states : ℕ) (complete : Bool) →
       ¬ AreBadStates limit →
       IsExtent (file_of i) (program_of i) limit states complete →
-      LeavesStuck (file_of i) (program_of i) stuck →
-      IsDoubt (file_of i) (program_of i) usual doubt →
+      IsStuckRun (file_of i) (program_of i) stuck →
+      IsReadBack i stuck →
+      IsUnjudged (file_of i) (program_of i) doubt schedule →
+      IsReadBack i schedule →
       (stuck_fewest ≡ true → HasFewestStuck (file_of i) (program_of i) stuck) →
       (fewest ≡ true → HasFewest false (file_of i) (program_of i) schedule) →
       Decided i limit (Ok (stuck_and_doubtful_text stuck stuck_fewest doubt fewest (names_in i) (names_of_image i)
@@ -67,7 +87,8 @@ pub data Decided (i : Image) (limit : ℕ) : Result Text ToolFault → Type 0 wh
   IsStuck : (schedule : List ℕ) (fewest : Bool) (states : ℕ) (complete : Bool) →
       ¬ AreBadStates limit →
       IsExtent (file_of i) (program_of i) limit states complete →
-      LeavesStuck (file_of i) (program_of i) schedule →
+      IsStuckRun (file_of i) (program_of i) schedule →
+      IsReadBack i schedule →
       (fewest ≡ true → HasFewestStuck (file_of i) (program_of i) schedule) →
       (complete ≡ true → AllLinearizable (file_of i) (program_of i)) →
       Decided i limit (Ok (stuck_text fewest (names_in i) (names_of_image i) schedule states complete))
@@ -75,7 +96,9 @@ pub data Decided (i : Image) (limit : ℕ) : Result Text ToolFault → Type 0 wh
   IsTurning : (schedule : List ℕ) (states : ℕ) (complete : Bool) →
       ¬ AreBadStates limit →
       IsExtent (file_of i) (program_of i) limit states complete →
+      ActAll (file_of i) (program_of i) schedule →
       TurnsForEver (file_of i) (program_of i) schedule →
+      IsReadBack i schedule →
       (complete ≡ true → AllLinearizable (file_of i) (program_of i)) →
       (complete ≡ true → NeverStuck (file_of i) (program_of i)) →
       Decided i limit (Ok (turning_text false (names_in i) (names_of_image i) schedule states complete))
@@ -94,7 +117,11 @@ pub data Decided (i : Image) (limit : ℕ) : Result Text ToolFault → Type 0 wh
       (complete ≡ true → NeverTurns (file_of i) (program_of i)) →
       Decided i limit (Ok (free_text states complete))
   -- the schedule that was found has more steps than a schedule may have
-  TooLong : ¬ AreBadStates limit → Decided i limit (Err (faults.Translation translation.ResultTooLong))
+  TooLong : (schedule : List ℕ) →
+      ¬ AreBadStates limit →
+      IsTold i schedule →
+      most_steps < length schedule →
+      Decided i limit (Err (faults.Translation translation.ResultTooLong))
 
 abbrev pub VerdictsTo : ℕ → Text → Text → Result Text ToolFault → Type 0
 VerdictsTo limit classes program answer = AnswersOn classes program (λ i. Decided i limit) answer

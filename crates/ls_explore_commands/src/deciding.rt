@@ -1,137 +1,38 @@
 // What `explore --verdict` says.
 
-ghost use Rattle.std.specs.Prelude.{◌≡◌, ◌++◌, ◌∷◌, [], ◌↔◌, ◌⊎◌, ℕ, IfErr, IfNone, IfOk, IfSome, IsTrue, OnOk, replicate};
-ghost use Rattle.std.specs.Prelude.{false, true};
+ghost use Rattle.std.specs.Prelude.{◌↔◌, ◌≡◌, ℕ, IfNone, IfOk, IfSome, IsTrue};
 ghost use Rattle.ls_explore.specs.Faults.{AreBadStates};
 ghost use Rattle.ls_faults.specs.Given.{GivesText};
+ghost use Rattle.ls_explore_commands.specs.Readable.{AreReadBack};
 ghost use Rattle.ls_explore_commands.specs.Verdicts.{Decided, IsExtent, VerdictsTo};
-ghost use Rattle.ls_fewest_switches.specs.Switches.{HasFewest, HasFewestStuck};
-ghost use Rattle.ls_meaning.specs.Runs.{source_history};
-ghost use Rattle.ls_serial_search.specs.Told.{IsDoubt, usual};
-ghost use Rattle.ls_source_judge.specs.Judged.{AllLinearizable, IsNotLinearizable, IsSimplestBad};
+ghost use Rattle.ls_source_judge.specs.Judged.{AllLinearizable, IsBadRun, IsStuckRun, IsUnjudged};
 ghost use Rattle.ls_spinning.specs.Told.{IsTurning};
 ghost use Rattle.ls_spinning.specs.Turning.{NeverTurns, TurnsForEver};
-ghost use Rattle.ls_search.specs.Verdicts.{LeavesStuck, NeverStuck};
+ghost use Rattle.ls_search.specs.Verdicts.{NeverStuck};
 ghost use Rattle.ls_translation.specs.Texts.{file_of, program_of};
-ghost use Rattle.ls_translation.specs.declared.fault.TranslationFault.TheVariants.{Memory, ResultTooLong};
 
+use crate::laws::verdicts_read_back;
 use crate::reporting::{
     Extent, print_bad, print_doubtful, print_free, print_stuck, print_stuck_and_doubtful,
     print_turning, print_unsure,
 };
+use crate::simple_runs::{bad_run, run_along, stuck_run, turning_run};
 use ls_compiler::compile;
-use ls_events::schedule::{MOST_STEPS, Schedule};
+use ls_events::schedule::Schedule;
 use ls_explore::{ExploreFault, MOST_STATES};
 use ls_explore_reports::names_in;
 use ls_faults::fault::ToolFault;
-use ls_fewest_switches::{SimpleRun, Target, simplest, simplest_stuck};
 use ls_image::image::Image;
 use ls_serial_search::telling::Doubt;
-use ls_source_judge::{Judged, judge_schedules, simplest_unexplained};
+use ls_source_judge::{Judged, judge_schedules};
 use ls_spinning::{Turning, find_turning};
-use ls_translation::fault::TranslationFault;
 use std::alloc::{AllocError, Global};
-
-/// The most states of a search for a run with the fewest context switches, for each number of changes of thread.
-const MOST_OF_CHANGES: usize = 1_000_000;
 
 /// Whether no states may be kept, or too many.
 fn are_bad_states(states: usize) -> bool
     ensures { IsTrue result ↔ AreBadStates states }
 {
     states == 0 || states > MOST_STATES
-}
-
-/// Adds a step.
-fn push_step(schedule: &mut Schedule, thread: u8) -> Result<(), TranslationFault>
-    ensures steps { OnOk result (schedule.new ≡ schedule.old ++ thread ∷ []) }
-    ensures only { IfErr result (λ e. (e ≡ Memory) ⊎ (e ≡ ResultTooLong)) }
-{
-    if schedule.len() >= MOST_STEPS {
-        return Err(TranslationFault::ResultTooLong);
-    }
-    schedule.push(thread)?;
-    Ok(())
-}
-
-/// So many steps of the setup, and then one of each thread of a path.
-fn schedule_of(alloc: Global, setup: usize, path: &[u8]) -> Result<Schedule, TranslationFault>
-    ensures steps { IfOk result (λ s. s ≡ replicate setup 0 ++ path.now) }
-    ensures only { IfErr result (λ e. (e ≡ Memory) ⊎ (e ≡ ResultTooLong)) }
-{
-    let mut schedule = Schedule::new(alloc);
-    for _ in 0..setup {
-        push_step(&mut schedule, 0)?;
-    }
-    for thread in path {
-        push_step(&mut schedule, *thread)?;
-    }
-    Ok(schedule)
-}
-
-/// A run with the history of a path after so many steps of the setup, and the fewest context switches.
-fn run_along(
-    alloc: Global,
-    image: &Image,
-    setup: usize,
-    path: &[u8],
-) -> Result<SimpleRun, TranslationFault>
-    ensures history { IfOk result (λ r. source_history (file_of image.now) (program_of image.now) r.schedule ≡
-        source_history (file_of image.now) (program_of image.now) (replicate setup 0 ++ path.now)) }
-    ensures fewest { IfOk result (λ r. r.fewest ≡ true →
-        HasFewest false (file_of image.now) (program_of image.now) r.schedule) }
-    ensures only { IfErr result (λ e. (e ≡ Memory) ⊎ (e ≡ ResultTooLong)) }
-{
-    let found = schedule_of(alloc, setup, path)?;
-    let file = image.checked().file();
-    let target = Target {
-        stuck: false,
-        limit: MOST_OF_CHANGES,
-    };
-    let run = simplest(alloc, file, image.program(), target, &found)?;
-    Ok(run)
-}
-
-/// A run whose history isn't linearizable, if that of a path after so many steps of the setup isn't, with the fewest context
-/// switches.
-fn bad_run(
-    alloc: Global,
-    image: &Image,
-    setup: usize,
-    path: &[u8],
-) -> Result<SimpleRun, TranslationFault>
-    ensures bad { IfOk result (λ r.
-        IsNotLinearizable (file_of image.now) (program_of image.now) (replicate setup 0 ++ path.now) →
-        IsNotLinearizable (file_of image.now) (program_of image.now) r.schedule) }
-    ensures fewest { IfOk result (λ r. r.fewest ≡ true →
-        IsSimplestBad (file_of image.now) (program_of image.now) r.schedule) }
-    ensures only { IfErr result (λ e. (e ≡ Memory) ⊎ (e ≡ ResultTooLong)) }
-{
-    let found = schedule_of(alloc, setup, path)?;
-    let file = image.checked().file();
-    let run = simplest_unexplained(alloc, file, image.program(), &found, MOST_OF_CHANGES)?;
-    Ok(run)
-}
-
-/// A run after which no thread acts and one waits, if that is so after a path after so many steps of the setup, with the
-/// fewest context switches.
-fn stuck_run(
-    alloc: Global,
-    image: &Image,
-    setup: usize,
-    path: &[u8],
-) -> Result<SimpleRun, TranslationFault>
-    ensures stuck { IfOk result (λ r.
-        LeavesStuck (file_of image.now) (program_of image.now) (replicate setup 0 ++ path.now) →
-        LeavesStuck (file_of image.now) (program_of image.now) r.schedule) }
-    ensures fewest { IfOk result (λ r. r.fewest ≡ true →
-        HasFewestStuck (file_of image.now) (program_of image.now) r.schedule) }
-    ensures only { IfErr result (λ e. (e ≡ Memory) ⊎ (e ≡ ResultTooLong)) }
-{
-    let found = schedule_of(alloc, setup, path)?;
-    let file = image.checked().file();
-    let run = simplest_stuck(alloc, file, image.program(), &found, MOST_OF_CHANGES)?;
-    Ok(run)
 }
 
 /// How many states were kept, and whether these are all.
@@ -145,78 +46,82 @@ fn extent_of(judged: &Judged) -> Extent
     }
 }
 
-/// The text of a path to a history that isn't linearizable.
+/// The text of a schedule whose history isn't linearizable.
 fn bad_answer(
     alloc: Global,
     image: &Image,
     judged: &Judged,
-    path: &[u8],
+    steps: &[u8],
 ) -> Result<String, ToolFault>
+    requires { AreReadBack image.now }
     ensures { (limit : ℕ) → ¬ AreBadStates limit →
         IsExtent (file_of image.now) (program_of image.now) limit judged.now.states judged.now.complete →
-        IsNotLinearizable (file_of image.now) (program_of image.now) (replicate judged.now.setup 0 ++ path.now) →
+        IsBadRun (file_of image.now) (program_of image.now) steps.now →
         GivesText (Decided image.now limit) result }
 {
-    let run = bad_run(alloc, image, judged.setup, path)?;
+    let run = bad_run(alloc, image, steps)?;
     let text = print_bad(alloc, names_in(image), &run, extent_of(judged))?;
     Ok(text)
 }
 
-/// The text of a path to a history that no serial history explains that was found.
+/// The text of a schedule whose history no serial history explains that was found.
 fn doubtful_answer(
     alloc: Global,
     image: &Image,
     judged: &Judged,
     doubt: Doubt,
-    path: &[u8],
+    steps: &[u8],
 ) -> Result<String, ToolFault>
+    requires { AreReadBack image.now }
     ensures { (limit : ℕ) → ¬ AreBadStates limit →
         IsExtent (file_of image.now) (program_of image.now) limit judged.now.states judged.now.complete →
-        IsDoubt (file_of image.now) (program_of image.now) usual doubt →
+        IsUnjudged (file_of image.now) (program_of image.now) doubt steps.now →
         (IsTrue judged.now.complete → NeverStuck (file_of image.now) (program_of image.now)) →
         GivesText (Decided image.now limit) result }
 {
-    let run = run_along(alloc, image, judged.setup, path)?;
+    let run = run_along(alloc, image, steps)?;
     let text = print_doubtful(alloc, names_in(image), doubt, &run, extent_of(judged))?;
     Ok(text)
 }
 
-/// The same, where there is also a path to a state in which no thread acts and one waits.
+/// The same, where there is also a schedule after which no thread acts and one waits.
 fn stuck_and_doubtful_answer(
     alloc: Global,
     image: &Image,
     judged: &Judged,
     stuck: &[u8],
     doubt: Doubt,
-    path: &[u8],
+    steps: &[u8],
 ) -> Result<String, ToolFault>
+    requires { AreReadBack image.now }
     ensures { (limit : ℕ) → ¬ AreBadStates limit →
         IsExtent (file_of image.now) (program_of image.now) limit judged.now.states judged.now.complete →
-        LeavesStuck (file_of image.now) (program_of image.now) (replicate judged.now.setup 0 ++ stuck.now) →
-        IsDoubt (file_of image.now) (program_of image.now) usual doubt →
+        IsStuckRun (file_of image.now) (program_of image.now) stuck.now →
+        IsUnjudged (file_of image.now) (program_of image.now) doubt steps.now →
         GivesText (Decided image.now limit) result }
 {
-    let first = stuck_run(alloc, image, judged.setup, stuck)?;
-    let run = run_along(alloc, image, judged.setup, path)?;
+    let first = stuck_run(alloc, image, stuck)?;
+    let run = run_along(alloc, image, steps)?;
     let extent = extent_of(judged);
     let text = print_stuck_and_doubtful(alloc, names_in(image), &first, &run, doubt, extent)?;
     Ok(text)
 }
 
-/// The text of a path to a state in which no thread acts and one waits.
+/// The text of a schedule after which no thread acts and one waits.
 fn stuck_answer(
     alloc: Global,
     image: &Image,
     judged: &Judged,
-    path: &[u8],
+    steps: &[u8],
 ) -> Result<String, ToolFault>
+    requires { AreReadBack image.now }
     ensures { (limit : ℕ) → ¬ AreBadStates limit →
         IsExtent (file_of image.now) (program_of image.now) limit judged.now.states judged.now.complete →
-        LeavesStuck (file_of image.now) (program_of image.now) (replicate judged.now.setup 0 ++ path.now) →
+        IsStuckRun (file_of image.now) (program_of image.now) steps.now →
         (IsTrue judged.now.complete → AllLinearizable (file_of image.now) (program_of image.now)) →
         GivesText (Decided image.now limit) result }
 {
-    let run = stuck_run(alloc, image, judged.setup, path)?;
+    let run = stuck_run(alloc, image, steps)?;
     let text = print_stuck(alloc, names_in(image), &run, extent_of(judged))?;
     Ok(text)
 }
@@ -238,13 +143,14 @@ fn free_answer(alloc: Global, image: &Image, judged: &Judged) -> Result<String, 
 fn judged_of(alloc: Global, image: &Image, states: usize) -> Result<Judged, AllocError>
     ensures good { IfOk result (λ j. IsTrue j.complete → IfNone j.bad
         (AllLinearizable (file_of image.now) (program_of image.now))) }
-    ensures bad { IfOk result (λ j. IfNone j.doubt (IfSome j.bad (λ path.
-        IsNotLinearizable (file_of image.now) (program_of image.now) (replicate j.setup 0 ++ path.items)))) }
-    ensures doubt { IfOk result (λ j. IfSome j.doubt (IsDoubt (file_of image.now) (program_of image.now) usual)) }
+    ensures bad { IfOk result (λ j. IfNone j.doubt (IfSome j.bad (λ s.
+        IsBadRun (file_of image.now) (program_of image.now) s.items))) }
+    ensures unjudged { IfOk result (λ j. IfSome j.doubt (λ d. IfSome j.bad (λ s.
+        IsUnjudged (file_of image.now) (program_of image.now) d s.items))) }
     ensures free { IfOk result (λ j. IsTrue j.complete → IfNone j.stuck
         (NeverStuck (file_of image.now) (program_of image.now))) }
-    ensures stuck { IfOk result (λ j. IfSome j.stuck (λ path.
-        LeavesStuck (file_of image.now) (program_of image.now) (replicate j.setup 0 ++ path.items))) }
+    ensures stuck { IfOk result (λ j. IfSome j.stuck (λ s.
+        IsStuckRun (file_of image.now) (program_of image.now) s.items)) }
     ensures extent { IfOk result (λ j.
         IsExtent (file_of image.now) (program_of image.now) states j.states j.complete) }
 {
@@ -252,21 +158,21 @@ fn judged_of(alloc: Global, image: &Image, states: usize) -> Result<Judged, Allo
     Ok(judged)
 }
 
-/// The text of a path to a history that no serial history explains that was found, and of one to where threads wait.
+/// The text of a schedule whose history no serial history explains that was found, and of one after which threads wait.
 fn doubted_answer(
     alloc: Global,
     image: &Image,
     judged: &Judged,
     doubt: Doubt,
-    path: &[u8],
+    steps: &[u8],
 ) -> Result<String, ToolFault>
+    requires { AreReadBack image.now }
     ensures { (limit : ℕ) → ¬ AreBadStates limit →
         IsExtent (file_of image.now) (program_of image.now) limit judged.now.states judged.now.complete →
-        IsDoubt (file_of image.now) (program_of image.now) usual doubt →
+        IsUnjudged (file_of image.now) (program_of image.now) doubt steps.now →
         (IsTrue judged.now.complete → IfNone judged.now.stuck
         (NeverStuck (file_of image.now) (program_of image.now))) →
-        IfSome judged.now.stuck (λ stuck.
-        LeavesStuck (file_of image.now) (program_of image.now) (replicate judged.now.setup 0 ++ stuck.items)) →
+        IfSome judged.now.stuck (λ stuck. IsStuckRun (file_of image.now) (program_of image.now) stuck.items) →
         GivesText (Decided image.now limit) result }
 {
     match &judged.stuck {
@@ -276,33 +182,32 @@ fn doubted_answer(
             judged,
             stuck.as_slice(),
             doubt,
-            path,
+            steps,
         ),
-        None => doubtful_answer(alloc, image, judged, doubt, path),
+        None => doubtful_answer(alloc, image, judged, doubt, steps),
     }
 }
 
-/// The text of a path to a history that no serial history explains that was found.
+/// The text of a schedule whose history no serial history explains that was found.
 fn wrong_answer(
     alloc: Global,
     image: &Image,
     judged: &Judged,
-    path: &[u8],
+    steps: &[u8],
 ) -> Result<String, ToolFault>
+    requires { AreReadBack image.now }
     ensures { (limit : ℕ) → ¬ AreBadStates limit →
         IsExtent (file_of image.now) (program_of image.now) limit judged.now.states judged.now.complete →
-        IfNone judged.now.doubt
-        (IsNotLinearizable (file_of image.now) (program_of image.now) (replicate judged.now.setup 0 ++ path.now)) →
-        IfSome judged.now.doubt (IsDoubt (file_of image.now) (program_of image.now) usual) →
+        IfNone judged.now.doubt (IsBadRun (file_of image.now) (program_of image.now) steps.now) →
+        IfSome judged.now.doubt (λ d. IsUnjudged (file_of image.now) (program_of image.now) d steps.now) →
         (IsTrue judged.now.complete → IfNone judged.now.stuck
         (NeverStuck (file_of image.now) (program_of image.now))) →
-        IfSome judged.now.stuck (λ stuck.
-        LeavesStuck (file_of image.now) (program_of image.now) (replicate judged.now.setup 0 ++ stuck.items)) →
+        IfSome judged.now.stuck (λ stuck. IsStuckRun (file_of image.now) (program_of image.now) stuck.items) →
         GivesText (Decided image.now limit) result }
 {
     match judged.doubt {
-        Some(doubt) => doubted_answer(alloc, image, judged, doubt, path),
-        None => bad_answer(alloc, image, judged, path),
+        Some(doubt) => doubted_answer(alloc, image, judged, doubt, steps),
+        None => bad_answer(alloc, image, judged, steps),
     }
 }
 
@@ -311,19 +216,17 @@ fn turning_answer(
     alloc: Global,
     image: &Image,
     judged: &Judged,
-    schedule: Schedule,
+    found: &Schedule,
 ) -> Result<String, ToolFault>
+    requires { AreReadBack image.now }
     ensures { (limit : ℕ) → ¬ AreBadStates limit →
         IsExtent (file_of image.now) (program_of image.now) limit judged.now.states judged.now.complete →
-        TurnsForEver (file_of image.now) (program_of image.now) schedule →
+        TurnsForEver (file_of image.now) (program_of image.now) found.now →
         (IsTrue judged.now.complete → AllLinearizable (file_of image.now) (program_of image.now)) →
         (IsTrue judged.now.complete → NeverStuck (file_of image.now) (program_of image.now)) →
         GivesText (Decided image.now limit) result }
 {
-    let run = SimpleRun {
-        schedule,
-        fewest: false,
-    };
+    let run = turning_run(alloc, image, found)?;
     let text = print_turning(alloc, names_in(image), &run, extent_of(judged))?;
     Ok(text)
 }
@@ -357,6 +260,7 @@ fn quiet_answer(
     judged: &Judged,
     states: usize,
 ) -> Result<String, ToolFault>
+    requires { AreReadBack image.now }
     ensures { (limit : ℕ) → ¬ AreBadStates limit →
         IsExtent (file_of image.now) (program_of image.now) limit judged.now.states judged.now.complete →
         (IsTrue judged.now.complete → AllLinearizable (file_of image.now) (program_of image.now)) →
@@ -368,13 +272,14 @@ fn quiet_answer(
     }
     match turning_of(alloc, image, states)? {
         Turning::Never => free_answer(alloc, image, judged),
-        Turning::After(schedule) => turning_answer(alloc, image, judged, schedule),
+        Turning::After(schedule) => turning_answer(alloc, image, judged, &schedule),
         Turning::Unknown => unsure_answer(alloc, image, judged),
     }
 }
 
 /// The text of what all schedules of an image's program tell.
 fn decided(alloc: Global, image: &Image, states: usize) -> Result<String, ToolFault>
+    requires { AreReadBack image.now }
     ensures { GivesText (Decided image.now states) result }
 {
     if are_bad_states(states) {
@@ -382,9 +287,9 @@ fn decided(alloc: Global, image: &Image, states: usize) -> Result<String, ToolFa
     }
     let judged = judged_of(alloc, image, states)?;
     match &judged.bad {
-        Some(path) => wrong_answer(alloc, image, &judged, path.as_slice()),
+        Some(steps) => wrong_answer(alloc, image, &judged, steps.as_slice()),
         None => match &judged.stuck {
-            Some(path) => stuck_answer(alloc, image, &judged, path.as_slice()),
+            Some(steps) => stuck_answer(alloc, image, &judged, steps.as_slice()),
             None => quiet_answer(alloc, image, &judged, states),
         },
     }
@@ -413,5 +318,6 @@ pub fn verdict(
     ensures { GivesText (VerdictsTo states classes.now program.now) result }
 {
     let image = compile(alloc, classes, program)?;
+    verdicts_read_back();
     decided(alloc, &image, states)
 }

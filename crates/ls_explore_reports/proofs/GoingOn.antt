@@ -3,7 +3,6 @@ use Rattle.std.proofs.Common.{◌≡◌, ◌∙◌, ◌+◌, ◌<◌, ◌≤◌,
 use Rattle.std.proofs.Common.{Option, None, Some, length, take, get_or, arith}
 use Rattle.std.specs.Prelude.{is_some}
 use Rattle.std.proofs.Common.{refl, sym, ap, subst}
-use Rattle.std.proofs.lemmas.List.{take_more}
 use Rattle.ls_checked.specs.CheckedTree.{File}
 use Rattle.ls_checked.specs.CheckedProgram.{Program}
 use Rattle.ls_labels.specs.Names.{Names}
@@ -11,22 +10,11 @@ use Rattle.ls_meaning.specs.declared.step.Did.{Did}
 use Rattle.ls_meaning.specs.Still.{IsActing}
 use Rattle.ls_search.specs.Runs.{progress_at}
 use Rattle.ls_source.specs.Progress.{Progress}
-use Rattle.ls_source_rows.proofs.Reached.{acts_more}
+use Rattle.ls_search_laws.proofs.Acting.{acts_more}
 use Rattle.ls_fewest_switches.proofs.Ending.{did_at}
 use Rattle.ls_explore.specs.Rows.{ActAll}
 use Rattle.ls_explore_reports.specs.Shortest.{ActsNext, IsKnown, IsShortestIllegal}
 use Rattle.ls_explore_reports.specs.declared.printing.Exploring.{Exploring}
-
--- if the next step acts, each of one step more does
-pub acts_next : (file : File) (program : Program) (steps : List ℕ) (i d : ℕ) (r : Progress) (did : Did) →
-    i < length steps →
-    ActAll file program (take i steps) →
-    r ≡ progress_at file program (take i steps) →
-    did ≡ did_at r (get_or steps i d) → IsActing did → ActAll file program (take (i + 1) steps)
-acts_next file program steps i d r did lt all at is acts =
-    subst (ActAll file program) (sym (take_more steps i d lt))
-    (acts_more file program (take i steps) (get_or steps i d) all
-    (subst IsActing (is ∙ ap (λ (q : Progress). did_at q (get_or steps i d)) at) acts))
 
 -- a thread that acts after the run after a schedule acts after the schedule
 pub goes_after : (file : File) (program : Program) (steps : List ℕ) (r : Progress) →

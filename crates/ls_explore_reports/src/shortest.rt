@@ -1,10 +1,9 @@
 // A shortest schedule whose history has no legal order.
 
-ghost use Rattle.std.specs.Prelude.{◌≡◌, ◌&&◌, ◌++◌, ◌∷◌, ℕ, [], All, IfOk, IfSome, false, true};
+ghost use Rattle.std.specs.Prelude.{◌≡◌, ◌&&◌, ◌++◌, ◌∷◌, ℕ, [], All, IfOk, false, true};
 ghost use Rattle.ls_checked.specs.Plain.{plain_file};
 ghost use Rattle.ls_checked.specs.PlainProgram.{plain_program};
 ghost use Rattle.ls_labels.specs.Names.{names_of};
-ghost use Rattle.ls_search.specs.Runs.{progress_at};
 ghost use Rattle.ls_source.specs.Shown.{progress_of};
 ghost use Rattle.ls_explore.specs.Rows.{ActAll};
 ghost use Rattle.ls_explore.specs.Tellings.{TellWhole};
@@ -17,33 +16,11 @@ use crate::printing::Exploring;
 use ls_checked::program::Program;
 use ls_checked::tree::File;
 use ls_events::schedule::Schedule;
-use ls_fewest_switches::{ShortRun, shortest_among};
+use ls_fewest_switches::{ShortRun, run_along, shortest_among};
 use ls_labels::names::Names;
 use ls_meaning::step::has_acted;
 use ls_source::run::SourceRun;
 use std::alloc::{AllocError, Global};
-
-/// The run after some steps, if each of them acts.
-fn run_along<'a>(
-    alloc: Global,
-    file: &'a File,
-    program: &'a Program,
-    steps: &[u8],
-) -> Result<Option<SourceRun<'a>>, AllocError>
-    ensures run { IfOk result (λ some. IfSome some (λ r. progress_of r ≡
-        progress_at (plain_file file.now) (plain_program program.now) steps.now)) }
-    ensures acts { IfOk result (λ some. IfSome some (λ r.
-        ActAll (plain_file file.now) (plain_program program.now) steps.now)) }
-{
-    let mut run = SourceRun::new(alloc, file, program)?;
-    for thread in steps {
-        let did = run.step(alloc, *thread as usize)?;
-        if !has_acted(did) {
-            return Ok(None);
-        }
-    }
-    Ok(Some(run))
-}
 
 /// Whether one of so many threads acts after a run. True only where one does.
 fn some_acts(alloc: Global, run: &mut SourceRun<'_>, threads: usize) -> Result<bool, AllocError>

@@ -1,10 +1,10 @@
 -- Why `decided` in src/deciding.rt keeps its contract.
 
-use Rattle.std.proofs.Common.{◌++◌, replicate, subst, sym}
+use Rattle.std.proofs.Common.{subst, sym}
 use Rattle.std.specs.Prelude.{IfNone, IfSome}
 use Rattle.ls_explore.specs.Faults.{AreBadStates}
-use Rattle.ls_source_judge.specs.Judged.{AllLinearizable, IsNotLinearizable}
-use Rattle.ls_search.specs.Verdicts.{LeavesStuck, NeverStuck}
+use Rattle.ls_source_judge.specs.Judged.{AllLinearizable, IsBadRun, IsStuckRun, IsUnjudged}
+use Rattle.ls_search.specs.Verdicts.{NeverStuck}
 use Rattle.ls_translation.specs.Texts.{file_of, program_of}
 use Rattle.ls_explore_commands.specs.Verdicts.{NoStates}
 use Rattle.ls_explore_commands.proofs.Decisions.{not_both}
@@ -20,12 +20,13 @@ returns-in-Some c =
     let good : ¬ AreBadStates c.args.states =
     λ bad. not_both (c.are_bad_states.ensures.1 bad) c.if-are_bad_states.false in
     c.wrong_answer.ensures c.args.states good c.in_ok-judged.ensures.extent
-    (subst (λ s. IfNone j.doubt (IsNotLinearizable (file_of i) (program_of i) (replicate j.setup 0 ++ s)))
-    (sym c.as_slice.ensures.value)
-    (subst (λ o. IfNone j.doubt
-    (IfSome o (λ path. IsNotLinearizable (file_of i) (program_of i) (replicate j.setup 0 ++ path.items))))
-    c.in-Some.is c.in_ok-judged.ensures.bad)) c.in_ok-judged.ensures.doubt c.in_ok-judged.ensures.free
-    c.in_ok-judged.ensures.stuck
+    (subst (λ s. IfNone j.doubt (IsBadRun (file_of i) (program_of i) s)) (sym c.as_slice.ensures.value)
+    (subst (λ o. IfNone j.doubt (IfSome o (λ s. IsBadRun (file_of i) (program_of i) s.items))) c.in-Some.is
+    c.in_ok-judged.ensures.bad))
+    (subst (λ s. IfSome j.doubt (λ d. IsUnjudged (file_of i) (program_of i) d s)) (sym c.as_slice.ensures.value)
+    (subst (λ o. IfSome j.doubt (λ d. IfSome o (λ s. IsUnjudged (file_of i) (program_of i) d s.items))) c.in-Some.is
+    c.in_ok-judged.ensures.unjudged))
+    c.in_ok-judged.ensures.free c.in_ok-judged.ensures.stuck
 
 pub returns-in-Some-stuck : goal.returns-in-Some-stuck
 returns-in-Some-stuck c =
@@ -34,9 +35,9 @@ returns-in-Some-stuck c =
     let good : ¬ AreBadStates c.args.states =
     λ bad. not_both (c.are_bad_states.ensures.1 bad) c.if-are_bad_states.false in
     c.stuck_answer.ensures c.args.states good c.in_ok-judged.ensures.extent
-    (subst (λ s. LeavesStuck (file_of i) (program_of i) (replicate j.setup 0 ++ s)) (sym c.as_slice-in-Some-stuck.ensures.value)
-    (subst (λ o. IfSome o (λ path. LeavesStuck (file_of i) (program_of i) (replicate j.setup 0 ++ path.items)))
-    c.in-Some-stuck.is c.in_ok-judged.ensures.stuck))
+    (subst (λ s. IsStuckRun (file_of i) (program_of i) s) (sym c.as_slice-in-Some-stuck.ensures.value)
+    (subst (λ o. IfSome o (λ s. IsStuckRun (file_of i) (program_of i) s.items)) c.in-Some-stuck.is
+    c.in_ok-judged.ensures.stuck))
     (λ complete. subst (λ o. IfNone o (AllLinearizable (file_of i) (program_of i))) c.in-None.is
     (c.in_ok-judged.ensures.good complete))
 

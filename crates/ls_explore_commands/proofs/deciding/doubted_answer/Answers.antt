@@ -1,19 +1,18 @@
 -- Why `doubted_answer` in src/deciding.rt keeps its contract.
 
-use Rattle.std.proofs.Common.{◌++◌, replicate, subst, sym}
+use Rattle.std.proofs.Common.{subst, sym}
 use Rattle.std.specs.Prelude.{IfNone, IfSome}
-use Rattle.ls_search.specs.Verdicts.{LeavesStuck, NeverStuck}
+use Rattle.ls_search.specs.Verdicts.{NeverStuck}
+use Rattle.ls_source_judge.specs.Judged.{IsStuckRun}
 use Rattle.ls_translation.specs.Texts.{file_of, program_of}
 use Rattle.ls_explore_commands.proofs.deciding.doubted_answer.Goals as goal
 
 pub returns-in-Some : goal.returns-in-Some
 returns-in-Some c = λ limit good extent doubt free stuck.
     let i = c.args.image.now in
-    let j = c.args.judged.now in
     c.stuck_and_doubtful_answer.ensures limit good extent
-    (subst (λ s. LeavesStuck (file_of i) (program_of i) (replicate j.setup 0 ++ s)) (sym c.as_slice.ensures.value)
-    (subst (λ o. IfSome o (λ path. LeavesStuck (file_of i) (program_of i) (replicate j.setup 0 ++ path.items)))
-    c.in-Some.is stuck)) doubt
+    (subst (λ s. IsStuckRun (file_of i) (program_of i) s) (sym c.as_slice.ensures.value)
+    (subst (λ o. IfSome o (λ s. IsStuckRun (file_of i) (program_of i) s.items)) c.in-Some.is stuck)) doubt
 
 pub returns-in-None : goal.returns-in-None
 returns-in-None c = λ limit good extent doubt free stuck.

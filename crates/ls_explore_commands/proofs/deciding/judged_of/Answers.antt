@@ -1,7 +1,7 @@
--- Why `judged_of` in src/deciding.rt keeps its clauses `free` and `extent`.
+-- Why `judged_of` in src/deciding.rt keeps its clauses `bad`, `unjudged`, `free`, `stuck` and `extent`.
 
-use Rattle.std.proofs.Common.{◌≡◌, ◌∙◌, ap, subst}
-use Rattle.std.specs.Prelude.{IfNone}
+use Rattle.std.proofs.Common.{◌≡◌, ◌∙◌, ap, subst, true}
+use Rattle.std.specs.Prelude.{IfNone, IfSome}
 use Rattle.ls_checked.specs.CheckedTree.{File}
 use Rattle.ls_checked.specs.CheckedProgram.{Program}
 use Rattle.ls_checked.specs.Plain.{plain_file}
@@ -9,7 +9,9 @@ use Rattle.ls_checked.specs.PlainProgram.{plain_program}
 use Rattle.ls_types_checked.specs.CheckedFile.{elaborated_file}
 use Rattle.ls_translation.specs.Texts.{file_of, program_of}
 use Rattle.ls_search_laws.specs.Stepping.{SetsUp}
-use Rattle.ls_search.specs.Verdicts.{AreReached, NeverStuck}
+use Rattle.ls_search.specs.Verdicts.{AreAll, AreReached, NeverStuck}
+use Rattle.ls_source_judge.specs.Judged.{IsBadRun, IsStuckRun, IsUnjudged}
+use Rattle.ls_explore_commands.proofs.Decisions.{at_same}
 use Rattle.ls_explore_commands.proofs.deciding.judged_of.Goals as goal
 
 pub returns-clause-free : goal.returns-clause-free
@@ -40,4 +42,36 @@ returns-clause-extent c =
       reached = subst (λ (p : Program). AreReached (file_of i) p j.setup j.states) program
           (subst (λ (f : File). AreReached f (plain_program c.program.result.now) j.setup j.states) file
           c.in_ok-judged.ensures.reached);
+      all = at_same (λ (f : File) (p : Program). j.complete ≡ true → AreAll f p j.setup j.states) file program
+          c.in_ok-judged.ensures.all;
     }
+
+pub returns-clause-bad : goal.returns-clause-bad
+returns-clause-bad c =
+    let i = c.args.image.now in
+    let j = c.in_ok-judged.judged in
+    let file : plain_file c.file.result.now ≡ file_of i =
+    ap plain_file c.file.ensures ∙ ap (λ k. (elaborated_file k).file) c.checked.ensures in
+    let program : plain_program c.program.result.now ≡ program_of i = ap plain_program c.program.ensures in
+    at_same (λ (f : File) (p : Program). IfNone j.doubt (IfSome j.bad (λ s. IsBadRun f p s.items))) file program
+    c.in_ok-judged.ensures.bad
+
+pub returns-clause-unjudged : goal.returns-clause-unjudged
+returns-clause-unjudged c =
+    let i = c.args.image.now in
+    let j = c.in_ok-judged.judged in
+    let file : plain_file c.file.result.now ≡ file_of i =
+    ap plain_file c.file.ensures ∙ ap (λ k. (elaborated_file k).file) c.checked.ensures in
+    let program : plain_program c.program.result.now ≡ program_of i = ap plain_program c.program.ensures in
+    at_same (λ (f : File) (p : Program). IfSome j.doubt (λ d. IfSome j.bad (λ s. IsUnjudged f p d s.items))) file program
+    c.in_ok-judged.ensures.unjudged
+
+pub returns-clause-stuck : goal.returns-clause-stuck
+returns-clause-stuck c =
+    let i = c.args.image.now in
+    let j = c.in_ok-judged.judged in
+    let file : plain_file c.file.result.now ≡ file_of i =
+    ap plain_file c.file.ensures ∙ ap (λ k. (elaborated_file k).file) c.checked.ensures in
+    let program : plain_program c.program.result.now ≡ program_of i = ap plain_program c.program.ensures in
+    at_same (λ (f : File) (p : Program). IfSome j.stuck (λ s. IsStuckRun f p s.items)) file program
+    c.in_ok-judged.ensures.stuck

@@ -1,4 +1,4 @@
--- Why `verdict` in src/deciding.rt keeps its contract.
+-- Why `verdict` in src/deciding.rt keeps its contract, and that of `decided`.
 
 use Rattle.std.proofs.Common.{ℕ}
 use Rattle.std.proofs.lemmas.Result.{err_from_is_err_and}
@@ -23,3 +23,7 @@ pub returns : goal.returns
 returns c =
     on_image c.args.classes.now c.args.program.now (May c.args.states) c.in_ok-image.image c.decided.result
     c.in_ok-image.ensures.compiled c.in_ok-image.ensures.within c.decided.ensures
+
+pub decided-requires : goal.decided-requires
+decided-requires c =
+    c.verdicts_read_back.ensures c.args.classes.now c.args.program.now c.in_ok-image.image c.in_ok-image.ensures.compiled

@@ -1,26 +1,38 @@
--- Why `bad_run` in src/deciding.rt keeps its clauses `bad` and `fewest`.
+-- Why `bad_run` in src/simple_runs.rt keeps its clauses `bad`, `reads` and `fewest`.
 
-use Rattle.std.proofs.Common.{◌≡◌, ◌∙◌, ap, subst, true, List, ℕ}
+use Rattle.std.proofs.Common.{◌≡◌, ◌∙◌, ap, true}
 use Rattle.ls_checked.specs.CheckedTree.{File}
 use Rattle.ls_checked.specs.CheckedProgram.{Program}
 use Rattle.ls_checked.specs.Plain.{plain_file}
 use Rattle.ls_checked.specs.PlainProgram.{plain_program}
 use Rattle.ls_types_checked.specs.CheckedFile.{elaborated_file}
+use Rattle.ls_search_laws.specs.Stepping.{ActAll}
 use Rattle.ls_source_judge.specs.Judged.{IsNotLinearizable, IsSimplestBad}
 use Rattle.ls_translation.specs.Texts.{file_of, program_of}
 use Rattle.ls_explore_commands.proofs.Decisions.{at_same}
-use Rattle.ls_explore_commands.proofs.deciding.bad_run.Goals as goal
+use Rattle.ls_explore_commands.proofs.SimpleRuns.{kept}
+use Rattle.ls_explore_commands.proofs.simple_runs.bad_run.Goals as goal
 
 pub returns-clause-bad : goal.returns-clause-bad
-returns-clause-bad c =
+returns-clause-bad c = λ bad.
     let i = c.args.image.now in
     let file : plain_file c.file-file.result.now ≡ file_of i =
     ap plain_file c.file-file.ensures ∙ ap (λ k. (elaborated_file k).file) c.checked.ensures in
     let program : plain_program c.program.result.now ≡ program_of i = ap plain_program c.program.ensures in
-    subst (λ (s : List ℕ). IsNotLinearizable (file_of i) (program_of i) s →
-    IsNotLinearizable (file_of i) (program_of i) c.in_ok-run.run'.schedule) c.in_ok-found.ensures.steps
-    (at_same (λ (f : File) (p : Program). IsNotLinearizable f p c.in_ok-found.found →
-    IsNotLinearizable f p c.in_ok-run.run'.schedule) file program c.in_ok-run.ensures.bad)
+    let steps = c.in_ok-found.ensures.steps in record {
+      acts = kept ActAll file program steps c.in_ok-run.ensures.acts bad.acts;
+      bad = kept IsNotLinearizable {schedule = c.in_ok-run.run'.schedule} file program steps c.in_ok-run.ensures.bad
+          bad.bad;
+    }
+
+pub returns-clause-reads : goal.returns-clause-reads
+returns-clause-reads c = λ acts.
+    let i = c.args.image.now in
+    let file : plain_file c.file-file.result.now ≡ file_of i =
+    ap plain_file c.file-file.ensures ∙ ap (λ k. (elaborated_file k).file) c.checked.ensures in
+    let program : plain_program c.program.result.now ≡ program_of i = ap plain_program c.program.ensures in
+    c.requires c.in_ok-run.run'.schedule
+    (kept ActAll file program c.in_ok-found.ensures.steps c.in_ok-run.ensures.acts acts) c.fits.ensures
 
 pub returns-clause-fewest : goal.returns-clause-fewest
 returns-clause-fewest c =

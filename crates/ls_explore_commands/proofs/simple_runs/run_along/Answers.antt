@@ -1,0 +1,49 @@
+-- Why `run_along` in src/simple_runs.rt keeps its clauses `unjudged`, `reads` and `fewest`.
+
+use Rattle.std.proofs.Common.{◌≡◌, ◌∙◌, ap, subst, sym, false, true, List, ℕ}
+use Rattle.ls_checked.specs.CheckedTree.{File}
+use Rattle.ls_checked.specs.CheckedProgram.{Program}
+use Rattle.ls_checked.specs.Plain.{plain_file}
+use Rattle.ls_checked.specs.PlainProgram.{plain_program}
+use Rattle.ls_types_checked.specs.CheckedFile.{elaborated_file}
+use Rattle.ls_fewest_switches.specs.Switches.{HasFewest}
+use Rattle.ls_meaning.specs.Runs.{source_history}
+use Rattle.ls_search_laws.specs.Stepping.{ActAll}
+use Rattle.ls_serial_search.specs.Found.{IsNotJudged}
+use Rattle.ls_serial_search.specs.Told.{usual}
+use Rattle.ls_translation.specs.Texts.{file_of, program_of}
+use Rattle.ls_explore_commands.proofs.Decisions.{at_same}
+use Rattle.ls_explore_commands.proofs.SimpleRuns.{kept}
+use Rattle.ls_explore_commands.proofs.simple_runs.run_along.Goals as goal
+
+pub returns-clause-unjudged : goal.returns-clause-unjudged
+returns-clause-unjudged c = λ d unjudged.
+    let i = c.args.image.now in
+    let file : plain_file c.file-file.result.now ≡ file_of i =
+    ap plain_file c.file-file.ensures ∙ ap (λ k. (elaborated_file k).file) c.checked.ensures in
+    let program : plain_program c.program.result.now ≡ program_of i = ap plain_program c.program.ensures in
+    record {
+      acts = kept ActAll file program c.in_ok-found.ensures.steps c.in_ok-run.ensures.acts unjudged.acts;
+      unexplained = kept (λ (f : File) (p : Program) (s : List ℕ). IsNotJudged f p usual d (source_history f p s))
+          {schedule = c.in_ok-run.run'.schedule} file program c.in_ok-found.ensures.steps
+          (subst (IsNotJudged (plain_file c.file-file.result.now) (plain_program c.program.result.now) usual d)
+          (sym c.in_ok-run.ensures.history)) unjudged.unexplained;
+    }
+
+pub returns-clause-reads : goal.returns-clause-reads
+returns-clause-reads c = λ acts.
+    let i = c.args.image.now in
+    let file : plain_file c.file-file.result.now ≡ file_of i =
+    ap plain_file c.file-file.ensures ∙ ap (λ k. (elaborated_file k).file) c.checked.ensures in
+    let program : plain_program c.program.result.now ≡ program_of i = ap plain_program c.program.ensures in
+    c.requires c.in_ok-run.run'.schedule
+    (kept ActAll file program c.in_ok-found.ensures.steps c.in_ok-run.ensures.acts acts) c.fits.ensures
+
+pub returns-clause-fewest : goal.returns-clause-fewest
+returns-clause-fewest c =
+    let i = c.args.image.now in
+    let file : plain_file c.file-file.result.now ≡ file_of i =
+    ap plain_file c.file-file.ensures ∙ ap (λ k. (elaborated_file k).file) c.checked.ensures in
+    let program : plain_program c.program.result.now ≡ program_of i = ap plain_program c.program.ensures in
+    at_same (λ (f : File) (p : Program). c.in_ok-run.run'.fewest ≡ true →
+    HasFewest false f p c.in_ok-run.run'.schedule) file program c.in_ok-run.ensures.fewest
