@@ -174,6 +174,13 @@ impl Family {
         }
     }
 
+    /// How many calls the menu has.
+    pub(crate) fn menu(&self) -> u64
+        ensures { result ≡ self.now.menu }
+    {
+        self.menu
+    }
+
     /// How many programs it has.
     pub fn count(&self) -> u64
         ensures { result ≡ length (plans self.now) }

@@ -36,26 +36,26 @@ each_of_both Q (x ∷ xs) ys all more (suc k) y is =
     (λ n z at. let e : suc (length xs) + n ≡ suc (length xs + n) = omega arith in subst (λ m. Q m z) e (more n z at))
     k y is
 
-module _ {H : Type 0} (p : Programs) (IsGood IsCut : Text → Type 0) (Halts : Text → H → Type 0) where
+module _ {H : Type 0} (p : Programs) (IsGood IsCut : Text → Type 0) (Halts : Text → H → Type 0) (from : ℕ) where
   abbrev pub AreOutcomes : ℕ → ℕ → List (Result (ProgramOutcome H) AllocError) → Type 0
   AreOutcomes n count outcomes =
-      AllZip (λ m (o : Result (ProgramOutcome H) AllocError). IfOk o (IsOutcomeAt p IsGood IsCut Halts m)) (range_with_len n count)
-      outcomes
+      AllZip (λ m (o : Result (ProgramOutcome H) AllocError). IfOk o (IsOutcomeAt p IsGood IsCut Halts from m))
+      (range_with_len n count) outcomes
 
   -- those that pass
   pub passed_in : (n count : ℕ) (ps : List Passed) (rest : List (Result (ProgramOutcome H) AllocError)) →
       AreOutcomes n count (all_pass ps ++ rest) → n + count ≤ length (plans p.family) → (k : ℕ) (said : Passed) →
-      slice_get ps k ≡ Some said → PassesAt p IsGood IsCut (n + k) said
+      slice_get ps k ≡ Some said → PassesAt p IsGood IsCut from (n + k) said
   passed_in n count [] rest zip there k said is = absurd (none_is is)
   passed_in n zero (q ∷ ps) rest zip there k said is = absurd zip
   passed_in n (suc count) (q ∷ ps) rest zip there zero said is =
       let got = got_at (plans p.family) n (omega (arith, there)) in
       let e : n ≡ n + 0 = omega arith in
-      subst (λ m. PassesAt p IsGood IsCut m said) e
-      (got.0, got.1, subst (IsPassed p IsGood IsCut got.0) (some_is is) (zip.0 got.0 got.1))
+      subst (λ m. PassesAt p IsGood IsCut from m said) e
+      (got.0, got.1, subst (IsPassed p IsGood IsCut from n got.0) (some_is is) (zip.0 got.0 got.1))
   passed_in n (suc count) (q ∷ ps) rest zip there (suc k) said is =
       let e : n + 1 + k ≡ n + suc k = omega arith in
-      subst (λ m. PassesAt p IsGood IsCut m said) e
+      subst (λ m. PassesAt p IsGood IsCut from m said) e
       (passed_in (n + 1) count ps rest zip.1 (omega (arith, there)) k said is)
 
   -- the one with which the search ends

@@ -1,7 +1,7 @@
 -- What is said of one program.
-use Rattle.std.specs.Prelude.{◌≡◌, ℕ, List, string_bytes, true}
+use Rattle.std.specs.Prelude.{◌≡◌, ◌<◌, ◌≤◌, ◌⊎◌, ℕ, List, Some, slice_get, string_bytes, true}
 use Rattle.ls_families.specs.Doubles.{is_double, other_of}
-use Rattle.ls_families.specs.Families.{Family, Plan}
+use Rattle.ls_families.specs.Families.{Family, Plan, plans}
 use Rattle.ls_families.specs.Texts.{plan_text}
 use Rattle.ls_family_search.specs.declared.judging.Halted.{Halted}
 use Rattle.ls_family_search.specs.declared.judging.Judgement.{Judgement}
@@ -34,18 +34,30 @@ pub record Follows (p : Programs) (IsGood : Text → Type 0) (plan : Plan) : Typ
   pub double : is_double p.calls plan ≡ true
   pub good : IsGood (text_of p (other_of plan)) → IsGood (text_of p plan)
 
--- a program that the search passes: it is such a double, or the judge says so of its text
-abbrev pub IsPassed : Programs → (Text → Type 0) → (Text → Type 0) → Plan → Passed → Type 0
-IsPassed p IsGood IsCut plan passed.Double = Follows p IsGood plan
-IsPassed p IsGood IsCut plan passed.Good = IsGood (text_of p plan)
-IsPassed p IsGood IsCut plan passed.Cut = IsCut (text_of p plan)
+-- The program with these two threads exchanged has a number of a range, from its first number up to this one.
+pub record StandsFrom (p : Programs) (from n : ℕ) (plan : Plan) : Type 0 where
+  pub number : ℕ
+  pub first : from ≤ number
+  pub before : number < n
+  pub there : slice_get (plans p.family) number ≡ Some (other_of plan)
+
+-- Such a double is passed if that program stands in the range, or the judge says that the double itself is good.
+pub record IsDouble (p : Programs) (IsGood : Text → Type 0) (from n : ℕ) (plan : Plan) : Type 0 where
+  pub follows : Follows p IsGood plan
+  pub known : StandsFrom p from n plan ⊎ IsGood (text_of p plan)
+
+-- a program of a number that the search of a range passes: it is such a double, or the judge says so of its text
+abbrev pub IsPassed : Programs → (Text → Type 0) → (Text → Type 0) → ℕ → ℕ → Plan → Passed → Type 0
+IsPassed p IsGood IsCut from n plan passed.Double = IsDouble p IsGood from n plan
+IsPassed p IsGood IsCut from n plan passed.Good = IsGood (text_of p plan)
+IsPassed p IsGood IsCut from n plan passed.Cut = IsCut (text_of p plan)
 
 -- a program with which it ends
 pub record IsHalted {H : Type 0} (p : Programs) (Halts : Text → H → Type 0) (plan : Plan) (h : Halted H) : Type 0 where
   pub text : string_bytes h.program ≡ text_of p plan
   pub halts : Halts (text_of p plan) h.halt
 
-abbrev pub IsOutcome : {H : Type 0} → Programs → (Text → Type 0) → (Text → Type 0) → (Text → H → Type 0) → Plan →
-    ProgramOutcome H → Type 0
-IsOutcome p IsGood IsCut Halts plan (outcomes.Passes said) = IsPassed p IsGood IsCut plan said
-IsOutcome p IsGood IsCut Halts plan (outcomes.Ends h) = IsHalted p Halts plan h
+abbrev pub IsOutcome : {H : Type 0} → Programs → (Text → Type 0) → (Text → Type 0) → (Text → H → Type 0) → ℕ → ℕ →
+    Plan → ProgramOutcome H → Type 0
+IsOutcome p IsGood IsCut Halts from n plan (outcomes.Passes said) = IsPassed p IsGood IsCut from n plan said
+IsOutcome p IsGood IsCut Halts from n plan (outcomes.Ends h) = IsHalted p Halts plan h

@@ -7,11 +7,11 @@ use Rattle.ls_family_search.specs.declared.judging.ProgramOutcome.{ProgramOutcom
 use Rattle.ls_family_search.specs.declared.judging.ProgramOutcome.TheVariants.{Ends, Passes}
 use Rattle.ls_family_search.specs.declared.judging.Passed.{Passed}
 
--- that of the program of a number, if there is one
-abbrev pub IsOutcomeAt : {H : Type 0} → Programs → (Text → Type 0) → (Text → Type 0) → (Text → H → Type 0) → ℕ →
+-- that of the program of a number, if there is one, in a range that begins with the first number
+abbrev pub IsOutcomeAt : {H : Type 0} → Programs → (Text → Type 0) → (Text → Type 0) → (Text → H → Type 0) → ℕ → ℕ →
     ProgramOutcome H → Type 0
-IsOutcomeAt p IsGood IsCut Halts n o =
-    (plan : Plan) → slice_get (plans p.family) n ≡ Some plan → IsOutcome p IsGood IsCut Halts plan o
+IsOutcomeAt p IsGood IsCut Halts from n o =
+    (plan : Plan) → slice_get (plans p.family) n ≡ Some plan → IsOutcome p IsGood IsCut Halts from n plan o
 
 -- programs that are passed so
 abbrev pub all_pass : {H E : Type 0} → List Passed → List (Result (ProgramOutcome H) E)

@@ -8,6 +8,6 @@ mod watching;
 mod windows;
 
 pub use judging::{Halted, Judge, Judgement, Passed};
-pub use programs::Programs;
-pub use searching::{Finding, Numbers, search};
+pub use programs::{Numbers, Programs};
+pub use searching::{Finding, search};
 pub use watching::SearchWatch;

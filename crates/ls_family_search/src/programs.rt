@@ -1,6 +1,7 @@
 // The programs of a family.
 
 use ls_families::Family;
+use std::alloc::AllocError;
 use std::marker::Model;
 
 /// The programs of a family: how they make the object, and the texts of the menu's calls.
@@ -57,5 +58,18 @@ impl<'a> Programs<'a> {
         ensures { map string_bytes result.now ≡ self.now.calls }
     {
         self.calls
+    }
+}
+
+/// A range of numbers: from the first up to the one before the last.
+#[derive(Copy)]
+pub struct Numbers {
+    pub from: u64,
+    pub to: u64,
+}
+
+impl Clone for Numbers {
+    fn clone(&self) -> Result<Numbers, AllocError> {
+        Ok(*self)
     }
 }

@@ -2,11 +2,11 @@
 
 ghost use Rattle.std.specs.Prelude.{◌≡◌, ◌<◌, ◌≤◌, IfOk, length};
 ghost use Rattle.ls_families.specs.Families.{plans};
-ghost use Rattle.ls_family_search.specs.Searched.{IsFinding};
+ghost use Rattle.ls_family_search.specs.Searched.{IsFinding, PassedAreGood};
 ghost use Rattle.ls_family_search.specs.Watching.{GoesOn};
 
 use crate::judging::{Halted, Judge, Passed};
-use crate::programs::Programs;
+use crate::programs::{Numbers, Programs};
 use crate::watching::SearchWatch;
 use crate::windows::{join, outcomes_of};
 use std::alloc::{AllocError, Global};
@@ -19,19 +19,6 @@ pub struct Finding<H> {
     pub passed: Vec<Passed>,
     /// None if the whole range was passed.
     pub halted: Option<Halted<H>>,
-}
-
-/// A range of numbers: from the first up to the one before the last.
-#[derive(Copy)]
-pub struct Numbers {
-    pub from: u64,
-    pub to: u64,
-}
-
-impl Clone for Numbers {
-    fn clone(&self) -> Result<Numbers, AllocError> {
-        Ok(*self)
-    }
 }
 
 /// How many programs the first window has. Each window has twice as many as the one before it, up to a most. So a search
@@ -61,6 +48,7 @@ pub fn search<J: Judge + Sync, W: SearchWatch>(
     requires there { numbers.to ≤ length (plans programs.now.family) }
     ensures finding { IfOk result (IsFinding programs.now (J.IsGood judge.now) (J.IsCut judge.now) (J.Halts judge.now)
         numbers.from numbers.to) }
+    ensures good { IfOk result (PassedAreGood programs.now (J.IsGood judge.now) numbers.from) }
     ensures watched { GoesOn W.Since watch.old watch.new }
 {
     let Numbers { from, to } = numbers;
@@ -69,7 +57,11 @@ pub fn search<J: Judge + Sync, W: SearchWatch>(
     let mut size = FIRST_WINDOW;
     while next < to {
         let last = to.min(next.saturating_add(size));
-        let outcomes = outcomes_of(rt, judge, alloc, programs, next, last)?;
+        let window = Numbers {
+            from: next,
+            to: last,
+        };
+        let outcomes = outcomes_of(rt, judge, alloc, programs, from, window)?;
         if let Some(halted) = join(&mut passed, outcomes)? {
             return Ok(Finding {
                 passed,

@@ -10,7 +10,7 @@ use Rattle.ls_family_search.proofs.searching.search.Given as goal
 abbrev pub invariant-loop-next : goal.invariant-loop-next
 invariant-loop-next g l = record {
   passed : (k : ℕ) (said : Passed) → slice_get l.passed.items k ≡ Some said →
-      PassesAt l.programs (g.J.Judge.IsGood l.judge) (g.J.Judge.IsCut l.judge) (l.from + k) said;
+      PassesAt l.programs (g.J.Judge.IsGood l.judge) (g.J.Judge.IsCut l.judge) l.from (l.from + k) said;
   count : l.from + length l.passed.items ≡ l.next;
   within : l.next ≤ l.to;
   some : 0 < l.size;
