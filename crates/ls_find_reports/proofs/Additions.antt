@@ -15,6 +15,16 @@ none_first : (cut first next : ℕ) → cut ≡ 0 → next ≡ 0 → first_of cu
 none_first zero first next e f = f
 none_first (suc cut) first next e f = absurd (omega (arith, e))
 
+begin_first : (from cut first later cut' next : ℕ) → (0 < cut → from ≤ first) → (0 < cut' → later ≤ next) →
+    from ≤ later → 0 < cut + cut' → from ≤ first_of cut first next
+begin_first from zero first later cut' next a b order some = omega (arith, b (omega (arith, some)), order)
+begin_first from (suc cut) first later cut' next a b order some = a (omega arith)
+
+end_first : (to to' cut first cut' next : ℕ) → first + cut ≤ to + 1 → cut' + to + 1 ≤ to' + 1 → next + cut' ≤ to' + 1 →
+    first_of cut first next + (cut + cut') ≤ to' + 1
+end_first to to' zero first cut' next a few b = omega (arith, b)
+end_first to to' (suc cut) first cut' next a few b = omega (arith, a, few)
+
 -- of two ranges, one after the other
 pub both_are : (f g : Figures) → AreFigures f → AreFigures g → g.from ≡ f.to + 1 → g.count ≡ f.count → AreFigures (both f g)
 both_are f g a b next same = record {
@@ -25,6 +35,8 @@ both_are f g a b next same = record {
   passed = omega (arith, a.passed, b.passed, next);
   first = first_fits f.cut f.first g.first a.first b.first;
   none = λ e. none_first f.cut f.first g.first (omega (arith, e)) (b.none (omega (arith, e)));
+  begins = begin_first f.from f.cut f.first g.from g.cut g.first a.begins b.begins (omega (arith, a.order, next));
+  ends = end_first f.to g.to f.cut f.first g.cut g.first a.ends (omega (arith, b.passed, next)) b.ends;
 }
 
 pub end_are : (f g : Figures) → AreFigures f → AreFigures g → g.from ≡ f.to + 1 → g.count ≡ f.count →
@@ -37,6 +49,8 @@ end_are f g a b next same = record {
   passed = omega (arith, a.passed, b.order, next);
   first = a.first;
   none = a.none;
+  begins = a.begins;
+  ends = omega (arith, a.ends, b.order, next);
 }
 
 pub joined_are : (found : Option Found) (f : Figures) (s : Report) → AreFigures f → AreFigures s.figures →

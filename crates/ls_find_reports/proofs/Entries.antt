@@ -5,8 +5,8 @@ use Rattle.std.specs.Prelude.{IfSome}
 use Rattle.ls_report.specs.Cut.{cut}
 use Rattle.ls_report.specs.Events.{Text}
 use Rattle.ls_report.proofs.CutLemmas.{cut_at, cut_parts, first_of_two, none_is, second_of_two, some_is, two, without}
-use Rattle.ls_find_reports.specs.Reports.{AreFigures, Found, head_of, IsProgram, IsReport, IsWith, Report, report_text}
-use Rattle.ls_find_reports.specs.Reports.{tail_of, text_with}
+use Rattle.ls_find_reports.specs.Reports.{AreFigures, ComesAfter, Found, head_of, IsProgram, IsReport, IsWith, Report}
+use Rattle.ls_find_reports.specs.Reports.{report_text, tail_of, text_with}
 use Rattle.ls_find_reports.proofs.Lines.{figures_lack, head_lacks, split}
 use Rattle.ls_find_reports.specs.Printing.{figures_line, none_line, number_text}
 use Rattle.ls_find_reports.specs.declared.figures.Figures.{Figures}
@@ -29,7 +29,12 @@ pub report_is : (text first behind second tail : Text) (f : Figures) (r : Report
     two first behind ≡ cut 10 text → two second tail ≡ cut 10 behind → AreFigures f → second ≡ figures_line f →
     IsWith f first tail r after → IsReport r × (text ≡ report_text r ++ after)
 report_is text first behind second tail f r after a b are line w = (
-  record { figures = subst AreFigures (sym w.figures) are; found = w.found },
+  record {
+    figures = subst AreFigures (sym w.figures) are;
+    found = w.found;
+    number = some_weaker r.found (λ p. ComesAfter f p.number) (λ p. ComesAfter r.figures p.number)
+        (λ p h. subst (λ (g : Figures). ComesAfter g p.number) (sym w.figures) h) w.number;
+  },
   lines_of text first behind second tail a b ∙
       ap (λ t. t ++ 10 ∷ (second ++ 10 ∷ tail)) w.line ∙
       ap (λ t. head_of f r.found ++ 10 ∷ (t ++ 10 ∷ tail)) line ∙
@@ -87,6 +92,8 @@ pub with_lines : (f : Figures) (first second tail : Text) (r : Report) (after : 
 with_lines f first second tail r after same is has = record {
   figures = same;
   found = is.found;
+  number = some_weaker r.found (λ p. ComesAfter r.figures p.number) (λ p. ComesAfter f p.number)
+      (λ p h. subst (λ (g : Figures). ComesAfter g p.number) same h) is.number;
   line = has.first ∙ ap (λ (g : Figures). head_of g r.found) same;
   behind = has.tail;
 }
@@ -126,16 +133,16 @@ none_entry f line behind r after e w = by_found r.found refl
 
 pub program_entry : (f : Figures) (line behind : Text) (r : Report) (after : Text) → (line ≡ none_line f.cut → ⊥) →
     IsWith f line behind r after →
-    (p : Found) × (r.found ≡ Some p) × IsProgram p × (line ≡ number_text p.number f.count ++ p.reason) ×
-    (behind ≡ tail_of (Some p) after)
-program_entry f line behind r after other w = by_found r.found refl w.found
+    (p : Found) × (r.found ≡ Some p) × IsProgram p × ComesAfter f p.number ×
+    (line ≡ number_text p.number f.count ++ p.reason) × (behind ≡ tail_of (Some p) after)
+program_entry f line behind r after other w = by_found r.found refl w.found w.number
   where
-    by_found : (o : Option Found) → o ≡ r.found → IfSome o IsProgram →
-        (p : Found) × (r.found ≡ Some p) × IsProgram p × (line ≡ number_text p.number f.count ++ p.reason) ×
-        (behind ≡ tail_of (Some p) after)
-    by_found None same is = absurd (other (w.line ∙ ap (head_of f) (sym same)))
-    by_found (Some p) same is =
-        (p, sym same, is, w.line ∙ ap (head_of f) (sym same), w.behind ∙ ap (λ o. tail_of o after) (sym same))
+    by_found : (o : Option Found) → o ≡ r.found → IfSome o IsProgram → IfSome o (λ p. ComesAfter f p.number) →
+        (p : Found) × (r.found ≡ Some p) × IsProgram p × ComesAfter f p.number ×
+        (line ≡ number_text p.number f.count ++ p.reason) × (behind ≡ tail_of (Some p) after)
+    by_found None same is comes = absurd (other (w.line ∙ ap (head_of f) (sym same)))
+    by_found (Some p) same is comes =
+        (p, sym same, is, comes, w.line ∙ ap (head_of f) (sym same), w.behind ∙ ap (λ o. tail_of o after) (sym same))
 
 -- ---- a program
 

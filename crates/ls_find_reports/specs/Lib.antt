@@ -1,5 +1,6 @@
 pub mod Printing
 pub mod Statuses
+pub mod Programs
 pub mod Words
 pub mod Reports
 pub mod Sums

@@ -4,6 +4,7 @@ use Rattle.std.specs.Prelude.{codes, option_map}
 use denote.Ref.{Bor}
 use Rattle.std.specs.List.{list_all}
 use Rattle.ls_find_reports.specs.Printing.{found_text, none_line, none_text, number_text}
+use Rattle.ls_find_reports.specs.Programs.{are_lines}
 use Rattle.ls_find_reports.specs.declared.figures.Figures.{Figures}
 use Rattle.ls_find_reports.specs.declared.report.Found.{Found as CodeFound}
 use Rattle.ls_find_reports.specs.declared.report.Report.{Report as CodeReport}
@@ -43,8 +44,8 @@ tail_of (Some p) after = p.program ++ (codes "%%\n" ++ (p.schedule ++ after))
 abbrev pub lacks : ℕ → Text → Bool
 lacks b = list_all (λ c. not (c == b))
 
--- A range of some numbers of all. The doubles and the cut ones are numbers of the range. The first one that is cut is told
--- if some are.
+-- A range of some numbers of all. The doubles and the cut ones are numbers of the range. If some are cut the first of
+-- these is told, with room in the range for the others.
 pub record AreFigures (f : Figures) : Type 0 where
   pub some : 0 < f.from
   pub order : f.from ≤ f.to
@@ -53,21 +54,32 @@ pub record AreFigures (f : Figures) : Type 0 where
   pub passed : f.doubles + f.cut + f.from ≤ f.to + 1
   pub first : f.first < 2 ^ 64
   pub none : f.cut ≡ 0 → f.first ≡ 0
+  pub begins : 0 < f.cut → f.from ≤ f.first
+  pub ends : f.first + f.cut ≤ f.to + 1
+
+-- A program that is found has a number of the range, and those that were passed stand before it.
+pub record ComesAfter (f : Figures) (number : ℕ) : Type 0 where
+  pub last : number ≤ f.to
+  pub passed : f.doubles + f.cut + f.from ≤ number
+  pub cut : f.first + f.cut ≤ number
 
 -- one line, with its line feed
 abbrev pub IsLine : Text → Type 0
 IsLine text = (line : Text) × (text ≡ line ++ 10 ∷ []) × (lacks 10 line ≡ true)
 
--- the reason and the schedule are each one line, the reason without a line feed; and no sign of the program is a `%`
+-- The reason and the schedule are each one line, the reason without a line feed. The lines of the program are those of
+-- a setup and of threads, and no sign of it is a `%`.
 pub record IsProgram (p : Found) : Type 0 where
   pub number : p.number < 2 ^ 64
   pub reason : lacks 10 p.reason ≡ true
   pub program : lacks 37 p.program ≡ true
+  pub lines : are_lines p.program ≡ true
   pub schedule : IsLine p.schedule
 
 pub record IsReport (r : Report) : Type 0 where
   pub figures : AreFigures r.figures
   pub found : IfSome r.found IsProgram
+  pub number : IfSome r.found (λ p. ComesAfter r.figures p.number)
 
 -- a line that is exactly `%%`
 abbrev pub mark : Text
@@ -104,6 +116,7 @@ Explains text faults.OtherCount = ⊥
 pub record IsWith (f : Figures) (head tail : Text) (r : Report) (after : Text) : Type 0 where
   pub figures : r.figures ≡ f
   pub found : IfSome r.found IsProgram
+  pub number : IfSome r.found (λ p. ComesAfter f p.number)
   pub line : head ≡ head_of f r.found
   pub behind : tail ≡ tail_of r.found after
 

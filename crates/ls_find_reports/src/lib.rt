@@ -5,6 +5,7 @@ mod adding;
 mod fault;
 mod figures;
 mod printing;
+mod program_lines;
 mod programs;
 mod range_figures;
 mod reading;

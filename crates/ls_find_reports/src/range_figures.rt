@@ -3,7 +3,7 @@
 ghost use Rattle.std.specs.Prelude.{◌≡◌, ◌<◌, ◌^◌, ◌↔◌, ℕ, IfOk, IfSome, IsTrue, OnOk, Some, string_bytes};
 ghost use Rattle.std.specs.Fmt.{decimal};
 ghost use Rattle.ls_find_reports.specs.Words.{word_at};
-ghost use Rattle.ls_find_reports.specs.Reports.{AreFigures};
+ghost use Rattle.ls_find_reports.specs.Reports.{AreFigures, ComesAfter};
 ghost use Rattle.ls_find_reports.specs.Printing.{figures_line};
 ghost use Rattle.ls_find_reports.specs.declared.figures.Figures.{Figures as ghost_Figures};
 
@@ -42,7 +42,7 @@ fn guessed(line: &str) -> Figures
     }
 }
 
-/// Whether a range has its numbers among all, and no more doubles and cut ones than numbers.
+/// Whether a range has its numbers among all, no more doubles and cut ones than numbers, and the first cut one in it.
 fn are_figures(f: Figures) -> bool
     ensures { IsTrue result ↔ AreFigures f }
 {
@@ -52,6 +52,18 @@ fn are_figures(f: Figures) -> bool
         && f.doubles <= f.to - f.from + 1
         && f.cut <= f.to - f.from + 1 - f.doubles
         && (f.cut != 0 || f.first == 0)
+        && (f.cut == 0 || f.from <= f.first && f.first - 1 <= f.to - f.cut)
+}
+
+/// Whether a number is one of a range, with room before it for the doubles and the cut ones.
+pub(crate) fn comes_after(f: Figures, number: u64) -> bool
+    ensures { IsTrue result ↔ ComesAfter f number }
+{
+    number <= f.to
+        && f.from <= number
+        && f.doubles <= number - f.from
+        && f.cut <= number - f.from - f.doubles
+        && f.first <= number - f.cut
 }
 
 /// Puts the line in the place of the text that it borrows.

@@ -2,40 +2,46 @@
 
 ghost use Rattle.std.specs.Prelude.{◌≡◌, ◌++◌, IfErr, IfOk, IfSome, Some, map, option_map, true};
 ghost use Rattle.ls_find_reports.specs.Reports.{Found as ghost_Found, Report as ghost_Report};
-ghost use Rattle.ls_find_reports.specs.Reports.{Explains, IsProgram, IsReport, IsWith, Lists, lacks, plain_entry};
-ghost use Rattle.ls_find_reports.specs.Reports.{plain_found, plain_program, plain_report, report_text, tail_of};
+ghost use Rattle.ls_find_reports.specs.Reports.{ComesAfter, Explains, IsProgram, IsReport, IsWith, Lists, lacks};
+ghost use Rattle.ls_find_reports.specs.Reports.{plain_entry, plain_found, plain_program, plain_report, report_text, tail_of};
 ghost use Rattle.ls_find_reports.specs.Printing.{number_text};
 ghost use Rattle.ls_report.specs.Events.{Text};
 
 use crate::fault::RangeFault;
+use crate::program_lines::are_lines;
 use crate::programs::{after, body_in, number_in};
-use crate::range_figures::{figures_in, is_line};
+use crate::range_figures::{comes_after, figures_in, is_line};
 use crate::report::{Found, Report};
 use crate::{Figures, none_line};
 use ls_report::cuts::cut;
 use std::alloc::{AllocError, Global};
 
-/// The program that is found, whose first line and what stands after its second line are these; and what stands after it.
+/// The program that is found, whose first line, what is counted, and what stands after the second line are these; and
+/// what stands after it.
 fn found_in<'a>(
     printed: &mut String,
     line: &'a str,
-    count: u64,
+    figures: Figures,
     behind: &'a str,
 ) -> Result<Option<(Found<'a>, &'a str)>, AllocError>
     requires { lacks 10 line.now ≡ true }
     ensures is { IfOk result (λ o. IfSome o (λ p. IsProgram (plain_found p.0) ×
-        (line.now ≡ number_text p.0.number count ++ p.0.reason.now) ×
+        ComesAfter figures p.0.number ×
+        (line.now ≡ number_text p.0.number figures.count ++ p.0.reason.now) ×
         (behind.now ≡ tail_of (Some (plain_found p.0)) p.1.now))) }
-    ensures reads { (f : ghost_Found) (after : Text) → IsProgram f →
-        line.now ≡ number_text f.number count ++ f.reason → behind.now ≡ tail_of (Some f) after →
+    ensures reads { (f : ghost_Found) (after : Text) → IsProgram f → ComesAfter figures f.number →
+        line.now ≡ number_text f.number figures.count ++ f.reason → behind.now ≡ tail_of (Some f) after →
         IfOk result (λ o. option_map plain_program o ≡ Some (f, after)) }
 {
-    let Some((number, reason)) = number_in(printed, line, count)? else {
+    let Some((number, reason)) = number_in(printed, line, figures.count)? else {
         return Ok(None);
     };
     let Some((program, schedule, after)) = body_in(behind) else {
         return Ok(None);
     };
+    if !comes_after(figures, number) || !are_lines(program) {
+        return Ok(None);
+    }
     let found = Found {
         number,
         reason,
@@ -61,7 +67,7 @@ fn with_figures<'a>(
         let found = None;
         return Ok(Some((Report { figures, found }, behind)));
     }
-    match found_in(printed, line, figures.count, behind)? {
+    match found_in(printed, line, figures, behind)? {
         Some((program, after)) => {
             let found = Some(program);
             Ok(Some((Report { figures, found }, after)))

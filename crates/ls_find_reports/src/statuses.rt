@@ -3,7 +3,7 @@
 ghost use Rattle.std.specs.Prelude.{◌≡◌};
 ghost use Rattle.ls_find_reports.specs.Statuses.{FoundIsThree, NoneIsFourIfCut, begins, status_of};
 
-fn begins(text: &str, first: &str) -> bool
+pub(crate) fn begins(text: &str, first: &str) -> bool
     ensures { result ≡ begins text.now first.now }
 {
     text.starts_with(first)

@@ -1,0 +1,27 @@
+-- The lines of a program that is found.
+use Rattle.std.specs.Prelude.{◌||◌, Bool, false, true, [], ◌∷◌, Option, None, Some, codes, if◌then◌else◌, option_map}
+use Rattle.ls_report.specs.Cut.{cut}
+use Rattle.ls_report.specs.Events.{Text}
+use Rattle.ls_find_reports.specs.Statuses.{begins}
+
+-- what stands behind the first line of a text, if that begins so
+abbrev pub behind_line : Text → Option Text → Option Text
+behind_line front None = None
+behind_line front (Some text) = if begins text front then option_map (λ p. p.1) (cut 10 text) else None
+
+abbrev pub is_end : Option Text → Bool
+is_end None = false
+is_end (Some []) = true
+is_end (Some (b ∷ text)) = false
+
+-- what stands behind the lines of the setup, A and B
+abbrev pub behind_two : Text → Option Text
+behind_two text =
+    behind_line (codes "thread B { ") (behind_line (codes "thread A { ") (behind_line (codes "setup { ") (Some text)))
+
+-- Whether the lines of a text are those of a setup and of two threads, of three or of four, in order. Of each line it
+-- is said how it begins.
+abbrev pub are_lines : Text → Bool
+are_lines text =
+    is_end (behind_two text) || (is_end (behind_line (codes "thread C { ") (behind_two text)) ||
+    is_end (behind_line (codes "thread D { ") (behind_line (codes "thread C { ") (behind_two text))))

@@ -1,0 +1,52 @@
+// The lines of a program that is found.
+
+ghost use Rattle.std.specs.Prelude.{◌≡◌, Some, option_map};
+ghost use Rattle.ls_find_reports.specs.Programs.{are_lines, behind_line, behind_two, is_end};
+
+use crate::statuses::begins;
+use ls_report::cuts::cut;
+
+/// What stands behind the first line of a text, if that begins so.
+fn behind_line<'a>(front: &str, text: Option<&'a str>) -> Option<&'a str>
+    ensures { option_map (λ t. t.now) result ≡ behind_line front.now (option_map (λ t. t.now) text.entry) }
+{
+    let Some(text) = text else {
+        return None;
+    };
+    if !begins(text, front) {
+        return None;
+    }
+    match cut(text, '\n') {
+        Some((_, rest)) => Some(rest),
+        None => None,
+    }
+}
+
+/// What stands behind the lines of the setup and of the first two threads.
+fn behind_two(text: &str) -> Option<&str>
+    ensures { option_map (λ t. t.now) result ≡ behind_two text.now }
+{
+    let setup = behind_line("setup { ", Some(text));
+    let first = behind_line("thread A { ", setup);
+    behind_line("thread B { ", first)
+}
+
+/// Whether a text is there, and nothing stands in it.
+fn is_end(text: Option<&str>) -> bool
+    ensures { result ≡ is_end (option_map (λ t. t.now) text.entry) }
+{
+    match text {
+        Some(text) => text.is_empty(),
+        None => false,
+    }
+}
+
+/// Whether the lines of a text are those of a setup and of two threads, of three or of four, in order.
+pub(crate) fn are_lines(text: &str) -> bool
+    ensures { result ≡ are_lines text.now }
+{
+    let two = behind_two(text);
+    let three = behind_line("thread C { ", two);
+    let four = behind_line("thread D { ", three);
+    is_end(two) || is_end(three) || is_end(four)
+}
