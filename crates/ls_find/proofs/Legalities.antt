@@ -8,9 +8,9 @@ use Rattle.ls_explore.specs.Rows.{Told}
 use Rattle.ls_explore.specs.Tellings.{TellTruth, TellWhole, schedule_of}
 use Rattle.ls_explore_reports.specs.Verdicts.{EachIsLegal, HasLegalOrder}
 use Rattle.ls_find.specs.Said.{IsVerdict, LongSchedule}
-use Rattle.ls_find.specs.Sought.{AllLegal, AllNamed, AreNamed, Cut, EndsWell, HasUnjudged, IsEndVerdict, IsSetVerdict}
+use Rattle.ls_find.specs.Sought.{AllLegal, AllNamed, AreNamed, Cut, HasUnjudged, IsLegalVerdict, IsSetVerdict}
 use Rattle.ls_find.specs.Sought.{IsTurningVerdict, IsUnknown, IsVerdictFor, Turns, Unjudged, Waits}
-use Rattle.ls_find.specs.Verdicts.{IsBad, IsGood, ShowsRow}
+use Rattle.ls_find.specs.Verdicts.{IsAsked, IsBadSchedule, IsGood, ShowsRow}
 use Rattle.ls_find.specs.declared.sought.Sought.{Sought}
 use Rattle.ls_find.specs.declared.verdict.Reason.{Reason}
 use Rattle.ls_find.specs.declared.verdict.Reason.TheVariants as reasons
@@ -62,9 +62,13 @@ module _ (file : File) (program : Program) (k : ℕ) (rows : List Told) (truth :
       (v : ProgramVerdict) → ShowsRow reasons.Illegal k rows at v → (states : ℕ) → IsSetVerdict states file program v
   shown_illegal at is v shows states = by_verdict v shows
     where
-      illegal : IsBad reasons.Illegal file program (schedule_of k is.0)
-      illegal = subst (λ (h : List Event). sets.IsVerdict program h Illegal)
-          (truth.told is.0 (got_there rows at is.0 is.1)) is.2
+      illegal : IsBadSchedule reasons.Illegal file program (schedule_of k is.0)
+      illegal =
+          let there = got_there rows at is.0 is.1 in
+          record {
+            bad = subst (λ (h : List Event). sets.IsVerdict program h Illegal) (truth.told is.0 there) is.2;
+            acts = truth.acts is.0 there;
+          }
 
       by_verdict : (v : ProgramVerdict) → ShowsRow reasons.Illegal k rows at v → IsSetVerdict states file program v
       by_verdict verdicts.Good shows = absurd shows
@@ -72,27 +76,45 @@ module _ (file : File) (program : Program) (k : ℕ) (rows : List Told) (truth :
           inl (LongSchedule reasons.Illegal (schedule_of k is.0) illegal (shows is.0 is.1))
       by_verdict (verdicts.Bad reason schedule) shows =
           let row : is.0 ≡ shows.0 = some_is (sym is.1 ∙ shows.1) in
-          subst (λ (said : Reason). IsBad said file program schedule) (sym shows.3)
-          (subst (IsBad reasons.Illegal file program) (ap (schedule_of k) row ∙ sym shows.2) illegal)
+          record {
+            reason_is = shows.3;
+            schedule_is = subst (λ (said : Reason). IsBadSchedule said file program schedule) (sym shows.3)
+                (subst (IsBadSchedule reasons.Illegal file program) (ap (schedule_of k) row ∙ sym shows.2) illegal);
+          }
 
 -- what isn't known of a program isn't known of all that is looked for
 pub unknown_for : (sought : Sought) (states : ℕ) (file : File) (program : Program) →
-    IsVerdict states sought.waiting file program verdicts.Unknown → IsUnknown sought states file program
+    IsVerdict states sought file program verdicts.Unknown → IsUnknown sought states file program
 unknown_for sought states file program (inl cut) = Cut cut
 unknown_for sought states file program (inr waits) = Waits waits
 
--- both verdicts together
-pub with_set : (sought : Sought) (states : ℕ) (file : File) (program : Program) (v : ProgramVerdict) →
-    sought.set ≡ true → IsGood sought.waiting file program → IsSetVerdict states file program v →
-    IsEndVerdict sought states file program v
-with_set sought states file program verdicts.Good asked good legal = record { good = good; legal = λ e. legal }
-with_set sought states file program verdicts.Unknown asked good (inl cut) = Cut cut
-with_set sought states file program verdicts.Unknown asked good (inr unjudged) = Unjudged asked good unjudged
-with_set sought states file program (verdicts.Bad reason schedule) asked good bad = bad
+-- what is said of sets, where they are looked for
+pub of_set : (sought : Sought) (states : ℕ) (file : File) (program : Program) (v : ProgramVerdict) → sought.set ≡ true →
+    IsSetVerdict states file program v → IsLegalVerdict sought states file program v
+of_set sought states file program verdicts.Good asked legal = λ e. legal
+of_set sought states file program verdicts.Unknown asked none = (asked, none)
+of_set sought states file program (verdicts.Bad reason schedule) asked shown = record {
+  asked = subst (IsAsked sought) (sym shown.reason_is) asked;
+  schedule_is = shown.schedule_is;
+}
 
+-- what is said where all else is well
 pub with_turning : (sought : Sought) (states : ℕ) (file : File) (program : Program) (v : ProgramVerdict) →
-    sought.turning ≡ true → EndsWell sought file program → IsTurningVerdict file program v →
-    IsVerdictFor sought states file program v
-with_turning sought states file program verdicts.Good asked ends never = record { ends = ends; turns = λ e. never }
-with_turning sought states file program verdicts.Unknown asked ends never = Turns asked ends
-with_turning sought states file program (verdicts.Bad reason schedule) asked ends bad = bad
+    IsGood sought.waiting file program → (sought.set ≡ true → AllLegal file program) →
+    IsTurningVerdict sought file program v → IsVerdictFor sought states file program v
+with_turning sought states file program verdicts.Good good legal never =
+    record { ends = record { good = good; legal = legal }; turns = never }
+with_turning sought states file program verdicts.Unknown good legal asked = Turns asked good (λ up. inl (legal up))
+with_turning sought states file program (verdicts.Bad reason schedule) good legal shown = shown
+
+-- where histories can't be judged as those of a set
+pub unjudged_for : (sought : Sought) (states : ℕ) (file : File) (program : Program) →
+    IsGood sought.waiting file program →
+    IsLegalVerdict sought states file program verdicts.Unknown → (v : ProgramVerdict) →
+    (v ≡ verdicts.Good) ⊎ (v ≡ verdicts.Unknown) → IsTurningVerdict sought file program v →
+    IsUnknown sought states file program
+unjudged_for sought states file program good (asked, inl cut) v is said = Cut cut
+unjudged_for sought states file program good (asked, inr unjudged) v (inl is) said =
+    Unjudged asked good unjudged (subst (IsTurningVerdict sought file program) is said)
+unjudged_for sought states file program good (asked, inr unjudged) v (inr is) said =
+    Turns (subst (IsTurningVerdict sought file program) is said) good (λ up. inr unjudged)

@@ -13,3 +13,5 @@ pub mod Expressions
 pub mod Statements
 pub mod Files
 pub mod Texts
+pub mod ReadBack
+pub mod Turned

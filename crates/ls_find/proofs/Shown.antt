@@ -11,7 +11,8 @@ use Rattle.ls_explore_reports.specs.Linearizable.{UnexplainedIsNot}
 use Rattle.ls_explore_reports.specs.Rows.{TellExplained}
 use Rattle.ls_linearizable.specs.Linearizable.{IsLinearizable}
 use Rattle.ls_find.specs.Said.{IsVerdict, LongSchedule}
-use Rattle.ls_find.specs.Verdicts.{IsBad, IsNotLinearizable, ShowsRow}
+use Rattle.ls_find.specs.Verdicts.{IsBadSchedule, IsNotLinearizable, IsShown, ShowsRow}
+use Rattle.ls_find.specs.declared.sought.Sought.{Sought}
 use Rattle.ls_find.specs.declared.verdict.ProgramVerdict.{ProgramVerdict}
 use Rattle.ls_find.specs.declared.verdict.ProgramVerdict.TheVariants.{Bad, Good, Unknown}
 use Rattle.ls_find.specs.declared.verdict.Reason.{Reason}
@@ -61,13 +62,19 @@ module _ (file : File) (program : Program) (k : ℕ) (rows : List Told) (flags :
       never file program rows flags at r whole explained there (one_down flags at is)
       (subst (λ (h : List Event). IsLinearizable file program h) (sym (truth.told r (got_there rows at r there))) linear)
 
+  bad_schedule : (r : Told) → slice_get rows at ≡ Some r → IsBadSchedule NotLinearizable file program (schedule_of k r)
+  bad_schedule r there = record { bad = row_is_bad r there; acts = truth.acts r (got_there rows at r there) }
+
   -- so is the verdict that shows it
-  pub shown_verdict : (states : ℕ) (waiting : Bool) (v : ProgramVerdict) → ShowsRow NotLinearizable k rows at v →
-      IsVerdict states waiting file program v
-  shown_verdict states waiting Good shows = absurd shows
-  shown_verdict states waiting Unknown shows =
+  pub shown_verdict : (states : ℕ) (sought : Sought) (v : ProgramVerdict) → ShowsRow NotLinearizable k rows at v →
+      IsVerdict states sought file program v
+  shown_verdict states sought Good shows = absurd shows
+  shown_verdict states sought Unknown shows =
       let there = flag_there _ rows flags at false explained (one_down flags at is) in
-      inl (LongSchedule NotLinearizable (schedule_of k there.0) (row_is_bad there.0 there.1) (shows there.0 there.1))
-  shown_verdict states waiting (Bad reason schedule) shows =
-      subst (λ (said : Reason). IsBad said file program schedule) (sym shows.3)
-      (subst (IsNotLinearizable file program) (sym shows.2) (row_is_bad shows.0 shows.1))
+      inl (LongSchedule NotLinearizable (schedule_of k there.0) (bad_schedule there.0 there.1) (shows there.0 there.1))
+  shown_verdict states sought (Bad reason schedule) shows =
+      subst (λ (said : Reason). IsShown sought said file program schedule) (sym shows.3)
+      (record {
+        asked = tt;
+        schedule_is = subst (IsBadSchedule NotLinearizable file program) (sym shows.2) (bad_schedule shows.0 shows.1);
+      })

@@ -13,7 +13,8 @@ use Rattle.ls_serial_search.specs.Endless.{AreEndlessRuns, TellEndlessRuns}
 use Rattle.ls_endless_calls.specs.Laws.{AmongNeverEnds, NoneWaitsForEver, NeverEndsSo, NeverEndsIsAmong}
 use Rattle.ls_endless_calls.specs.Waits.{IsPending}
 use Rattle.ls_find.specs.Said.{HasWaitingCall, IsVerdict, IsVerdictIfAny, IsWaitingVerdict, LongSchedule}
-use Rattle.ls_find.specs.Verdicts.{AllExcused, AllLinearizable, HasWaiting, IsBad, ShowsRow, WaitsAt}
+use Rattle.ls_find.specs.Verdicts.{AllExcused, AllLinearizable, HasWaiting, IsAsked, IsBadSchedule, ShowsRow, WaitsAt}
+use Rattle.ls_find.specs.declared.sought.Sought.{Sought}
 use Rattle.ls_find.specs.declared.verdict.Reason.{Reason}
 use Rattle.ls_find.specs.declared.verdict.Reason.TheVariants.{Waits}
 use Rattle.ls_find.specs.declared.verdict.ProgramVerdict.{ProgramVerdict}
@@ -83,30 +84,40 @@ module _ (file : File) (program : Program) (k : ℕ) (rows : List Told) (runs : 
       same : over.0 ≡ w.row
       same = some_is (sym over.1 ∙ w.is)
 
-      waits : HasWaiting file program (schedule_of k w.row)
-      waits = row_waits all tell (subst (λ (q : Told). q.ending ≡ Over) same over.2)
+      bad : IsBadSchedule Waits file program (schedule_of k w.row)
+      bad = record {
+        bad = row_waits all tell (subst (λ (q : Told). q.ending ≡ Over) same over.2);
+        acts = truth.acts w.row there;
+      }
 
       by_verdict : (v : ProgramVerdict) → ShowsRow Waits k rows at v → IsWaitingVerdict states file program v
       by_verdict Good shows = absurd shows
-      by_verdict Unknown shows = inl (LongSchedule Waits (schedule_of k w.row) waits (shows w.row w.is))
+      by_verdict Unknown shows = inl (LongSchedule Waits (schedule_of k w.row) bad (shows w.row w.is))
       by_verdict (Bad reason schedule) shows =
           let row : w.row ≡ shows.0 = some_is (sym w.is ∙ shows.1) in
-          subst (λ (said : Reason). IsBad said file program schedule) (sym shows.3)
-          (subst (HasWaiting file program) (ap (schedule_of k) row ∙ sym shows.2) waits)
+          record {
+            reason_is = shows.3;
+            schedule_is = subst (λ (said : Reason). IsBadSchedule said file program schedule) (sym shows.3)
+                (subst (IsBadSchedule Waits file program) (ap (schedule_of k) row ∙ sym shows.2) bad);
+          }
 
 -- both verdicts together
-pub both_verdicts : (file : File) (program : Program) (states : ℕ) (v : ProgramVerdict) → AllLinearizable file program →
-    IsWaitingVerdict states file program v → IsVerdict states true file program v
-both_verdicts file program states Good linear none = record { linearizable = linear; waits = λ e. none }
-both_verdicts file program states Unknown linear (inl cut) = inl cut
-both_verdicts file program states Unknown linear (inr waits) =
-    inr (record { asked = refl; linearizable = linear; waits = waits })
-both_verdicts file program states (Bad reason schedule) linear none = none
+pub both_verdicts : (file : File) (program : Program) (states : ℕ) (sought : Sought) (v : ProgramVerdict) →
+    sought.waiting ≡ true → AllLinearizable file program → IsWaitingVerdict states file program v →
+    IsVerdict states sought file program v
+both_verdicts file program states sought Good asked linear none = record { linearizable = linear; waits = λ e. none }
+both_verdicts file program states sought Unknown asked linear (inl cut) = inl cut
+both_verdicts file program states sought Unknown asked linear (inr waits) =
+    inr (record { asked = asked; linearizable = linear; waits = waits })
+both_verdicts file program states sought (Bad reason schedule) asked linear shown = record {
+  asked = subst (IsAsked sought) (sym shown.reason_is) asked;
+  schedule_is = shown.schedule_is;
+}
 
 -- what isn't decided by the states is said as by the rows
-pub either_verdict : (file : File) (program : Program) (states : ℕ) (waiting : Bool) (v : ProgramVerdict) →
-    IsVerdictIfAny waiting file program v → IsVerdict states waiting file program Unknown →
-    IsVerdict states waiting file program v
-either_verdict file program states waiting Good said unknown = said
-either_verdict file program states waiting Unknown said unknown = unknown
-either_verdict file program states waiting (Bad reason schedule) said unknown = said
+pub either_verdict : (file : File) (program : Program) (states : ℕ) (sought : Sought) (v : ProgramVerdict) →
+    IsVerdictIfAny sought file program v → IsVerdict states sought file program Unknown →
+    IsVerdict states sought file program v
+either_verdict file program states sought Good said unknown = said
+either_verdict file program states sought Unknown said unknown = unknown
+either_verdict file program states sought (Bad reason schedule) said unknown = said

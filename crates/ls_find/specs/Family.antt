@@ -1,10 +1,10 @@
--- What a search says of a whole family.
-use Rattle.std.specs.Prelude.{◌≡◌, ◌<◌, ◌≤◌, ℕ, None, Some, length, slice_get}
+-- What a search says of the programs of a family.
+use Rattle.std.specs.Prelude.{◌≡◌, ◌<◌, ℕ, None, Some, length, slice_get}
 use Rattle.ls_families.specs.Belonging.{IsPlanOf}
 use Rattle.ls_families.specs.Families.{Plan, family_of, plans}
 use Rattle.ls_families.specs.declared.shapes.Bounds.{Bounds}
 use Rattle.ls_family_search.specs.Judged.{Programs, text_of}
-use Rattle.ls_family_search.specs.Searched.{IsFinding}
+use Rattle.ls_family_search.specs.Searched.{IsFinding, PassedAreGood}
 use Rattle.ls_family_search.specs.declared.judging.Passed.TheVariants.{Cut}
 use Rattle.ls_family_search.specs.declared.searching.Finding.{Finding}
 use Rattle.ls_find.specs.Found.{IsCut, IsSound, IsWhy, Text}
@@ -14,7 +14,7 @@ use Rattle.ls_find.specs.declared.sought.Sought.{Sought}
 -- what a search of a class text's programs from one number to another says
 abbrev pub IsFound : Sought → ℕ → Text → Programs → ℕ → ℕ → Finding Why → Type 0
 IsFound sought states classes p from to f =
-    IsFinding p (IsSound sought classes) (IsCut sought states classes) (IsWhy classes) from to f
+    IsFinding p (IsSound sought classes) (IsCut sought states classes) (IsWhy sought classes) from to f
 
 -- it has gone through all programs, with none that ends it, and none is cut
 pub record IsWhole (sought : Sought) (states : ℕ) (classes : Text) (p : Programs) (f : Finding Why) : Type 0 where
@@ -30,10 +30,12 @@ EachIsSound =
     0 < menu → 0 < b.calls → p.family ≡ family_of menu b → IsWhole sought states classes p f → (plan : Plan) → IsPlanOf menu b plan →
     IsSound sought classes (text_of p plan)
 
--- So is each that a search from the first number on has passed, if none up to that one is cut.
+-- Each program that a search has passed from a number on is so, if none up to that one is cut.
+abbrev pub PassedAreSound : Sought → Text → Programs → ℕ → Finding Why → Type 0
+PassedAreSound sought classes p from f = PassedAreGood p (IsSound sought classes) from f
+
+-- So it is of each range.
 abbrev pub EachPassedIsSound : Type 0
 EachPassedIsSound =
-    (menu : ℕ) (b : Bounds) (sought : Sought) (states : ℕ) (classes : Text) (p : Programs) (to : ℕ) (f : Finding Why) →
-    0 < menu → 0 < b.calls → p.family ≡ family_of menu b → IsFound sought states classes p 0 to f → (n : ℕ) (plan : Plan) →
-    n < length f.passed.items → slice_get (plans p.family) n ≡ Some plan →
-    ((k : ℕ) → k ≤ n → slice_get f.passed.items k ≡ Some Cut → ⊥) → IsSound sought classes (text_of p plan)
+    (sought : Sought) (states : ℕ) (classes : Text) (p : Programs) (from to : ℕ) (f : Finding Why) →
+    IsFound sought states classes p from to f → PassedAreSound sought classes p from f

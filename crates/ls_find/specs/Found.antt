@@ -1,5 +1,5 @@
 -- What is found of the programs of a class.
-use Rattle.std.specs.Prelude.{◌≡◌, ◌++◌, ℕ, Bool, true, List, Err, codes, string_bytes}
+use Rattle.std.specs.Prelude.{◌≡◌, ◌++◌, ℕ, Bool, true, List, Err, Ok, codes, string_bytes}
 use Rattle.ls_compiler.specs.Answers.{CompilesTo}
 use Rattle.ls_explore_reports.specs.ImageNames.{names_in}
 use Rattle.ls_explore_reports.specs.Waiting.{waiting}
@@ -11,10 +11,11 @@ use Rattle.ls_translation.specs.Texts.{file_of, program_of}
 use Rattle.ls_fewest_switches.specs.Wording.{switches_text}
 use Rattle.ls_find.specs.Fewest.{IsFewest}
 use Rattle.ls_find.specs.Sought.{IsGoodFor, IsUnknown}
-use Rattle.ls_find.specs.Verdicts.{IsBad}
+use Rattle.ls_find.specs.Verdicts.{IsAsked, IsBad}
 use Rattle.ls_find.specs.declared.sought.Sought.{Sought}
 use Rattle.ls_schedule.specs.Printing.{schedule_text}
-use Rattle.ls_schedule.specs.Reading.{thread_names}
+use Rattle.ls_schedule.specs.Reading.{schedule_of, thread_names}
+use Rattle.ls_explore.specs.Rows.{ActAll}
 use Rattle.ls_find.specs.declared.explorer.Why.{Why}
 use Rattle.ls_find.specs.declared.explorer.Why.TheVariants as whys
 use Rattle.ls_find.specs.declared.verdict.Reason.{Reason}
@@ -46,20 +47,25 @@ abbrev pub why_text : Reason → Bool → Names → List Text → List ℕ → T
 why_text reason fewest names threads schedule =
     reason_text reason names threads schedule ++ switches_text fewest schedule
 
--- With this program it compiles, and a schedule is bad for a reason; these are the texts of the reason and of the
--- schedule. If its context switches are told, no schedule with which it is compared has fewer.
-pub record IsBadProgram (classes program because text : Text) : Type 0 where
+-- With this program it compiles, and a schedule is bad for a reason that is looked for. Each of its steps acts. These are the
+-- texts of the reason and of the schedule, and the schedule is read as it is printed. If its context switches are told, no
+-- schedule with which it is compared has fewer.
+pub record IsBadProgram (sought : Sought) (classes program because text : Text) : Type 0 where
   pub image : Image
   pub compiles : Compiles classes program image
   pub reason : Reason
   pub schedule : List ℕ
+  pub asked : IsAsked sought reason
   pub bad : IsBad reason (file_of image) (program_of image) schedule
+  pub acts : ActAll (file_of image) (program_of image) schedule
   pub is_fewest : Bool
   pub fewest : is_fewest ≡ true → IsFewest reason (file_of image) (program_of image) schedule
   pub why : because ≡ why_text reason is_fewest (names_in image) (thread_names (program_of_image image)) schedule
   pub said : text ≡ schedule_text (thread_names (program_of_image image)) schedule
+  pub reads : schedule_of (thread_names (program_of_image image)) text ≡ Ok schedule
 
 -- so it is; or it doesn't compile
-abbrev pub IsWhy : Text → Text → Why → Type 0
-IsWhy classes program (whys.Bad why text) = IsBadProgram classes program (string_bytes why) (string_bytes text)
-IsWhy classes program (whys.NotCompiled f) = CompilesTo classes program (Err f)
+abbrev pub IsWhy : Sought → Text → Text → Why → Type 0
+IsWhy sought classes program (whys.Bad why text) =
+    IsBadProgram sought classes program (string_bytes why) (string_bytes text)
+IsWhy sought classes program (whys.NotCompiled f) = CompilesTo classes program (Err f)

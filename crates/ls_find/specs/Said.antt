@@ -11,20 +11,22 @@ use Rattle.ls_endless_calls.specs.Waits.{IsPending}
 use Rattle.ls_explore.specs.Faults.{AreBadStates}
 use Rattle.ls_explore.specs.Rows.{TellStates, Told}
 use Rattle.ls_explore.specs.Settings.{GoesOnFor}
-use Rattle.ls_find.specs.Verdicts.{AllLinearizable, IsBad, IsGood}
+use Rattle.ls_find.specs.Verdicts.{AllLinearizable, IsBadSchedule, IsGood, IsShown, IsShownFor}
+use Rattle.ls_find.specs.declared.sought.Sought.{Sought}
 use Rattle.ls_find.specs.declared.verdict.ProgramVerdict.{ProgramVerdict}
 use Rattle.ls_find.specs.declared.verdict.ProgramVerdict.TheVariants as verdicts
 use Rattle.ls_find.specs.declared.verdict.Reason.{Reason}
+use Rattle.ls_find.specs.declared.verdict.Reason.TheVariants as reasons
 
 -- Why not all schedules are looked at. No such number of states may be kept. Or the setup acts in each of 100,001
 -- steps. Or there are as many states as may be kept, each with a path of its own. Or a schedule is bad that has more
--- steps than a schedule may have.
+-- steps than a schedule may have, each of which acts.
 pub data IsCutShort (states : ℕ) (file : File) (program : Program) : Type 0 where
   NoStates : AreBadStates states → IsCutShort states file program
   SetupGoesOn : GoesOnFor file program 100001 → IsCutShort states file program
   ManyStates : (k : ℕ) (rows : List Told) → TellStates file program k rows states → IsCutShort states file program
   LongSchedule : (reason : Reason) (schedule : List ℕ) →
-      IsBad reason file program schedule →
+      IsBadSchedule reason file program schedule →
       most_steps < length schedule →
       IsCutShort states file program
 
@@ -39,7 +41,8 @@ pub record HasWaitingCall (file : File) (program : Program) : Type 0 where
 abbrev pub IsWaitingVerdict : ℕ → File → Program → ProgramVerdict → Type 0
 IsWaitingVerdict states file program verdicts.Good = NoneWaitsForEver file program
 IsWaitingVerdict states file program verdicts.Unknown = IsCutShort states file program ⊎ HasWaitingCall file program
-IsWaitingVerdict states file program (verdicts.Bad reason schedule) = IsBad reason file program schedule
+IsWaitingVerdict states file program (verdicts.Bad reason schedule) =
+    IsShownFor reasons.Waits reason file program schedule
 
 -- if waiting is looked for, all histories are linearizable, and a call waits
 pub record MayWait (waiting : Bool) (file : File) (program : Program) : Type 0 where
@@ -48,13 +51,14 @@ pub record MayWait (waiting : Bool) (file : File) (program : Program) : Type 0 w
   pub waits : HasWaitingCall file program
 
 -- what is said of a program: nothing only where its schedules are cut short, or a call may wait for ever
-abbrev pub IsVerdict : ℕ → Bool → File → Program → ProgramVerdict → Type 0
-IsVerdict states waiting file program verdicts.Good = IsGood waiting file program
-IsVerdict states waiting file program verdicts.Unknown = IsCutShort states file program ⊎ MayWait waiting file program
-IsVerdict states waiting file program (verdicts.Bad reason schedule) = IsBad reason file program schedule
+abbrev pub IsVerdict : ℕ → Sought → File → Program → ProgramVerdict → Type 0
+IsVerdict states sought file program verdicts.Good = IsGood sought.waiting file program
+IsVerdict states sought file program verdicts.Unknown =
+    IsCutShort states file program ⊎ MayWait sought.waiting file program
+IsVerdict states sought file program (verdicts.Bad reason schedule) = IsShown sought reason file program schedule
 
 -- the same, or nothing
-abbrev pub IsVerdictIfAny : Bool → File → Program → ProgramVerdict → Type 0
-IsVerdictIfAny waiting file program verdicts.Good = IsGood waiting file program
-IsVerdictIfAny waiting file program verdicts.Unknown = Unit {0}
-IsVerdictIfAny waiting file program (verdicts.Bad reason schedule) = IsBad reason file program schedule
+abbrev pub IsVerdictIfAny : Sought → File → Program → ProgramVerdict → Type 0
+IsVerdictIfAny sought file program verdicts.Good = IsGood sought.waiting file program
+IsVerdictIfAny sought file program verdicts.Unknown = Unit {0}
+IsVerdictIfAny sought file program (verdicts.Bad reason schedule) = IsShown sought reason file program schedule

@@ -6,12 +6,13 @@ use Rattle.ls_endless_calls.specs.Turning.{NoneTurnsUnexcused}
 use Rattle.ls_explore.specs.Rows.{Told}
 use Rattle.ls_explore_reports.specs.Verdicts.{HasLegalOrder}
 use Rattle.ls_find.specs.Said.{IsCutShort, MayWait}
-use Rattle.ls_find.specs.Verdicts.{IsBad, IsGood}
+use Rattle.ls_find.specs.Verdicts.{IsGood, IsShown, IsShownFor}
 use Rattle.ls_find.specs.declared.legal.Legality.{Legality}
 use Rattle.ls_find.specs.declared.legal.Legality.TheVariants as legality
 use Rattle.ls_find.specs.declared.sought.Sought.{Sought}
 use Rattle.ls_find.specs.declared.verdict.ProgramVerdict.{ProgramVerdict}
 use Rattle.ls_find.specs.declared.verdict.ProgramVerdict.TheVariants as verdicts
+use Rattle.ls_find.specs.declared.verdict.Reason.TheVariants as reasons
 use Rattle.ls_meaning.specs.Runs.{source_history}
 use Rattle.ls_text_laws.specs.Histories.{IsReadable}
 use Rattle.ls_verdicts.specs.Verdicts.{IsHistoryOf, IsVerdict}
@@ -34,46 +35,52 @@ pub record HasUnjudged (file : File) (program : Program) : Type 0 where
       IsVerdict program (source_history file program schedule) TooManyTrapped
 
 -- When nothing is said of a program. Its schedules are cut short. Or all histories are linearizable, and a call may
--- wait for ever. Or no call does, and a history can't be judged as one of a set. Or all ends well, and threads may turn
--- for ever.
+-- wait for ever. Or no call does, and a history can't be judged as one of a set; and no threads turn for ever, if these
+-- are looked for. Or all else is well, or can't be judged so, and threads may turn for ever.
 pub data IsUnknown (sought : Sought) (states : ℕ) (file : File) (program : Program) : Type 0 where
   Cut : IsCutShort states file program → IsUnknown sought states file program
   Waits : MayWait sought.waiting file program → IsUnknown sought states file program
   Unjudged : sought.set ≡ true →
       IsGood sought.waiting file program →
       HasUnjudged file program →
+      (sought.turning ≡ true → NoneTurnsUnexcused file program) →
       IsUnknown sought states file program
-  Turns : sought.turning ≡ true → EndsWell sought file program → IsUnknown sought states file program
-
--- what is said of all that ends
-abbrev pub IsEndVerdict : Sought → ℕ → File → Program → ProgramVerdict → Type 0
-IsEndVerdict sought states file program verdicts.Good = EndsWell sought file program
-IsEndVerdict sought states file program verdicts.Unknown = IsUnknown sought states file program
-IsEndVerdict sought states file program (verdicts.Bad reason schedule) = IsBad reason file program schedule
+  Turns : sought.turning ≡ true →
+      IsGood sought.waiting file program →
+      (sought.set ≡ true → AllLegal file program ⊎ HasUnjudged file program) →
+      IsUnknown sought states file program
 
 -- and no threads turn for ever in calls that end where calls run one at a time, if these are looked for
 pub record IsGoodFor (sought : Sought) (file : File) (program : Program) : Type 0 where
   pub ends : EndsWell sought file program
   pub turns : sought.turning ≡ true → NoneTurnsUnexcused file program
 
--- no threads do, or they do after the schedule that is shown
-abbrev pub IsTurningVerdict : File → Program → ProgramVerdict → Type 0
-IsTurningVerdict file program verdicts.Good = NoneTurnsUnexcused file program
-IsTurningVerdict file program verdicts.Unknown = Unit {0}
-IsTurningVerdict file program (verdicts.Bad reason schedule) = IsBad reason file program schedule
+-- no threads turn for ever, or they do after the schedule that is shown, if these are looked for
+abbrev pub IsTurningVerdict : Sought → File → Program → ProgramVerdict → Type 0
+IsTurningVerdict sought file program verdicts.Good = sought.turning ≡ true → NoneTurnsUnexcused file program
+IsTurningVerdict sought file program verdicts.Unknown = sought.turning ≡ true
+IsTurningVerdict sought file program (verdicts.Bad reason schedule) = IsShown sought reason file program schedule
 
 -- what is said of a program
 abbrev pub IsVerdictFor : Sought → ℕ → File → Program → ProgramVerdict → Type 0
 IsVerdictFor sought states file program verdicts.Good = IsGoodFor sought file program
 IsVerdictFor sought states file program verdicts.Unknown = IsUnknown sought states file program
-IsVerdictFor sought states file program (verdicts.Bad reason schedule) = IsBad reason file program schedule
+IsVerdictFor sought states file program (verdicts.Bad reason schedule) = IsShown sought reason file program schedule
 
 -- Each history is legal, or that of the schedule that is shown isn't. Nothing is said only where the schedules are cut
 -- short, or a history can't be judged.
 abbrev pub IsSetVerdict : ℕ → File → Program → ProgramVerdict → Type 0
 IsSetVerdict states file program verdicts.Good = AllLegal file program
 IsSetVerdict states file program verdicts.Unknown = IsCutShort states file program ⊎ HasUnjudged file program
-IsSetVerdict states file program (verdicts.Bad reason schedule) = IsBad reason file program schedule
+IsSetVerdict states file program (verdicts.Bad reason schedule) =
+    IsShownFor reasons.Illegal reason file program schedule
+
+-- the same, if histories of a set are looked for
+abbrev pub IsLegalVerdict : Sought → ℕ → File → Program → ProgramVerdict → Type 0
+IsLegalVerdict sought states file program verdicts.Good = sought.set ≡ true → AllLegal file program
+IsLegalVerdict sought states file program verdicts.Unknown =
+    (sought.set ≡ true) × (IsCutShort states file program ⊎ HasUnjudged file program)
+IsLegalVerdict sought states file program (verdicts.Bad reason schedule) = IsShown sought reason file program schedule
 
 -- the history of each row has names
 abbrev pub AreNamed : Program → List Told → Type 0

@@ -6,8 +6,9 @@ use Rattle.ls_events.specs.Limits.{most_steps}
 use Rattle.ls_events.specs.declared.event.Event.{Event}
 use Rattle.ls_meaning.specs.Runs.{source_history}
 use Rattle.ls_endless_calls.specs.Turning.{HasTurning}
-use Rattle.ls_explore.specs.Rows.{IsEnd, Told}
+use Rattle.ls_explore.specs.Rows.{ActAll, IsEnd, Told}
 use Rattle.ls_explore.specs.Tellings.{schedule_of}
+use Rattle.ls_find.specs.declared.sought.Sought.{Sought}
 use Rattle.ls_find.specs.declared.verdict.Reason.{Reason}
 use Rattle.ls_find.specs.declared.verdict.Reason.TheVariants as reasons
 use Rattle.ls_find.specs.declared.verdict.ProgramVerdict.{ProgramVerdict}
@@ -37,6 +38,29 @@ IsBad reasons.NotLinearizable file program schedule = IsNotLinearizable file pro
 IsBad reasons.Waits file program schedule = HasWaiting file program schedule
 IsBad reasons.Illegal file program schedule = IsIllegal file program schedule
 IsBad reasons.Turns file program schedule = HasTurning file program schedule
+
+-- a schedule that is bad for a reason, and each of whose steps acts
+pub record IsBadSchedule (reason : Reason) (file : File) (program : Program) (schedule : List ℕ) : Type 0 where
+  pub bad : IsBad reason file program schedule
+  pub acts : ActAll file program schedule
+
+-- such a schedule is looked for
+abbrev pub IsAsked : Sought → Reason → Type 0
+IsAsked sought reasons.NotLinearizable = Unit {0}
+IsAsked sought reasons.Waits = sought.waiting ≡ true
+IsAsked sought reasons.Illegal = sought.set ≡ true
+IsAsked sought reasons.Turns = sought.turning ≡ true
+
+-- What is shown of a bad program: such a schedule, for a reason for which it is looked for.
+pub record IsShown (sought : Sought) (reason : Reason) (file : File) (program : Program) (schedule : List ℕ) : Type 0
+  where
+    pub asked : IsAsked sought reason
+    pub schedule_is : IsBadSchedule reason file program schedule
+
+-- it is shown for this reason
+pub record IsShownFor (wanted reason : Reason) (file : File) (program : Program) (schedule : List ℕ) : Type 0 where
+  pub reason_is : reason ≡ wanted
+  pub schedule_is : IsBadSchedule reason file program schedule
 
 -- For a reason it shows the schedule of the row at a place, after so many steps of the setup; or nothing, if these are
 -- too many for a schedule.

@@ -19,7 +19,7 @@ use ls_explore_reports::names_in;
 use ls_family_search::{Judge, Judgement};
 use ls_image::image::Image;
 use ls_schedule::print_schedule;
-use ls_text_laws::source_is_readable;
+use ls_text_laws::{schedules_read_back, source_is_readable};
 use std::alloc::{AllocError, Global};
 
 /// Why the search ends with a program.
@@ -51,13 +51,15 @@ fn judged(
     requires { AllNamed (file_of image.now) (program_of image.now) }
     ensures { (classes program : List ℕ) → Compiles classes program image.now →
         IfOk result (IsJudgement (IsSound sought classes program) (IsCut sought states classes program)
-        (IsWhy classes program)) }
+        (IsWhy sought classes program)) }
 {
+    schedules_read_back();
     match sought_verdict(alloc, image, states, sought)? {
         ProgramVerdict::Good => Ok(Judgement::Good),
         ProgramVerdict::Unknown => Ok(Judgement::Cut),
         ProgramVerdict::Bad(reason, steps) => {
             let run = simplified(alloc, image, reason, &steps)?;
+            run.schedule.fits();
             let why = why_text(alloc, reason, names_in(image), &run)?;
             let schedule = print_schedule(alloc, &run.schedule, image.program())?;
             Ok(Judgement::Halt(Why::Bad { why, schedule }))
@@ -74,7 +76,7 @@ impl<'a> Judge for Explorer<'a> {
 
     ghost IsCut = { λ e program. IsCut e.sought e.states e.classes.now program };
 
-    ghost Halts = { λ e program why. IsWhy e.classes.now program why };
+    ghost Halts = { λ e program why. IsWhy e.sought e.classes.now program why };
 
     fn judge(&self, alloc: Global, program: &str) -> Result<Judgement<Why>, AllocError> {
         source_is_readable();

@@ -5,6 +5,7 @@ ghost use Rattle.ls_fewest_switches.specs.Switches.{EndsSo, HasFewest};
 ghost use Rattle.ls_find.specs.Fewest.{IsFewest};
 ghost use Rattle.ls_find.specs.Verdicts.{IsBad, IsNotLinearizable};
 ghost use Rattle.ls_meaning.specs.Runs.{source_history};
+ghost use Rattle.ls_explore.specs.Rows.{ActAll};
 ghost use Rattle.ls_source_judge.specs.Judged.{IsSimplestBad};
 ghost use Rattle.ls_translation.specs.Texts.{file_of, program_of};
 
@@ -31,6 +32,8 @@ fn simple_run(
         source_history (file_of image.now) (program_of image.now) found.now) }
     ensures ends { IfOk result (λ r. EndsSo stuck (file_of image.now) (program_of image.now) found.now →
         EndsSo stuck (file_of image.now) (program_of image.now) r.schedule) }
+    ensures acts { IfOk result (λ r. ActAll (file_of image.now) (program_of image.now) found.now →
+        ActAll (file_of image.now) (program_of image.now) r.schedule) }
     ensures fewest { IfOk result (λ r. r.fewest ≡ true →
         HasFewest stuck (file_of image.now) (program_of image.now) r.schedule) }
 {
@@ -48,6 +51,8 @@ fn simple_run(
 fn unexplained_run(alloc: Global, image: &Image, found: &Schedule) -> Result<SimpleRun, AllocError>
     ensures bad { IfOk result (λ r. IsNotLinearizable (file_of image.now) (program_of image.now) found.now →
         IsNotLinearizable (file_of image.now) (program_of image.now) r.schedule) }
+    ensures acts { IfOk result (λ r. ActAll (file_of image.now) (program_of image.now) found.now →
+        ActAll (file_of image.now) (program_of image.now) r.schedule) }
     ensures fewest { IfOk result (λ r. r.fewest ≡ true →
         IsSimplestBad (file_of image.now) (program_of image.now) r.schedule) }
 {
@@ -67,6 +72,8 @@ pub(crate) fn simplified(
 ) -> Result<SimpleRun, AllocError>
     ensures bad { IfOk result (λ r. IsBad reason (file_of image.now) (program_of image.now) found.now →
         IsBad reason (file_of image.now) (program_of image.now) r.schedule) }
+    ensures acts { IfOk result (λ r. ActAll (file_of image.now) (program_of image.now) found.now →
+        ActAll (file_of image.now) (program_of image.now) r.schedule) }
     ensures fewest { IfOk result (λ r. r.fewest ≡ true →
         IsFewest reason (file_of image.now) (program_of image.now) r.schedule) }
 {

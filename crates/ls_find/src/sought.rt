@@ -1,12 +1,17 @@
 // What is looked for in a program.
 
 ghost use Rattle.std.specs.Prelude.{IfOk};
-ghost use Rattle.ls_find.specs.Sought.{AllNamed, IsEndVerdict, IsTurningVerdict, IsVerdictFor};
+ghost use Rattle.ls_endless_calls.specs.Turning.{HasTurning};
+ghost use Rattle.ls_find.specs.Sought.{AllNamed, IsLegalVerdict, IsTurningVerdict, IsVerdictFor};
+ghost use Rattle.ls_find.specs.Verdicts.{IsBadSchedule, IsGood};
+ghost use Rattle.ls_find.specs.declared.verdict.Reason.TheVariants.{Turns};
 ghost use Rattle.ls_translation.specs.Texts.{file_of, program_of};
 
 use crate::legal::set_verdict;
 use crate::verdict::{ProgramVerdict, Reason, verdict_on};
 use ls_endless_calls::{Endless, find_endless};
+use ls_events::schedule::Schedule;
+use ls_fewest_switches::acting_steps;
 use ls_image::image::Image;
 use std::alloc::{AllocError, Global};
 
@@ -27,44 +32,78 @@ impl Clone for Sought {
     }
 }
 
-/// Says of the program of an image what `verdict_on` does; and if all is well and those of a set are looked for,
-/// whether each history is legal.
-fn end_verdict(
+/// Whether each history is legal as one of a set, if those of a set are looked for.
+fn legal_verdict(
     alloc: Global,
     image: &Image,
     states: usize,
     sought: Sought,
 ) -> Result<ProgramVerdict, AllocError>
     requires { AllNamed (file_of image.now) (program_of image.now) }
-    ensures { IfOk result (IsEndVerdict sought states (file_of image.now) (program_of image.now)) }
+    ensures { IfOk result (IsLegalVerdict sought states (file_of image.now) (program_of image.now)) }
 {
-    match verdict_on(alloc, image, states, sought.waiting)? {
-        ProgramVerdict::Good => {
-            if sought.set {
-                return set_verdict(alloc, image, states);
-            }
-            Ok(ProgramVerdict::Good)
-        }
-        ProgramVerdict::Unknown => Ok(ProgramVerdict::Unknown),
-        ProgramVerdict::Bad(reason, schedule) => Ok(ProgramVerdict::Bad(reason, schedule)),
+    if sought.set {
+        return set_verdict(alloc, image, states);
     }
+    Ok(ProgramVerdict::Good)
 }
 
-/// Whether threads of the program of an image can turn for ever in calls that end where calls run one at a time.
+/// The steps of a schedule that act. If threads turn for ever after the schedule, they do so after these.
+fn acting_schedule(alloc: Global, image: &Image, found: &Schedule) -> Result<Schedule, AllocError>
+    ensures { IfOk result (λ s. HasTurning (file_of image.now) (program_of image.now) found.now →
+        IsBadSchedule Turns (file_of image.now) (program_of image.now) s) }
+{
+    found.fits();
+    let file = image.checked().file();
+    let steps = acting_steps(alloc, file, image.program(), found.steps())?;
+    Ok(Schedule::of(steps))
+}
+
+/// Whether threads of the program of an image can turn for ever in calls that end where calls run one at a time, if
+/// that is looked for.
 fn turning_verdict(
     alloc: Global,
     image: &Image,
     states: usize,
+    sought: Sought,
 ) -> Result<ProgramVerdict, AllocError>
-    ensures { IfOk result (IsTurningVerdict (file_of image.now) (program_of image.now)) }
+    ensures { IfOk result (IsTurningVerdict sought (file_of image.now) (program_of image.now)) }
 {
+    if !sought.turning {
+        return Ok(ProgramVerdict::Good);
+    }
     if states == 0 {
         return Ok(ProgramVerdict::Unknown);
     }
     match find_endless(alloc, image.checked().file(), image.program(), states)? {
         Endless::Never => Ok(ProgramVerdict::Good),
         Endless::Unknown => Ok(ProgramVerdict::Unknown),
-        Endless::After(schedule) => Ok(ProgramVerdict::Bad(Reason::Turns, schedule)),
+        Endless::After(found) => {
+            let schedule = acting_schedule(alloc, image, &found)?;
+            Ok(ProgramVerdict::Bad(Reason::Turns, schedule))
+        }
+    }
+}
+
+/// What is said of a program all of whose histories are linearizable, and of which no thread waits for ever if that is
+/// looked for. If a history can't be judged as one of a set, threads that turn for ever are looked for all the same.
+fn well_verdict(
+    alloc: Global,
+    image: &Image,
+    states: usize,
+    sought: Sought,
+) -> Result<ProgramVerdict, AllocError>
+    requires good { IsGood sought.waiting (file_of image.now) (program_of image.now) }
+    requires named { AllNamed (file_of image.now) (program_of image.now) }
+    ensures { IfOk result (IsVerdictFor sought states (file_of image.now) (program_of image.now)) }
+{
+    match legal_verdict(alloc, image, states, sought)? {
+        ProgramVerdict::Good => turning_verdict(alloc, image, states, sought),
+        ProgramVerdict::Unknown => match turning_verdict(alloc, image, states, sought)? {
+            ProgramVerdict::Good | ProgramVerdict::Unknown => Ok(ProgramVerdict::Unknown),
+            ProgramVerdict::Bad(reason, schedule) => Ok(ProgramVerdict::Bad(reason, schedule)),
+        },
+        ProgramVerdict::Bad(reason, schedule) => Ok(ProgramVerdict::Bad(reason, schedule)),
     }
 }
 
@@ -81,13 +120,8 @@ pub fn sought_verdict(
     requires { AllNamed (file_of image.now) (program_of image.now) }
     ensures { IfOk result (IsVerdictFor sought states (file_of image.now) (program_of image.now)) }
 {
-    match end_verdict(alloc, image, states, sought)? {
-        ProgramVerdict::Good => {
-            if sought.turning {
-                return turning_verdict(alloc, image, states);
-            }
-            Ok(ProgramVerdict::Good)
-        }
+    match verdict_on(alloc, image, states, sought)? {
+        ProgramVerdict::Good => well_verdict(alloc, image, states, sought),
         ProgramVerdict::Unknown => Ok(ProgramVerdict::Unknown),
         ProgramVerdict::Bad(reason, schedule) => Ok(ProgramVerdict::Bad(reason, schedule)),
     }

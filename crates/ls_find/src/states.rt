@@ -1,10 +1,11 @@
 // What the states of the source say of a program.
 
-ghost use Rattle.std.specs.Prelude.{◌≡◌, ◌++◌, IfNone, IfOk, IfSome, IsTrue, None, replicate, true};
+ghost use Rattle.std.specs.Prelude.{◌≡◌, IfNone, IfOk, IfSome, IsTrue, None, true};
 ghost use Rattle.ls_find.specs.Said.{IsVerdictIfAny};
-ghost use Rattle.ls_source_judge.specs.Judged.{IsNotLinearizable};
+ghost use Rattle.ls_source_judge.specs.Judged.{IsBadRun};
 ghost use Rattle.ls_translation.specs.Texts.{file_of, program_of};
 
+use crate::sought::Sought;
 use crate::verdict::{ProgramVerdict, Reason};
 use ls_endless_calls::laws::pending_calls_wait;
 use ls_events::schedule::{MOST_STEPS, Schedule};
@@ -21,36 +22,35 @@ fn is_good(judged: &Judged, waiting: bool) -> bool
     judged.complete && judged.bad.is_none() && (!waiting || judged.stuck.is_none())
 }
 
-/// So many steps of the setup, and then one of each thread of a path. None if these are too many for a schedule.
-fn schedule_of(alloc: Global, setup: usize, path: &[u8]) -> Result<Option<Schedule>, AllocError>
-    ensures { IfOk result (λ some. IfSome some (λ schedule. schedule ≡ replicate setup 0 ++ path.now)) }
+/// The schedule of these steps. None if they are too many.
+fn schedule_of(alloc: Global, steps: &[u8]) -> Result<Option<Schedule>, AllocError>
+    ensures { IfOk result (λ some. IfSome some (λ schedule. schedule ≡ steps.now)) }
 {
-    if setup > MOST_STEPS || path.len() > MOST_STEPS - setup {
+    if steps.len() > MOST_STEPS {
         return Ok(None);
     }
-    let mut steps = vec![in alloc; 0; setup]?;
-    steps.extend_from_slice(path)?;
-    Ok(Some(Schedule::of(steps)))
+    let copied = steps.to_vec(alloc)?;
+    Ok(Some(Schedule::of(copied)))
 }
 
-/// That the history of a path isn't linearizable, if there is such a path and all serial histories are known.
-fn bad_path(
+/// That the history of a schedule isn't linearizable, if one was found and all serial histories are known.
+fn bad_verdict(
     alloc: Global,
     image: &Image,
     judged: &Judged,
-    waiting: bool,
+    sought: Sought,
 ) -> Result<ProgramVerdict, AllocError>
-    requires { IfNone judged.now.doubt (IfSome judged.now.bad (λ path.
-        IsNotLinearizable (file_of image.now) (program_of image.now) (replicate judged.now.setup 0 ++ path.items))) }
-    ensures { IfOk result (IsVerdictIfAny waiting (file_of image.now) (program_of image.now)) }
+    requires { IfNone judged.now.doubt (IfSome judged.now.bad (λ steps.
+        IsBadRun (file_of image.now) (program_of image.now) steps.items)) }
+    ensures { IfOk result (IsVerdictIfAny sought (file_of image.now) (program_of image.now)) }
 {
     if judged.doubt.is_some() {
         return Ok(ProgramVerdict::Unknown);
     }
-    let Some(path) = &judged.bad else {
+    let Some(steps) = &judged.bad else {
         return Ok(ProgramVerdict::Unknown);
     };
-    match schedule_of(alloc, judged.setup, path.as_slice())? {
+    match schedule_of(alloc, steps.as_slice())? {
         Some(schedule) => Ok(ProgramVerdict::Bad(Reason::NotLinearizable, schedule)),
         None => Ok(ProgramVerdict::Unknown),
     }
@@ -62,14 +62,14 @@ pub(crate) fn verdict_by_states(
     alloc: Global,
     image: &Image,
     states: usize,
-    waiting: bool,
+    sought: Sought,
 ) -> Result<ProgramVerdict, AllocError>
-    ensures { IfOk result (IsVerdictIfAny waiting (file_of image.now) (program_of image.now)) }
+    ensures { IfOk result (IsVerdictIfAny sought (file_of image.now) (program_of image.now)) }
 {
     pending_calls_wait();
     let judged = judge_schedules(alloc, image.checked().file(), image.program(), states)?;
-    if is_good(&judged, waiting) {
+    if is_good(&judged, sought.waiting) {
         return Ok(ProgramVerdict::Good);
     }
-    bad_path(alloc, image, &judged, waiting)
+    bad_verdict(alloc, image, &judged, sought)
 }

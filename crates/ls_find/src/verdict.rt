@@ -11,6 +11,7 @@ ghost use Rattle.ls_find.specs.declared.verdict.ProgramVerdict.TheVariants.{Unkn
 ghost use Rattle.ls_find.specs.Verdicts.{ShowsRow};
 ghost use Rattle.ls_translation.specs.Texts.{file_of, program_of};
 
+use crate::sought::Sought;
 use crate::states::verdict_by_states;
 use crate::waiting::waiting_verdict;
 use ls_events::schedule::{MOST_STEPS, Schedule};
@@ -99,19 +100,19 @@ fn whole_verdict(
     image: &Image,
     setup: usize,
     rows: &[Row],
-    waiting: bool,
+    sought: Sought,
 ) -> Result<ProgramVerdict, AllocError>
     requires truth { TellTruth (file_of image.now) (program_of image.now) setup rows.now }
     requires whole { TellWhole (file_of image.now) (program_of image.now) rows.now }
     requires cells { NoneEnds OutOfCells rows.now }
     ensures { IfOk result (λ v. (states : ℕ) →
-        IsVerdict states waiting (file_of image.now) (program_of image.now) v) }
+        IsVerdict states sought (file_of image.now) (program_of image.now) v) }
 {
     none_is_unexplained();
     let flags = explained_rows(alloc, rows)?;
     match first_unexplained(flags.as_slice()) {
         None => {
-            if waiting {
+            if sought.waiting {
                 return waiting_verdict(alloc, image, setup, rows);
             }
             Ok(ProgramVerdict::Good)
@@ -135,41 +136,42 @@ fn explored_verdict(
     alloc: Global,
     image: &Image,
     states: usize,
-    waiting: bool,
+    sought: Sought,
 ) -> Result<ProgramVerdict, AllocError>
-    ensures { IfOk result (IsVerdict states waiting (file_of image.now) (program_of image.now)) }
+    ensures { IfOk result (IsVerdict states sought (file_of image.now) (program_of image.now)) }
 {
     match explore_source(alloc, image, states, &mut Nobody) {
         Ok(found) => {
             if !found.complete {
                 return Ok(ProgramVerdict::Unknown);
             }
-            whole_verdict(alloc, image, found.setup, found.rows.as_slice(), waiting)
+            whole_verdict(alloc, image, found.setup, found.rows.as_slice(), sought)
         }
         Err(fault) => unknown_by(fault),
     }
 }
 
 /// Says of the program of an image whether the history of each schedule is linearizable; and if that is asked for,
-/// whether no thread waits for ever. If not, it shows a schedule. The states of the source are searched first. If they
-/// don't say that all is well, they are kept once more, each with its history. Of each at most so many states are
-/// kept. Unknown comes if neither decides: if more states are needed, or the setup is too long. It also comes if a
-/// thread waits for ever, and it isn't known of too many calls whether they end where calls run one at a time.
+/// whether no thread waits for ever. If not, it shows a schedule, each of whose steps acts. The states of the source are
+/// searched first. If they don't say that all is well, they are kept once more, each with its history. Of each at most
+/// so many states are kept. Unknown comes if neither decides: if more states are needed, or the setup is too long. It
+/// also comes if a thread waits for ever, and it isn't known of too many calls whether they end where calls run one at
+/// a time.
 ///
 /// The only refusal is that memory ran out.
 pub fn verdict_on(
     alloc: Global,
     image: &Image,
     states: usize,
-    waiting: bool,
+    sought: Sought,
 ) -> Result<ProgramVerdict, AllocError>
-    ensures { IfOk result (IsVerdict states waiting (file_of image.now) (program_of image.now)) }
+    ensures { IfOk result (IsVerdict states sought (file_of image.now) (program_of image.now)) }
 {
-    let searched = verdict_by_states(alloc, image, states, waiting)?;
+    let searched = verdict_by_states(alloc, image, states, sought)?;
     if let ProgramVerdict::Good = searched {
         return Ok(searched);
     }
-    match explored_verdict(alloc, image, states, waiting)? {
+    match explored_verdict(alloc, image, states, sought)? {
         ProgramVerdict::Unknown => Ok(searched),
         ProgramVerdict::Good => Ok(ProgramVerdict::Good),
         ProgramVerdict::Bad(reason, schedule) => Ok(ProgramVerdict::Bad(reason, schedule)),

@@ -1,16 +1,17 @@
 -- Two searches, one after the other, are one.
-use Rattle.std.proofs.Common.{◌≡◌, ◌∙◌, ◌+◌, ◌<◌, ℕ, zero, suc, Bool, true, false, cond, List, [], ◌∷◌, ◌++◌, Option, Some, None}
-use Rattle.std.proofs.Common.{Ok, length, ap, arith, sym, subst, refl}
+use Rattle.std.proofs.Common.{◌≡◌, ◌∙◌, ◌⊎◌, inl, inr, ◌+◌, ◌<◌, ◌≤◌, ℕ, zero, suc, Bool, true, false, cond, List}
+use Rattle.std.proofs.Common.{[], ◌∷◌, ◌++◌, Option, Some, None, Ok, length, ap, arith, sym, subst, refl}
 use Rattle.std.specs.Prelude.{count_by, nat_lt, not, position, slice_get, string_bytes}
 use Rattle.std.specs.List.{position_or_len}
 use Rattle.std.proofs.lemmas.Bool.{ltb-false}
 use Rattle.std.proofs.lemmas.Bool.Decides.{nat_tests}
 use Rattle.std.proofs.lemmas.List.{length-append}
 use Rattle.std.proofs.lemmas.List.Sums.{sum_by-append, sum_by-cons}
-use Rattle.ls_family_search.specs.Judged.{Programs}
+use Rattle.ls_family_search.specs.Judged.{IsPassed, Programs, StandsFrom, text_of}
 use Rattle.ls_family_search.specs.Searched.{EndsSo, HaltsAt, PassesAt}
 use Rattle.ls_family_search.specs.declared.judging.Halted.{Halted}
 use Rattle.ls_family_search.specs.declared.judging.Passed.{Passed}
+use Rattle.ls_family_search.specs.declared.judging.Passed.TheVariants as passed
 use Rattle.ls_family_search.specs.declared.searching.Finding.{Finding}
 use Rattle.ls_family_search.proofs.Outcomes.{each_of_both}
 use Rattle.ls_find.specs.Family.{IsFound}
@@ -162,23 +163,47 @@ reports_add before mid to count ps qs (Some h) k is = some_adds before mid to co
 
 -- ---- both searches
 
+-- what is passed so in a range is passed so in one that begins before it
+from_before : (sought : Sought) (states : ℕ) (classes : Text) (p : Programs) (from mid n : ℕ) (said : Passed) →
+    from ≤ mid →
+    PassesAt p (IsSound sought classes) (IsCut sought states classes) mid n said →
+    PassesAt p (IsSound sought classes) (IsCut sought states classes) from n said
+from_before sought states classes p from mid n said before (plan, there, is) = (plan, there, by_said said is)
+  where
+    known : StandsFrom p mid n plan ⊎ IsSound sought classes (text_of p plan) →
+        StandsFrom p from n plan ⊎ IsSound sought classes (text_of p plan)
+    known (inl s) =
+        inl (record { number = s.number; first = omega (arith, s.first, before); before = s.before; there = s.there })
+    known (inr good) = inr good
+
+    by_said : (said : Passed) → IsPassed p (IsSound sought classes) (IsCut sought states classes) mid n plan said →
+        IsPassed p (IsSound sought classes) (IsCut sought states classes) from n plan said
+    by_said passed.Double double = record { follows = double.follows; known = known double.known }
+    by_said passed.Good good = good
+    by_said passed.Cut cut = cut
+
 passed_all : (sought : Sought) (states : ℕ) (classes : Text) (p : Programs) (from mid : ℕ) (ps qs : List Passed) →
     from + length ps ≡ mid →
-    ((k : ℕ) (said : Passed) → slice_get ps k ≡ Some said → PassesAt p (IsSound sought classes) (IsCut sought states classes) (from + k) said) →
-    ((k : ℕ) (said : Passed) → slice_get qs k ≡ Some said → PassesAt p (IsSound sought classes) (IsCut sought states classes) (mid + k) said) →
+    ((k : ℕ) (said : Passed) → slice_get ps k ≡ Some said →
+    PassesAt p (IsSound sought classes) (IsCut sought states classes) from (from + k) said) →
+    ((k : ℕ) (said : Passed) → slice_get qs k ≡ Some said →
+    PassesAt p (IsSound sought classes) (IsCut sought states classes) mid (mid + k) said) →
     (k : ℕ) (said : Passed) → slice_get (ps ++ qs) k ≡ Some said →
-    PassesAt p (IsSound sought classes) (IsCut sought states classes) (from + k) said
+    PassesAt p (IsSound sought classes) (IsCut sought states classes) from (from + k) said
 passed_all sought states classes p from mid ps qs is first next =
-    each_of_both (λ k said. PassesAt p (IsSound sought classes) (IsCut sought states classes) (from + k) said) ps qs first
+    each_of_both (λ k said. PassesAt p (IsSound sought classes) (IsCut sought states classes) from (from + k) said) ps qs
+    first
     (λ k said at. let e : mid + k ≡ from + (length ps + k) = omega (arith, is) in
-    subst (λ n. PassesAt p (IsSound sought classes) (IsCut sought states classes) n said) e (next k said at))
+    subst (λ n. PassesAt p (IsSound sought classes) (IsCut sought states classes) from n said) e
+    (from_before sought states classes p from mid (mid + k) said (omega (arith, is)) (next k said at)))
 
-ends_on : (classes : Text) (p : Programs) (from mid to : ℕ) (ps qs : List Passed) (h : Option (Halted Why)) →
-    from + length ps ≡ mid → EndsSo p (IsWhy classes) (mid + length qs) to h →
-    EndsSo p (IsWhy classes) (from + length (ps ++ qs)) to h
-ends_on classes p from mid to ps qs h is ends =
+ends_on : (sought : Sought) (classes : Text) (p : Programs) (from mid to : ℕ) (ps qs : List Passed)
+    (h : Option (Halted Why)) →
+    from + length ps ≡ mid → EndsSo p (IsWhy sought classes) (mid + length qs) to h →
+    EndsSo p (IsWhy sought classes) (from + length (ps ++ qs)) to h
+ends_on sought classes p from mid to ps qs h is ends =
     let e : mid + length qs ≡ from + length (ps ++ qs) = omega (arith, is, length-append ps qs) in
-    subst (λ n. EndsSo p (IsWhy classes) n to h) e ends
+    subst (λ n. EndsSo p (IsWhy sought classes) n to h) e ends
 
 -- where the first search ends with no program
 pub none_first : (sought : Sought) (states : ℕ) (classes : Text) (p : Programs) (from mid to : ℕ) (f g all : Finding Why) →
@@ -186,14 +211,15 @@ pub none_first : (sought : Sought) (states : ℕ) (classes : Text) (p : Programs
     all.passed.items ≡ f.passed.items ++ g.passed.items → all.halted ≡ g.halted → IsFound sought states classes p from to all
 none_first sought states classes p from mid to f g all first next none passed halted =
     let is : from + length f.passed.items ≡ mid =
-    subst (EndsSo p (IsWhy classes) (from + length f.passed.items) mid) none first.ends in
+    subst (EndsSo p (IsWhy sought classes) (from + length f.passed.items) mid) none first.ends in
     record {
       passed = subst (λ xs. (k : ℕ) (said : Passed) → slice_get xs k ≡ Some said →
-          PassesAt p (IsSound sought classes) (IsCut sought states classes) (from + k) said) (sym passed)
+          PassesAt p (IsSound sought classes) (IsCut sought states classes) from (from + k) said) (sym passed)
           (passed_all sought states classes p from mid f.passed.items g.passed.items is first.passed next.passed);
-      ends = subst (λ (h : Option (Halted Why)). EndsSo p (IsWhy classes) (from + length all.passed.items) to h) (sym halted)
-          (subst (λ xs. EndsSo p (IsWhy classes) (from + length xs) to g.halted) (sym passed)
-          (ends_on classes p from mid to f.passed.items g.passed.items g.halted is next.ends));
+      ends = subst (λ (h : Option (Halted Why)). EndsSo p (IsWhy sought classes) (from + length all.passed.items) to h)
+          (sym halted)
+          (subst (λ xs. EndsSo p (IsWhy sought classes) (from + length xs) to g.halted) (sym passed)
+          (ends_on sought classes p from mid to f.passed.items g.passed.items g.halted is next.ends));
     }
 
 -- where it ends with one
@@ -201,13 +227,15 @@ some_first : (sought : Sought) (states : ℕ) (classes : Text) (p : Programs) (f
     IsFound sought states classes p from mid f → f.halted ≡ Some h → all.passed.items ≡ f.passed.items → all.halted ≡ Some h →
     IsFound sought states classes p from to all
 some_first sought states classes p from mid to f all h first some passed halted =
-    let halts : HaltsAt p (IsWhy classes) (from + length f.passed.items) h =
-    subst (EndsSo p (IsWhy classes) (from + length f.passed.items) mid) some first.ends in
+    let halts : HaltsAt p (IsWhy sought classes) (from + length f.passed.items) h =
+    subst (EndsSo p (IsWhy sought classes) (from + length f.passed.items) mid) some first.ends in
     record {
       passed = subst (λ xs. (k : ℕ) (said : Passed) → slice_get xs k ≡ Some said →
-          PassesAt p (IsSound sought classes) (IsCut sought states classes) (from + k) said) (sym passed) first.passed;
-      ends = subst (λ (o : Option (Halted Why)). EndsSo p (IsWhy classes) (from + length all.passed.items) to o) (sym halted)
-          (subst (λ xs. HaltsAt p (IsWhy classes) (from + length xs) h) (sym passed) halts);
+          PassesAt p (IsSound sought classes) (IsCut sought states classes) from (from + k) said) (sym passed)
+          first.passed;
+      ends = subst (λ (o : Option (Halted Why)). EndsSo p (IsWhy sought classes) (from + length all.passed.items) to o)
+          (sym halted)
+          (subst (λ xs. HaltsAt p (IsWhy sought classes) (from + length xs) h) (sym passed) halts);
     }
 
 pub found_in_both : (sought : Sought) (states : ℕ) (classes : Text) (p : Programs) (from mid to : ℕ) (f g all : Finding Why) →
@@ -230,5 +258,5 @@ pub sums_agree : (sought : Sought) (states : ℕ) (classes : Text) (p : Programs
     joined (report_of from mid count f) (report_of mid to count g) ≡ report_of from to count all
 sums_agree sought states classes p from mid to count f g all first one =
     reports_add from mid to count f.passed.items g.passed.items f.halted g.halted
-    (λ none. subst (EndsSo p (IsWhy classes) (from + length f.passed.items) mid) none first.ends) ∙
+    (λ none. subst (EndsSo p (IsWhy sought classes) (from + length f.passed.items) mid) none first.ends) ∙
     (λ i. report from to count (sym one.passed i) (sym one.halted i))

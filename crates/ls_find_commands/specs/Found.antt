@@ -17,7 +17,7 @@ use Rattle.ls_family_search.specs.declared.searching.Finding.{Finding}
 use Rattle.ls_faults.specs.Faults.{lifted_class, lifted_compile, lifted_entry}
 use Rattle.ls_faults.specs.declared.fault.ToolFault.{ToolFault}
 use Rattle.ls_faults.specs.declared.fault.ToolFault.TheVariants as faults
-use Rattle.ls_find.specs.Family.{IsFound}
+use Rattle.ls_find.specs.Family.{IsFound, PassedAreSound}
 use Rattle.ls_find.specs.declared.explorer.Why.{Why}
 use Rattle.ls_find.specs.declared.explorer.Why.TheVariants as whys
 use Rattle.ls_find_reports.specs.Printing.{figures_of, found_text, none_text}
@@ -41,12 +41,14 @@ halted_answer before to count ps None = Ok (none_text (figures_of before to coun
 halted_answer before to count ps (Some h) =
     why_answer (figures_of before to count ps) (before + length ps + 1) (string_bytes h.program) h.halt
 
--- what is found among programs
+-- What is found among programs: what a search of the numbers of a range says. Each program that it has passed is good for
+-- what is looked for, if none up to that one is cut.
 pub data FindsIn (classes : Text) (p : Programs) (r : Range) : Result Text ToolFault → Type 0 where
   NoNumbers : IsBadRange r (length (plans p.family)) → FindsIn classes p r (Err faults.BadNumbers)
   Searched : (f : Finding Why) →
       ¬ IsBadRange r (length (plans p.family)) →
       IsFound r.sought r.states classes p (r.from - 1) (min r.to (length (plans p.family))) f →
+      PassedAreSound r.sought classes p (r.from - 1) f →
       FindsIn classes p r
       (halted_answer (r.from - 1) (min r.to (length (plans p.family))) (length (plans p.family)) f.passed.items f.halted)
 

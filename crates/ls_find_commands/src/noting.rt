@@ -3,7 +3,7 @@
 ghost use Rattle.std.specs.Prelude.{◌≤◌, IfOk, length};
 ghost use Rattle.ls_explore.specs.Watching.{GoesOn};
 ghost use Rattle.ls_families.specs.Families.{plans};
-ghost use Rattle.ls_find.specs.Family.{IsFound};
+ghost use Rattle.ls_find.specs.Family.{IsFound, PassedAreSound};
 
 use ls_explore::Watch;
 use ls_family_search::{Finding, Numbers, Programs, SearchWatch, search};
@@ -52,6 +52,7 @@ pub(crate) fn searched<W: Watch>(
     requires there { numbers.to ≤ length (plans programs.now.family) }
     ensures finding { IfOk result (IsFound explorer.now.sought explorer.now.states
         explorer.now.classes.now programs.now numbers.from numbers.to) }
+    ensures sound { IfOk result (PassedAreSound explorer.now.sought explorer.now.classes.now programs.now numbers.from) }
     ensures watched { GoesOn W.Since watch.old watch.new }
 {
     let mut noting = Noting::new(watch);

@@ -1,4 +1,4 @@
--- Why `simple_run` in src/simplifying.rt keeps its clauses `history`, `ends` and `fewest`.
+-- Why `simple_run` in src/simplifying.rt keeps its clauses `history`, `ends`, `acts` and `fewest`.
 
 use Rattle.std.proofs.Common.{◌≡◌, ◌∙◌, ap, true}
 use Rattle.ls_checked.specs.CheckedTree.{File}
@@ -6,6 +6,7 @@ use Rattle.ls_checked.specs.CheckedProgram.{Program}
 use Rattle.ls_checked.specs.Plain.{plain_file}
 use Rattle.ls_checked.specs.PlainProgram.{plain_program}
 use Rattle.ls_types_checked.specs.CheckedFile.{elaborated_file}
+use Rattle.ls_explore.specs.Rows.{ActAll}
 use Rattle.ls_meaning.specs.Runs.{source_history}
 use Rattle.ls_fewest_switches.specs.Switches.{EndsSo, HasFewest}
 use Rattle.ls_translation.specs.Texts.{file_of, program_of}
@@ -29,6 +30,15 @@ returns-clause-ends c =
     let program : plain_program c.program.result.now ≡ program_of i = ap plain_program c.program.ensures in
     at_same (λ (f : File) (p : Program). EndsSo c.args.stuck f p c.args.found.now →
     EndsSo c.args.stuck f p c.in_ok-run.run'.schedule) file program c.in_ok-run.ensures.ends
+
+pub returns-clause-acts : goal.returns-clause-acts
+returns-clause-acts c =
+    let i = c.args.image.now in
+    let file : plain_file c.file-file.result.now ≡ file_of i =
+    ap plain_file c.file-file.ensures ∙ ap (λ k. (elaborated_file k).file) c.checked.ensures in
+    let program : plain_program c.program.result.now ≡ program_of i = ap plain_program c.program.ensures in
+    at_same (λ (f : File) (p : Program). ActAll f p c.args.found.now → ActAll f p c.in_ok-run.run'.schedule) file
+    program c.in_ok-run.ensures.acts
 
 pub returns-clause-fewest : goal.returns-clause-fewest
 returns-clause-fewest c =

@@ -1,4 +1,4 @@
--- Why `unexplained_run` in src/simplifying.rt keeps its clauses `bad` and `fewest`.
+-- Why `unexplained_run` in src/simplifying.rt keeps its clauses `bad`, `acts` and `fewest`.
 
 use Rattle.std.proofs.Common.{◌≡◌, ◌∙◌, ap, true}
 use Rattle.ls_checked.specs.CheckedTree.{File}
@@ -6,6 +6,7 @@ use Rattle.ls_checked.specs.CheckedProgram.{Program}
 use Rattle.ls_checked.specs.Plain.{plain_file}
 use Rattle.ls_checked.specs.PlainProgram.{plain_program}
 use Rattle.ls_types_checked.specs.CheckedFile.{elaborated_file}
+use Rattle.ls_explore.specs.Rows.{ActAll}
 use Rattle.ls_source_judge.specs.Judged.{IsNotLinearizable, IsSimplestBad}
 use Rattle.ls_translation.specs.Texts.{file_of, program_of}
 use Rattle.ls_find.proofs.Simpler.{at_same}
@@ -19,6 +20,15 @@ returns-clause-bad c =
     let program : plain_program c.program.result.now ≡ program_of i = ap plain_program c.program.ensures in
     at_same (λ (f : File) (p : Program). IsNotLinearizable f p c.args.found.now →
     IsNotLinearizable f p c.in_ok-run.run'.schedule) file program c.in_ok-run.ensures.bad
+
+pub returns-clause-acts : goal.returns-clause-acts
+returns-clause-acts c =
+    let i = c.args.image.now in
+    let file : plain_file c.file-file.result.now ≡ file_of i =
+    ap plain_file c.file-file.ensures ∙ ap (λ k. (elaborated_file k).file) c.checked.ensures in
+    let program : plain_program c.program.result.now ≡ program_of i = ap plain_program c.program.ensures in
+    at_same (λ (f : File) (p : Program). ActAll f p c.args.found.now → ActAll f p c.in_ok-run.run'.schedule) file
+    program c.in_ok-run.ensures.acts
 
 pub returns-clause-fewest : goal.returns-clause-fewest
 returns-clause-fewest c =

@@ -26,7 +26,7 @@ returns-then-is_good c =
     (subst (λ o. IfNone o (AllLinearizable (plain_file c.file.result.now) (plain_program c.program.result.now)))
     (c.is_good.ensures.bad is) (c.in_ok-judged.ensures.good complete)) in
     let linear = subst (λ (p : Program). AllLinearizable (file_of i) p) program first in
-    all_good c.args.waiting (file_of i) (program_of i) linear (λ waiting.
+    all_good c.args.sought.waiting (file_of i) (program_of i) linear (λ waiting.
     c.pending_calls_wait.ensures.none (file_of i) (program_of i) (λ s over t waits.
     subst (λ (p : Program). NeverStuck (file_of i) p) program
     (subst (λ (f : File). NeverStuck f (plain_program c.program.result.now)) file

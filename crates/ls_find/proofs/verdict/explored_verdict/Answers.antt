@@ -24,7 +24,7 @@ whole_verdict-requires-clause-cells c =
 pub returns-in-Err : goal.returns-in-Err
 returns-in-Err c =
     IfOk-weaker c.unknown_by.result _ _
-    (λ v said. subst (IsVerdict c.args.states c.args.waiting (file_of c.args.image.now) (program_of c.args.image.now))
+    (λ v said. subst (IsVerdict c.args.states c.args.sought (file_of c.args.image.now) (program_of c.args.image.now))
     (sym said.0)
     (inl (fault_cuts c.args.states (file_of c.args.image.now) (program_of c.args.image.now) c.in-Err.fault said.1
     c.in-Err.ensures.only c.in-Err.ensures.states.0 c.in-Err.ensures.endless))) c.unknown_by.ensures

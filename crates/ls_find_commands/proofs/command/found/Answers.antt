@@ -41,5 +41,6 @@ returns-clause-gives g c =
     wider (λ a. a ≡ halted_answer (r.from - 1) c.min-to.result c.count-count.result f.passed.items f.halted)
     (FindsIn c.args.classes.now p r) c.finding_text.result
     (λ a h. subst (FindsIn c.args.classes.now p r)
-    (sym (h ∙ ap₂ (λ n m. halted_answer (r.from - 1) n m f.passed.items f.halted) to many)) (Searched f good found))
+    (sym (h ∙ ap₂ (λ n m. halted_answer (r.from - 1) n m f.passed.items f.halted) to many))
+    (Searched f good found c.in_ok-finding.ensures.sound))
     c.finding_text.ensures
