@@ -5,3 +5,5 @@ pub mod Numbered
 pub mod Numbering
 pub mod Doubting
 pub mod Joined
+pub mod Once
+pub mod SettingUp

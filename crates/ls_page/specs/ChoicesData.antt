@@ -1,5 +1,6 @@
 -- The data of a page on which one chooses, as one JSON text.
-use Rattle.std.specs.Prelude.{◌≡◌, ◌↔◌, ◌≤◌, ℕ, ◌+◌, List, [], ◌++◌, IfNone, IfSome, Option, None, Some, codes, length, map}
+use Rattle.std.specs.Prelude.{◌≡◌, ◌≢◌, ◌↔◌, ◌≤◌, ℕ, ◌+◌, List, [], ◌++◌, AllPairs, IfNone, IfSome, Option, None, Some}
+use Rattle.std.specs.Prelude.{codes, length, map}
 use Rattle.std.specs.Fmt.{decimal}
 use Rattle.ls_events.specs.declared.event.Event.{Event}
 use Rattle.ls_report.specs.Events.{Text}
@@ -97,10 +98,11 @@ pub record IsChoice (names : Names) (first : List ℕ) (most : ℕ) (g : Graph) 
   pub reaches : IsReach (length names.program.threads) g reach
   pub left_out : TellsLeftOut (length names.program.threads) g reach
 
--- the tables have the lines of the rows and of the histories
+-- the tables have the lines of the rows and of the histories, each text once
 pub record AreTables (names : Names) (g : Graph) (histories : List (List Event)) (t : Tables) : Type 0 where
   pub lines : AreAllNumbers t.texts t.lines (map row_words g.rows)
   pub serial : AreAllNumbers t.texts t.serial (map (event_lines names.program) histories)
+  pub once : AllPairs (λ (p q : Text). p ≢ q) t.texts
 
 -- these are the data of such a graph, with serial histories of the program
 pub record IsData (names : Names) (texts : Texts) (first : List ℕ) (most : ℕ) (text : Text) : Type 0 where

@@ -11,7 +11,7 @@ use Rattle.ls_page.specs.declared.table.Table.{Table}
 
 -- the texts of a table, by number
 abbrev pub texts_in : Table → List Text
-texts_in t = map string_bytes t.texts.items
+texts_in t = map string_bytes t.texts.keys
 
 abbrev pub numbers_in : List (Vec ℕ Global) → List (List ℕ)
 numbers_in all = map (λ v. v.items) all

@@ -73,7 +73,7 @@ fn push_lines(out: &mut String, tables: &Tables) -> Result<(), AllocError>
     ensures { OnOk result (string_bytes out.new ≡ string_bytes out.old ++ lines_text (tables_of tables.now)) }
 {
     out.push_str(",\"texts\":")?;
-    push_table(out, &tables.table.texts)?;
+    push_table(out, tables.table.texts())?;
     out.push_str(",\"lines\":")?;
     push_lists(out, &tables.lines)?;
     Ok(())

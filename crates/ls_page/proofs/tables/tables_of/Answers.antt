@@ -21,4 +21,5 @@ returns-clause-tables c =
       serial = subst
           (λ l. AreAllNumbers new serial (map (event_lines (plain_program c.args.names.program.now)) (lists_of l)))
           c.deref-2.ensures.value c.in_ok-serial.ensures.numbers;
+      once = c.numbers_of_histories.new.table.once;
     }
