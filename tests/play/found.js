@@ -41,7 +41,7 @@ module.exports = {
   },
   async "bounds of find"(trial) {
     const page = await trial.open(), text = trial.kept("page/play/examples/counter.txt");
-    const lines = ["--threads 3 --calls 1", "--calls 1 --setup 0", "--states 60", "--no-turning --no-waiting",
+    const lines = ["--threads 3 --calls 1", "--calls 1 --setup 0", "--states 120", "--no-turning --no-waiting",
       "--class 1", "--threads 2 --calls 1 --states 20 --set"];
     for (const line of lines) {
       await trial.put(page, text);
