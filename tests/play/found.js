@@ -50,6 +50,18 @@ module.exports = {
       trial.same("find " + line, await trial.printed(page), trial.run(["find", ...line.split(" ")], [text]));
     }
   },
+  // By ranges more doubles are looked at. So where programs are cut, more are counted as cut, and fewer as doubles.
+  async "find where programs are cut"(trial) {
+    const page = await trial.open(), text = trial.kept("page/play/examples/counter.txt");
+    const words = /with (\d+) doubles and (\d+) cut/;
+    const counted = it => +words.exec(it)[1] + +words.exec(it)[2];
+    await trial.put(page, text);
+    await page.evaluate("takeBounds('--states 60')");
+    await trial.done(page, "find()");
+    const printed = await trial.printed(page), native = trial.run(["find", "--states", "60"], [text]);
+    trial.same("the first line", printed.split("\n")[0], native.split("\n")[0]);
+    trial.same("doubles and cut ones", String(counted(printed)), String(counted(native)));
+  },
   async "a menu of calls"(trial) {
     const page = await trial.open(), text = trial.kept("page/play/examples/counter.txt"), menu = "inc(); get()\n";
     await trial.put(page, text, "", "", menu);
