@@ -38,7 +38,7 @@ terminal() {
 
 # Names what is shown in place: lines of progress from the second second on, and that they are gone at the end.
 seen() {
-    sed -E $'s/(\rexplore: (131072|196608|262144|327680) states, depth [2-5]\x1b\\[K){2,4}/PROGRESS/
+    sed -E $'s/(\r(explore: (131072|196608|262144|327680) states, depth [2-5]|find: (32|48|64|80) of 84 programs)\x1b\\[K){2,4}/PROGRESS/
         s/\r\x1b\\[K/ GONE\\n/'
 }
 
