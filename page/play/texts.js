@@ -1,6 +1,6 @@
 // The texts of the page and the bounds, as they are handed to the program; the examples, and what a link holds.
 
-const NUMBERS = ["threads", "calls", "setup", "values", "class", "states"];   // options of `find` that take a number
+const NUMBERS = ["threads", "calls", "setup", "values", "new", "class", "states"];   // options of `find` that take a number
 // Switches: the box, whether it is on at first, and the option that it gives when it is not, or when it is.
 const SWITCHES = [
   ["is-waiting", true, "--no-waiting"], ["is-turning", true, "--no-turning"], ["is-set", false, "--set"],

@@ -1,13 +1,13 @@
 -- Which class is meant, token by token and class by class.
-use Rattle.std.proofs.Common.{◌≡◌, ◌∙◌, ◌+◌, ◌<◌, ◌≤◌, ◌&&◌, ◌||◌, ℕ, Bool, true, false, List, [], ◌∷◌, ◌++◌, length}
+use Rattle.std.proofs.Common.{◌≡◌, ◌∙◌, ◌+◌, ◌<◌, ◌≤◌, ◌&&◌, ◌||◌, ℕ, false, List, [], ◌∷◌, ◌++◌, length}
 use Rattle.std.proofs.Common.{get_or, drop, map, ap, sym, refl, cond, Option, Some, None}
 use Rattle.std.proofs.lemmas.List.{at_drop_all, at_drop_more}
-use Rattle.ls_lexer.specs.Lexemes.{Lexeme, lexeme_of, lexemes}
+use Rattle.ls_lexer.specs.Lexemes.{lexeme_of, lexemes}
 use Rattle.ls_lexer.specs.declared.token.Token.{Token}
 use Rattle.ls_tree.specs.Trees.{Text}
 use Rattle.ls_tree.specs.Views.{bare_class, name_text}
 use Rattle.ls_tree.specs.declared.tree.Class.{Class}
-use Rattle.ls_class_programs.specs.Meant.{frees, is_free, is_name, is_named, is_other, meant, names_of, only, opens_class}
+use Rattle.ls_class_programs.specs.Meant.{frees, is_free, is_name, is_named, is_other, names_of, only, opens_class}
 
 -- the next token
 pub next_token : (class : ℕ) (name : Text) (at : ℕ) (tokens : List Token) (i : ℕ) (t : Token) →

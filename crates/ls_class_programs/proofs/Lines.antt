@@ -1,5 +1,5 @@
 -- How long the pieces of a text are.
-use Rattle.std.proofs.Common.{◌≡◌, ◌∙◌, ◌+◌, ℕ, Bool, true, false, cond, List, [], ◌∷◌, ap, arith, length, refl}
+use Rattle.std.proofs.Common.{◌≡◌, ◌+◌, ℕ, Bool, true, false, cond, List, [], ◌∷◌, ap, arith, length, refl}
 use Rattle.std.specs.List.{onto_first, slice_split}
 
 -- all pieces, each with the mark after it

@@ -22,7 +22,7 @@ use Rattle.ls_tree.specs.Views.{bare_class}
 use Rattle.ls_tree.specs.declared.tree.Class.{Class}
 use Rattle.ls_tree.specs.declared.tree.ClassFile.{ClassFile}
 use Rattle.ls_class_programs.specs.Limits.{AreTooMany}
-use Rattle.ls_class_programs.specs.Menus.{constructor_parameters, makings}
+use Rattle.ls_class_programs.specs.Menus.{constructor_parameters, makings, only}
 use Rattle.ls_class_programs.specs.declared.menu_fault.MenuFault.{MenuFault}
 use Rattle.ls_class_programs.specs.declared.menu_fault.MenuFault.TheVariants as menus
 use Rattle.ls_class_programs.specs.Chosen.{chosen}
@@ -35,7 +35,7 @@ use Rattle.ls_class_programs.specs.declared.fault.ClassFault.TheVariants as faul
 
 module _ (o : Choosing) (menu : Option Text) (c : ClassTree) where
   pub makings_fail : {T : Type 0} (e : MenuFault) →
-      (IsErrOf {T = T} (Err e) menus.TooMany → AreTooMany o.values (constructor_parameters c.members)) →
+      (IsErrOf {T = T} (Err e) menus.TooMany → AreTooMany (only o.given) (constructor_parameters c.members)) →
       LacksPrograms o menu c (fault_of_menu e)
   makings_fail menus.Memory many = tt
   makings_fail menus.TooMany many = inr (many refl)
@@ -45,7 +45,7 @@ module _ (o : Choosing) (menu : Option Text) (c : ClassTree) where
   calls_fail f (inl memory) = subst (LacksPrograms o menu c) (sym memory) tt
   calls_fail f (inr many) = subst (LacksPrograms o menu c) (sym many.0) (inl many.1)
 
-  pub making_fails : (f : ClassFault) (texts : List (String Global)) → map string_bytes texts ≡ makings o.values c →
+  pub making_fails : (f : ClassFault) (texts : List (String Global)) → map string_bytes texts ≡ makings o.given c →
       (f ≡ faults.Memory) ⊎ ((f ≡ faults.NoMaking) × (map string_bytes texts ≡ [])) → LacksPrograms o menu c f
   making_fails f texts are (inl memory) = subst (LacksPrograms o menu c) (sym memory) tt
   making_fails f texts are (inr none) = subst (LacksPrograms o menu c) (sym none.0) (sym are ∙ none.1)

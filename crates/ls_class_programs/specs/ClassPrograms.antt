@@ -10,7 +10,7 @@ use Rattle.ls_families.specs.Families.{count_of, family_of}
 use Rattle.ls_families.specs.Shapes.{AreBad}
 use Rattle.ls_family_search.specs.Judged.{Programs}
 use Rattle.ls_class_programs.specs.Limits.{AreTooMany, ClassHasTooMany}
-use Rattle.ls_class_programs.specs.Menus.{class_calls, constructor_parameters, makings}
+use Rattle.ls_class_programs.specs.Menus.{class_calls, constructor_parameters, makings, only}
 use Rattle.ls_class_programs.specs.Written.{Entry, entries}
 use Rattle.ls_class_programs.specs.Chosen.{chosen}
 use Rattle.ls_class_programs.specs.declared.choosing.Choosing.{Choosing}
@@ -36,7 +36,7 @@ menu_calls (Some text) values c = map calls_in (entries text)
 
 -- The programs of a class: each begins with its first making, and its calls are those of the menu.
 pub record AreOfClass (o : Choosing) (menu : Option Text) (c : ClassTree) (p : Programs) : Type 0 where
-  pub making : slice_get (makings o.values c) 0 ≡ Some p.making
+  pub making : slice_get (makings o.given c) 0 ≡ Some p.making
   pub calls : p.calls ≡ menu_calls menu o.values c
   pub family : p.family ≡ family_of (length p.calls) o.bounds
 
@@ -44,7 +44,7 @@ pub record AreOfClass (o : Choosing) (menu : Option Text) (c : ClassTree) (p : P
 abbrev pub AreProgramsOf : Choosing → Text → Option Text → Programs → Type 0
 AreProgramsOf o classes menu p = (c : ClassTree) × Chooses o classes c × AreOfClass o menu c p
 
--- there are no integers to choose from, or more than nine
+-- none of the nine integers, or more than these
 abbrev pub AreBadValues : ℕ → Type 0
 AreBadValues values = (values ≡ 0) ⊎ (9 < values)
 
@@ -58,11 +58,11 @@ abbrev pub LacksPrograms : Choosing → Option Text → ClassTree → ClassFault
 LacksPrograms o menu c faults.Memory = Unit {0}
 LacksPrograms o menu c (faults.Text f) = ⊥
 LacksPrograms o menu c faults.NotOneClass = ⊥
-LacksPrograms o menu c faults.NoMaking = makings o.values c ≡ []
+LacksPrograms o menu c faults.NoMaking = makings o.given c ≡ []
 LacksPrograms o menu c faults.NoCalls = menu_calls menu o.values c ≡ []
 LacksPrograms o menu c faults.BadBounds = AreBad o.bounds
 LacksPrograms o menu c faults.TooManyCalls =
-    HasTooManyCalls menu o.values c ⊎ AreTooMany o.values (constructor_parameters c.members)
+    HasTooManyCalls menu o.values c ⊎ AreTooMany (only o.given) (constructor_parameters c.members)
 LacksPrograms o menu c faults.TooManyPrograms =
     1000000 < count_of (family_of (length (menu_calls menu o.values c)) o.bounds)
 
@@ -82,7 +82,7 @@ pub record SpellsNone (classes : Text) (f : TextFault) : Type 0 where
 pub data IsClassFault (o : Choosing) (classes : Text) (menu : Option Text) : ClassFault → Type 0 where
   OutOfMemory : IsClassFault o classes menu faults.Memory
   NoFile : (f : TextFault) → SpellsNone classes f → IsClassFault o classes menu (faults.Text f)
-  NoValues : AreBadValues o.values → IsClassFault o classes menu faults.BadBounds
+  NoValues : AreBadValues o.values ⊎ AreBadValues o.given → IsClassFault o classes menu faults.BadBounds
   NotOne : (file : File) →
       TextSpells file classes →
       chosen o.class (spell file) file.classes ≡ None →

@@ -1,17 +1,17 @@
 -- Menus that are too large.
 use Rattle.std.specs.Prelude.{ℕ, ◌<◌, List, [], Contains, length, take}
 use Rattle.ls_tree.specs.Trees as trees
-use Rattle.ls_tree.specs.Trees.{ClassTree, Member, Parameter}
-use Rattle.ls_class_programs.specs.Menus.{all_arguments}
+use Rattle.ls_tree.specs.Trees.{ClassTree, Member, Parameter, Text}
+use Rattle.ls_class_programs.specs.Menus.{all_arguments, up_to}
 
 -- some first ones of these parameters have more than 1,000 lists of arguments
-abbrev pub AreTooMany : ℕ → List Parameter → Type 0
-AreTooMany most parameters = (k : ℕ) × (1000 < length (all_arguments most (take k parameters)))
+abbrev pub AreTooMany : List Text → List Parameter → Type 0
+AreTooMany ints parameters = (k : ℕ) × (1000 < length (all_arguments ints (take k parameters)))
 
 abbrev pub HasTooMany : ℕ → Member → Type 0
-HasTooMany most (trees.Fields declaration) = AreTooMany most []
-HasTooMany most (trees.Method modifiers locked result name parameters body) = AreTooMany most parameters
-HasTooMany most (trees.Constructor modifiers name parameters body) = AreTooMany most parameters
+HasTooMany most (trees.Fields declaration) = AreTooMany (up_to most) []
+HasTooMany most (trees.Method modifiers locked result name parameters body) = AreTooMany (up_to most) parameters
+HasTooMany most (trees.Constructor modifiers name parameters body) = AreTooMany (up_to most) parameters
 
 -- so have those of a member of the class
 abbrev pub ClassHasTooMany : ℕ → ClassTree → Type 0

@@ -1,5 +1,6 @@
 -- The calls that a program makes on an object of a class, and how it makes the object.
-use Rattle.std.specs.Prelude.{ℕ, Bool, true, false, ◌&&◌, ◌||◌, not, List, [], ◌∷◌, ◌++◌, codes, map, take, Option}
+use Rattle.std.specs.Prelude.{ℕ, ◌-◌, Bool, true, false, ◌&&◌, not, List, [], ◌∷◌, ◌++◌, codes, map, take, drop}
+use Rattle.std.specs.Prelude.{Option}
 use Rattle.std.specs.Prelude.{Some}
 use Rattle.std.specs.Prelude.{None}
 use Rattle.std.specs.List.{flat_map, list_any}
@@ -13,13 +14,20 @@ integers =
 abbrev pub booleans : List Text
 booleans = codes "false" ∷ codes "true" ∷ []
 
--- what an argument of a type may be: one of the first so many integers, or a boolean; a reference may not be given
-abbrev pub arguments_of : ℕ → TypeName → List Text
-arguments_of most trees.Int = take most integers
-arguments_of most trees.Boolean = booleans
-arguments_of most trees.BooleanArray = []
-arguments_of most (trees.Class name) = []
-arguments_of most (trees.Markable name) = []
+-- the first so many integers, and the one that a number is
+abbrev pub up_to : ℕ → List Text
+up_to most = take most integers
+
+abbrev pub only : ℕ → List Text
+only n = take 1 (drop (n - 1) integers)
+
+-- what an argument of a type may be: one of these integers, or a boolean; a reference may not be given
+abbrev pub arguments_of : List Text → TypeName → List Text
+arguments_of ints trees.Int = ints
+arguments_of ints trees.Boolean = booleans
+arguments_of ints trees.BooleanArray = []
+arguments_of ints (trees.Class name) = []
+arguments_of ints (trees.Markable name) = []
 
 -- one more argument: there is a comma before it, but for the first
 abbrev pub and_then : Text → Text → Text
@@ -31,13 +39,13 @@ abbrev pub with_argument : List Text → List Text → List Text
 with_argument begun more = flat_map (λ b. map (and_then b) more) begun
 
 -- these lists of arguments, with arguments for more parameters
-abbrev pub with_arguments : ℕ → List Text → List Parameter → List Text
-with_arguments most begun [] = begun
-with_arguments most begun (p ∷ more) = with_arguments most (with_argument begun (arguments_of most p.type_name)) more
+abbrev pub with_arguments : List Text → List Text → List Parameter → List Text
+with_arguments ints begun [] = begun
+with_arguments ints begun (p ∷ more) = with_arguments ints (with_argument begun (arguments_of ints p.type_name)) more
 
 -- all lists of arguments for these parameters: none if one of them is a reference
-abbrev pub all_arguments : ℕ → List Parameter → List Text
-all_arguments most parameters = with_arguments most ([] ∷ []) parameters
+abbrev pub all_arguments : List Text → List Parameter → List Text
+all_arguments ints parameters = with_arguments ints ([] ∷ []) parameters
 
 -- ---- calls
 
@@ -68,7 +76,7 @@ abbrev pub call_text : Text → Text → Text
 call_text name arguments = codes "s." ++ (name ++ (codes "(" ++ (arguments ++ codes ");")))
 
 abbrev pub calls_if : Bool → ℕ → Text → List Parameter → List Text
-calls_if true most name parameters = map (call_text name) (all_arguments most parameters)
+calls_if true most name parameters = map (call_text name) (all_arguments (up_to most) parameters)
 calls_if false most name parameters = []
 
 abbrev pub member_calls : ℕ → Member → List Text
@@ -94,6 +102,6 @@ constructor_parameters (trees.Fields declaration ∷ more) = constructor_paramet
 abbrev pub making_text : Text → Text → Text
 making_text name arguments = codes "s = new " ++ (name ++ (codes "(" ++ (arguments ++ codes ");")))
 
--- all ways to make an object of a class
+-- all ways to make an object of a class whose constructor is given this integer
 abbrev pub makings : ℕ → ClassTree → List Text
-makings most c = map (making_text c.name) (all_arguments most (constructor_parameters c.members))
+makings given c = map (making_text c.name) (all_arguments (only given) (constructor_parameters c.members))

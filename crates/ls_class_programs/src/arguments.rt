@@ -5,7 +5,7 @@ ghost use Rattle.std.specs.Prelude.{string_bytes};
 ghost use Rattle.ls_items.specs.Cutting.{plain_text};
 ghost use Rattle.ls_tree.specs.Views.{bare_parameter, bare_type};
 ghost use Rattle.ls_class_programs.specs.Limits.{AreTooMany};
-ghost use Rattle.ls_class_programs.specs.Menus.{all_arguments, and_then, arguments_of, with_argument};
+ghost use Rattle.ls_class_programs.specs.Menus.{all_arguments, and_then, arguments_of, only, up_to, with_argument};
 
 use crate::menu_fault::MenuFault;
 use ls_tree::tree::{Parameter, Type};
@@ -21,14 +21,35 @@ static INTEGERS: [&str; 9] = ["1", "2", "3", "4", "5", "6", "7", "8", "9"];
 
 static BOOLEANS: [&str; 2] = ["false", "true"];
 
-/// What an argument of a type may be.
-fn arguments_of(most: usize, type_name: &Type) -> &'static [&'static str]
+/// The first so many integers.
+pub(crate) fn up_to(most: usize) -> &'static [&'static str]
     requires { most ≤ 9 }
-    ensures is { map plain_text result.now ≡ arguments_of most (bare_type type_name.now) }
+    ensures is { map plain_text result.now ≡ up_to most }
+    ensures few { length result.now ≤ 9 }
+{
+    &INTEGERS[..most]
+}
+
+/// The integer that a number is.
+pub(crate) fn only(number: usize) -> &'static [&'static str]
+    requires some { 0 < number }
+    requires few { number ≤ 9 }
+    ensures is { map plain_text result.now ≡ only number }
+    ensures few { length result.now ≤ 9 }
+{
+    let all: &'static [&'static str] = &INTEGERS;
+    let (_, from_on) = all.split_at(number - 1);
+    &from_on[..1]
+}
+
+/// What an argument of a type may be, where an int is one of these integers.
+fn arguments_of(integers: &'static [&'static str], type_name: &Type) -> &'static [&'static str]
+    requires { length integers.now ≤ 9 }
+    ensures is { map plain_text result.now ≡ arguments_of (map plain_text integers.now) (bare_type type_name.now) }
     ensures few { length result.now ≤ 9 }
 {
     match type_name {
-        Type::Int => &INTEGERS[..most],
+        Type::Int => integers,
         Type::Boolean => &BOOLEANS,
         Type::BooleanArray | Type::Class(_) | Type::Markable(_) => &[],
     }
@@ -75,21 +96,22 @@ fn with_argument(alloc: Global, begun: &[String], more: &[&str]) -> Result<Vec<S
     Ok(all)
 }
 
-/// All lists of arguments for parameters, where an int is one of the first so many integers.
+/// All lists of arguments for parameters, where an int is one of these integers.
 pub(crate) fn all_arguments(
     alloc: Global,
-    most: usize,
+    integers: &'static [&'static str],
     parameters: &[Parameter],
 ) -> Result<Vec<String>, MenuFault>
-    requires { most ≤ 9 }
+    requires { length integers.now ≤ 9 }
     ensures all { IfOk result (λ all. map string_bytes all.items ≡
-        all_arguments most (map bare_parameter parameters.now)) }
-    ensures many { IsErrOf result MenuFault.TooMany → AreTooMany most (map bare_parameter parameters.now) }
+        all_arguments (map plain_text integers.now) (map bare_parameter parameters.now)) }
+    ensures many { IsErrOf result MenuFault.TooMany →
+        AreTooMany (map plain_text integers.now) (map bare_parameter parameters.now) }
 {
     let mut all = Vec::new(alloc);
     all.push(String::new(alloc))?;
     for parameter in parameters {
-        let more = arguments_of(most, &parameter.type_name);
+        let more = arguments_of(integers, &parameter.type_name);
         if all.len() * more.len() > MOST_LISTS {
             return Err(MenuFault::TooMany);
         }

@@ -18,6 +18,8 @@ pub struct Choosing {
     pub class: Option<u64>,
     /// An int argument is one of so many integers, from 1.
     pub values: u64,
+    /// The integer that the constructor is given.
+    pub given: u64,
     pub bounds: Bounds,
 }
 

@@ -1,14 +1,14 @@
 // Menus of classes.
 
-ghost use Rattle.std.specs.Prelude.{◌≡◌, ◌≤◌, ◌++◌, IfOk, IsErrOf, OnOk, map, option_map, string_bytes};
+ghost use Rattle.std.specs.Prelude.{◌≡◌, ◌<◌, ◌≤◌, ◌++◌, IfOk, IsErrOf, OnOk, map, option_map, string_bytes};
 ghost use Rattle.std.specs.List.{list_any};
 ghost use Rattle.ls_tree.specs.Views.{bare_class, bare_member, bare_modifier, bare_modifiers, bare_parameter};
 ghost use Rattle.ls_tree.specs.Views.{bare_type};
 ghost use Rattle.ls_class_programs.specs.Limits.{AreTooMany, ClassHasTooMany, HasTooMany};
 ghost use Rattle.ls_class_programs.specs.Menus.{all_arguments, call_text, class_calls, constructor_parameters, is_callable};
-ghost use Rattle.ls_class_programs.specs.Menus.{is_plain, is_private, making_text, makings, member_calls};
+ghost use Rattle.ls_class_programs.specs.Menus.{is_plain, is_private, making_text, makings, member_calls, only, up_to};
 
-use crate::arguments::all_arguments;
+use crate::arguments::{all_arguments, only, up_to};
 use crate::menu_fault::MenuFault;
 use ls_tree::tree::{Class, Member, Method, Modifier, Parameter, Type};
 use std::alloc::{AllocError, Global};
@@ -108,10 +108,10 @@ fn push_method(
 ) -> Result<(), MenuFault>
     requires { most ≤ 9 }
     ensures calls { OnOk result (map string_bytes calls.new.items ≡ map string_bytes calls.old.items ++
-        map (call_text name.now) (all_arguments most (map bare_parameter parameters.now))) }
-    ensures many { IsErrOf result MenuFault.TooMany → AreTooMany most (map bare_parameter parameters.now) }
+        map (call_text name.now) (all_arguments (up_to most) (map bare_parameter parameters.now))) }
+    ensures many { IsErrOf result MenuFault.TooMany → AreTooMany (up_to most) (map bare_parameter parameters.now) }
 {
-    let arguments = all_arguments(alloc, most, parameters)?;
+    let arguments = all_arguments(alloc, up_to(most), parameters)?;
     push_calls(alloc, calls, name, arguments.as_slice())?;
     Ok(())
 }
@@ -201,18 +201,19 @@ fn makings_with(alloc: Global, name: &str, arguments: &[String]) -> Result<Vec<S
 }
 
 /// All makings of an object `s` of a class, by its first constructor, or without one; none if that takes a reference.
-/// An int is one of the first so many integers, from 1. The last argument changes first.
+/// An int is this integer. The last argument changes first.
 ///
 /// `TooMany` comes only if some first parameters of the constructor have more than 1,000 lists of arguments. Else the
 /// only refusal is that memory ran out.
-pub fn makings_of(alloc: Global, most: usize, class: &Class) -> Result<Vec<String>, MenuFault>
-    requires { most ≤ 9 }
-    ensures makings { IfOk result (λ all. map string_bytes all.items ≡ makings most (bare_class class.now)) }
+pub fn makings_of(alloc: Global, given: usize, class: &Class) -> Result<Vec<String>, MenuFault>
+    requires some { 0 < given }
+    requires few { given ≤ 9 }
+    ensures makings { IfOk result (λ all. map string_bytes all.items ≡ makings given (bare_class class.now)) }
     ensures many { IsErrOf result MenuFault.TooMany →
-        AreTooMany most (constructor_parameters (bare_class class.now).members) }
+        AreTooMany (only given) (constructor_parameters (bare_class class.now).members) }
 {
     let parameters = constructor_parameters(class.members.as_slice());
-    let arguments = all_arguments(alloc, most, parameters)?;
+    let arguments = all_arguments(alloc, only(given), parameters)?;
     let makings = makings_with(alloc, class.name.text.as_str(), arguments.as_slice())?;
     Ok(makings)
 }

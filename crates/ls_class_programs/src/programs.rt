@@ -1,6 +1,6 @@
 // The programs of a class.
 
-ghost use Rattle.std.specs.Prelude.{◌≡◌, ◌≤◌, ◌⊎◌, ◌↔◌, [], IfErr, IfOk, IsTrue, Some, map, slice_get};
+ghost use Rattle.std.specs.Prelude.{◌≡◌, ◌<◌, ◌≤◌, ◌⊎◌, ◌↔◌, [], IfErr, IfOk, IsTrue, Some, map, slice_get};
 ghost use Rattle.std.specs.Prelude.{option_map, string_bytes};
 ghost use Rattle.ls_class_programs.specs.Written.{entries};
 ghost use Rattle.ls_items.specs.Cutting.{plain_text};
@@ -50,7 +50,7 @@ impl ClassPrograms {
     }
 }
 
-/// Whether there are no integers to choose from, or more than nine.
+/// Whether a number is none of the nine integers.
 fn are_bad_values(values: u64) -> bool
     ensures { IsTrue result ↔ AreBadValues values }
 {
@@ -107,12 +107,14 @@ fn of_class(
     choosing: Choosing,
     menu: Option<&str>,
 ) -> Result<ClassPrograms, ClassFault>
-    requires { choosing.values ≤ 9 }
+    requires values { choosing.values ≤ 9 }
+    requires some { 0 < choosing.given }
+    requires given { choosing.given ≤ 9 }
     ensures programs { IfOk result (AreOfClass choosing (option_map plain_text menu.entry) (bare_class class.now)) }
     ensures refused { IfErr result (LacksPrograms choosing (option_map plain_text menu.entry) (bare_class class.now)) }
 {
     let most = choosing.values as usize;
-    let makings = makings_of(alloc, most, class)?;
+    let makings = makings_of(alloc, choosing.given as usize, class)?;
     let making = first_of(alloc, makings.as_slice())?;
     let calls = menu_of(alloc, most, class, menu)?;
     let family = Family::new(alloc, calls.len() as u64, choosing.bounds)?;
@@ -131,7 +133,9 @@ fn of_place(
     choosing: Choosing,
     menu: Option<&str>,
 ) -> Result<ClassPrograms, ClassFault>
-    requires { choosing.values ≤ 9 }
+    requires values { choosing.values ≤ 9 }
+    requires some { 0 < choosing.given }
+    requires given { choosing.given ≤ 9 }
     ensures programs { IfOk result (AreOfPlace choosing (option_map plain_text menu.entry)
         (map bare_class classes.now) at) }
     ensures refused { IfErr result (LacksAtPlace choosing (option_map plain_text menu.entry)
@@ -143,11 +147,11 @@ fn of_place(
     }
 }
 
-/// The programs of the class that is chosen of a class text. Each makes an object by its first constructor, with 1 and
-/// `false` for its parameters. Its calls are those of a menu that is written by hand, if one is given, and else of the
+/// The programs of the class that is chosen of a class text. Each makes an object by its first constructor, with the
+/// integer that is given and `false` for its parameters. Its calls are those of a menu that is written by hand, if one is given, and else of the
 /// class's menu.
 ///
-/// `BadBounds` comes if there are no integers or more than 9. Else `Text` comes as of `parse_text`, and `NotOneClass`
+/// `BadBounds` comes if there are no integers or more than 9, or the constructor is given none of these 9. Else `Text` comes as of `parse_text`, and `NotOneClass`
 /// if no class is chosen. Else, if memory doesn't run out, a fault says why the class has no programs: `TooManyCalls`,
 /// `NoMaking`, `NoCalls`, `BadBounds` or `TooManyPrograms`.
 pub fn programs_of(
@@ -160,6 +164,9 @@ pub fn programs_of(
     ensures refused { IfErr result (IsClassFault choosing classes.now (option_map plain_text menu.entry)) }
 {
     if are_bad_values(choosing.values) {
+        return Err(ClassFault::BadBounds);
+    }
+    if are_bad_values(choosing.given) {
         return Err(ClassFault::BadBounds);
     }
     let file = parse_text(alloc, classes)?;

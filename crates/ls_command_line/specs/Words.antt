@@ -144,10 +144,12 @@ bounds_line =
     with_rule
     (with_rule
     (with_rule
+    (with_rule
     (with_rule (with_explain (codes "find")) (number_rule false (codes "threads")))
     (number_rule false (codes "calls")))
     (number_rule false (codes "setup")))
-    (number_rule false (codes "values"))
+    (number_rule false (codes "values")))
+    (number_rule false (codes "new"))
 
 abbrev pub numbers_line : App
 numbers_line =
@@ -282,6 +284,7 @@ asked_find rows = record {
   calls = number_of (codes "calls") 2 rows;
   setup = number_of (codes "setup") 1 rows;
   values = number_of (codes "values") 2 rows;
+  given = number_of (codes "new") 1 rows;
   class = number_asked (codes "class") rows;
   states = number_of (codes "states") 200000 rows;
   from = number_of (codes "from") 1 rows;

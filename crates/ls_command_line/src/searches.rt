@@ -123,7 +123,14 @@ fn bounds_command<'a>(alloc: Global) -> Result<Command<'a>, AllocError>
         false,
         "an int argument is one of the integers from 1 to N, which is 1 to 9 [default: 2]",
     );
-    with_option(command, values)
+    let command = with_option(command, values);
+    let given = number_option(
+        alloc,
+        "new",
+        false,
+        "the integer that the constructor is given, 1 to 9 [default: 1]",
+    );
+    with_option(command, given)
 }
 
 /// The command with these bounds, and the numbers of the programs that it looks through.

@@ -22,7 +22,7 @@ use Rattle.ls_types_elaboration.specs.declared.static_types.Static.TheVariants.{
 use Rattle.ls_faults.specs.declared.fault.ToolFault.{ToolFault}
 use Rattle.ls_faults.specs.declared.fault.ToolFault.TheVariants as faults
 use Rattle.ls_explanations.specs.Lessons.{call_lesson}
-use Rattle.ls_explanations.specs.Programs.{unknown_lesson}
+use Rattle.ls_explanations.specs.Programs.{form_lesson, unknown_lesson}
 use Rattle.ls_explanations.specs.Tokens.{Bytes}
 
 -- ---- classes by their numbers
@@ -105,4 +105,5 @@ rule_details r classes at = []
 abbrev pub details : ToolFault → Bytes → Bytes → Bytes
 details (faults.Check (check.Broken b)) classes program = rule_details b.rule classes b.span.start
 details (faults.Program (program_faults.UnknownThing at)) classes program = unknown_lesson program at
+details (faults.Program (program_faults.BadProgram at)) classes program = form_lesson program at
 details f classes program = []

@@ -59,8 +59,7 @@ abbrev pub program_sentence : ProgramFault → Bytes
 program_sentence program.Memory = []
 program_sentence program.ProgramLimit = codes
     "too many: a program has at most 262,144 bytes, 64 threads, and 256 calls of each and of the setup\n"
-program_sentence (program.BadProgram at) =
-    codes "expected `setup { .. }` and then `thread NAME { .. }` as often as wanted, with calls as `s.m(1);`\n"
+program_sentence (program.BadProgram at) = []
 program_sentence (program.UnknownThing at) = []
 program_sentence (program.ReferenceResult at) =
     codes "this method returns a reference: call one that returns an `int`, a `boolean` or nothing\n"

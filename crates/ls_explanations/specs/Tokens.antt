@@ -11,6 +11,10 @@ Bytes = List ℕ
 abbrev pub front_name : Bytes → Bytes
 front_name text = before_first (λ b. not (is_part b)) text
 
+-- the white space at the front
+abbrev pub front_gap : Bytes → Bytes
+front_gap text = before_first (λ b. not (is_white b)) text
+
 -- a text without the white space at its end
 abbrev pub trimmed : Bytes → Bytes
 trimmed text = take (length text - suffix_len is_white text) text

@@ -1,5 +1,5 @@
 -- What is said of a reserved word that can't come where it is.
-use Rattle.std.specs.Prelude.{ℕ, ◌||◌, List, [], codes, if◌then◌else◌}
+use Rattle.std.specs.Prelude.{◌||◌, [], codes, if◌then◌else◌}
 use Rattle.std.specs.Str.{bytes_eq}
 use Rattle.ls_explanations.specs.Tokens.{Bytes}
 

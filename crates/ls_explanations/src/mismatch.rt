@@ -8,7 +8,7 @@ ghost use Rattle.ls_explanations.specs.Mismatches.{rule_details, static_text, ty
 
 use crate::classes::{class_name, tokens_in};
 use crate::lessons::call_lesson;
-use crate::programs::unknown_lesson;
+use crate::programs::{form_lesson, unknown_lesson};
 use ls_events::value::ValueType;
 use ls_faults::fault::ToolFault;
 use ls_lexer::token::Token;
@@ -203,6 +203,9 @@ pub(crate) fn push_details(
         }
         ToolFault::Program(ProgramFault::UnknownThing { at }) => {
             out.extend_from_slice(unknown_lesson(program.as_bytes(), at).as_bytes())
+        }
+        ToolFault::Program(ProgramFault::BadProgram { at }) => {
+            out.extend_from_slice(form_lesson(program.as_bytes(), at).as_bytes())
         }
         _ => Ok(()),
     }

@@ -77,10 +77,7 @@ fn program_sentence(fault: ProgramFault) -> &'static str
         ProgramFault::ProgramLimit => {
             "too many: a program has at most 262,144 bytes, 64 threads, and 256 calls of each and of the setup\n"
         }
-        ProgramFault::BadProgram { at: _ } => {
-            "expected `setup { .. }` and then `thread NAME { .. }` as often as wanted, with calls as `s.m(1);`\n"
-        }
-        ProgramFault::UnknownThing { at: _ } => "",
+        ProgramFault::BadProgram { at: _ } | ProgramFault::UnknownThing { at: _ } => "",
         ProgramFault::ReferenceResult { at: _ } => {
             "this method returns a reference: call one that returns an `int`, a `boolean` or nothing\n"
         }

@@ -12,6 +12,7 @@ abbrev pub choosing_of : Seeking → Choosing
 choosing_of s = record {
   class = s.class;
   values = s.values;
+  given = s.given;
   bounds = record { threads = s.threads; calls = s.calls; setup = s.setup };
 }
 

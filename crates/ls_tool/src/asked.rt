@@ -39,6 +39,7 @@ fn choosing_of(seeking: Seeking) -> Choosing
     Choosing {
         class: seeking.class,
         values: seeking.values,
+        given: seeking.given,
         bounds: Bounds {
             threads: seeking.threads,
             calls: seeking.calls,

@@ -1,6 +1,6 @@
 -- Why `programs_of` in src/programs.rt keeps its clauses `refused` and `programs`.
 
-use Rattle.std.proofs.Common.{◌∙◌, ap, map, sym}
+use Rattle.std.proofs.Common.{◌∙◌, ap, inl, inr, map, sym}
 use Rattle.std.specs.Prelude.{option_map}
 use Rattle.std.proofs.lemmas.Result.{IfOk-weaker, err_from_is_err_and}
 use Rattle.ls_lexer.specs.Lexemes.{lexemes}
@@ -14,7 +14,11 @@ use Rattle.ls_class_programs.proofs.Refused.{choose, place_fails, same_tokens, t
 use Rattle.ls_class_programs.proofs.programs.programs_of.Goals as goal
 
 pub returns-then-are_bad_values-clause-refused : goal.returns-then-are_bad_values-clause-refused
-returns-then-are_bad_values-clause-refused c = NoValues (c.are_bad_values.ensures.0 c.if-are_bad_values.true)
+returns-then-are_bad_values-clause-refused c = NoValues (inl (c.are_bad_values.ensures.0 c.if-are_bad_values.true))
+
+pub returns-then-are_bad_values-2-clause-refused : goal.returns-then-are_bad_values-2-clause-refused
+returns-then-are_bad_values-2-clause-refused c =
+    NoValues (inr (c.are_bad_values-2.ensures.0 c.if-are_bad_values-2.true))
 
 pub returns-in_err-file-clause-refused : goal.returns-in_err-file-clause-refused
 returns-in_err-file-clause-refused c =

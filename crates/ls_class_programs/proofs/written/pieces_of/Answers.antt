@@ -1,6 +1,5 @@
 -- Why `pieces_of` in src/written.rt keeps its contract.
 
-use Rattle.std.proofs.Common.{arith}
 use Rattle.std.proofs.lemmas.Iterator.Consumers.{map_from_collect}
 use Rattle.std.proofs.lemmas.Iterator.Splits.{YieldsList-from_str_split}
 use Rattle.ls_class_programs.proofs.written.pieces_of.Goals as goal
