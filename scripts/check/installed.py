@@ -87,9 +87,9 @@ def told_of(listset, prefix, path, version):
     yield "help find", run([listset, "help", "find"], "/", path)[1].startswith(text_of(f"{TOP}/docs/help/find.txt")[:40])
     yield "an unknown command", run([listset, "fnd"], "/", path)[0] == 2
     manual = next(f"{prefix}/share/man/man1/{it}" for it in os.listdir(f"{prefix}/share/man/man1"))
-    if path == SYSTEM and shutil.which("lexgrog"):
+    if path == SYSTEM and shutil.which("lexgrog", path=SYSTEM):
         yield "lexgrog", "listset - " in run(["lexgrog", manual], "/", path)[1]
-    if path == SYSTEM and shutil.which("man"):
+    if path == SYSTEM and shutil.which("man", path=SYSTEM):
         status, text, said = run(["man", "--warnings", "-l", manual], "/", path, LC_ALL="C.UTF-8", MANWIDTH="100")
         yield "man", (status, said) == (0, "") and text.startswith("LISTSET(1)") and "listset find" in text
     completions = {"bash": "bash-completion/completions/listset", "zsh": "zsh/site-functions/_listset"}
