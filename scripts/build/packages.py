@@ -81,13 +81,14 @@ def control(root, version):
 
 def debian(folder, root, version, when, to):
     """Makes a Debian package of a folder, over another folder, in a file. As Debian asks, the manual page and the changes are compressed,
-    and the notice is the file `copyright`."""
+    the notice is the file `copyright`, and the completions of zsh stand where its zsh looks for those of packages."""
     shutil.copytree(folder, f"{root}/usr")
     told, manual = f"{root}/usr/share/doc/listset", f"{root}/usr/share/man/man1/listset.1"
     for path, packed in ((f"{told}/CHANGELOG.md", f"{told}/changelog.gz"), (manual, f"{manual}.gz")):
         keep(packed, gzip.compress(kept(path), 9, mtime=0))
         os.remove(path)
     os.rename(f"{told}/NOTICE", f"{told}/copyright")
+    os.rename(f"{root}/usr/share/zsh/site-functions", f"{root}/usr/share/zsh/vendor-completions")
     for name, text in zip(("control", "md5sums"), control(root, version)):
         keep(f"{root}/DEBIAN/{name}", text.encode())
     for at, _, names in os.walk(root):

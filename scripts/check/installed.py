@@ -1,4 +1,5 @@
 """Runs listset where it is installed, as one does who has nothing but the packages that it asks for."""
+import glob
 import os
 import pty
 import re
@@ -10,6 +11,12 @@ SYSTEM = "/usr/bin:/bin"
 # The commands that the installed scripts call beside an awk. Each is in each Debian system.
 FEW = "cat date grep mktemp readlink rm sleep wc".split()
 AWKS = "mawk gawk original-awk".split()
+# Where the completions of a shell stand.
+COMPLETIONS = {
+    "bash": "bash-completion/completions/listset",
+    "zsh": "zsh/*s/_listset",
+    "fish": "fish/vendor_completions.d/listset.fish",
+}
 
 
 def awks(room):
@@ -92,11 +99,10 @@ def told_of(listset, prefix, path, version):
     if path == SYSTEM and shutil.which("man", path=SYSTEM):
         status, text, said = run(["man", "--warnings", "-l", manual], "/", path, LC_ALL="C.UTF-8", MANWIDTH="100")
         yield "man", (status, said) == (0, "") and text.startswith("LISTSET(1)") and "listset find" in text
-    completions = {"bash": "bash-completion/completions/listset", "zsh": "zsh/site-functions/_listset"}
-    completions["fish"] = "fish/vendor_completions.d/listset.fish"
-    for shell, name in completions.items():
-        if path == SYSTEM and shutil.which(shell):
-            yield f"completions of {shell}", run([shutil.which(shell), "-n", f"{prefix}/share/{name}"], "/", path) == (0, "", "")
+    for shell, place in COMPLETIONS.items():
+        files = glob.glob(f"{glob.escape(prefix)}/share/{place}")
+        reads = path == SYSTEM and shutil.which(shell)
+        yield f"completions of {shell}", len(files) == 1 and (not reads or run([reads, "-n", *files], "/", path) == (0, "", ""))
 
 
 def sessions(prefix, path, folder, version):
