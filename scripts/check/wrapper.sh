@@ -15,6 +15,9 @@ proves() {
     stub scripts/build/prove "${begins[@]}" 'cp proved crates/listset/out/listset'
 }
 
+# Whether packages can be made on this machine.
+packs() { command -v dpkg-deb && command -v objdump && command -v git; } >/dev/null
+
 # Makes the copy. Its `rt try` tells what it is given.
 copy() {
     cp -r "$TOP"/{scripts,listset,crates.txt,README.md} . && ln -s "$TOP"/{docs,page} .

@@ -59,7 +59,7 @@ END {
             print "Without a schedule one chooses on the page who steps next:"
             print "  listset page my.java my.program > play.html"
             print "With --data the data are printed alone."
-            print "scripts/make/page puts the page round them."
+            if (!installed) print "scripts/make/page puts the page round them."
         }
     }
 }
