@@ -1,6 +1,6 @@
 // Why the elaboration of a class text doesn't depend on places.
 
-ghost use Rattle.ls_find.specs.Laws.{NoPlaces, OneAnswer};
+ghost use Rattle.ls_types_places.specs.Laws.{NoPlaces, OneAnswer};
 
 use ls_parser::parsing::one_file;
 

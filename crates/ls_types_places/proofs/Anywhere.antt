@@ -3,7 +3,7 @@ use Rattle.std.proofs.Common.{◌≡◌, ap, Ok, Err}
 use Rattle.ls_types_elaboration.specs.declared.rule.Rule.{Rule}
 use Rattle.ls_types_elaboration.specs.Elaborated.{Elaborated}
 use Rattle.ls_parser_spelling.specs.Unplaced.{nowhere}
-use Rattle.ls_find.specs.Laws.{SameAnswer}
+use Rattle.ls_types_places.specs.Laws.{SameAnswer}
 
 -- the answer with its place put to 0
 abbrev pub anywhere : {A : Type 0} → Elaborated A → Elaborated A

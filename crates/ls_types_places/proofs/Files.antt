@@ -30,11 +30,11 @@ use Rattle.ls_types_elaboration.specs.Elaboration.{Bodies, one_body, file_method
 use Rattle.ls_parser_spelling.specs.Unplaced.{nowhere, unplaced, unplaced_name, unplaced_type, unplaced_declarator}
 use Rattle.ls_parser_spelling.specs.Unplaced.{unplaced_declaration, unplaced_items, unplaced_parameter, unplaced_member}
 use Rattle.ls_parser_spelling.specs.Unplaced.{unplaced_class, unplaced_file}
-use Rattle.ls_find.proofs.Anywhere.{anywhere, same_answer}
-use Rattle.ls_find.specs.Laws.{NoPlaces}
-use Rattle.ls_find.proofs.Steps.{bind, test, choice, each_same}
-use Rattle.ls_find.proofs.Expressions.{fitting_same}
-use Rattle.ls_find.proofs.Statements.{unplaced_body, type_same, result_same, may_same, items_same}
+use Rattle.ls_types_places.proofs.Anywhere.{anywhere, same_answer}
+use Rattle.ls_types_places.specs.Laws.{NoPlaces}
+use Rattle.ls_types_places.proofs.Steps.{bind, test, choice, each_same}
+use Rattle.ls_types_places.proofs.Expressions.{fitting_same}
+use Rattle.ls_types_places.proofs.Statements.{unplaced_body, type_same, result_same, may_same, items_same}
 
 parameter_same : (body : Body) (scope : Scope) (p : Parameter) →
     parameter (unplaced_body body) scope (unplaced_parameter p) ≡ anywhere (parameter body scope p)

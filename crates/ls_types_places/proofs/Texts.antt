@@ -2,8 +2,8 @@
 use Rattle.std.proofs.Common.{sym, ap, ◌∙◌}
 use Rattle.ls_parser.specs.Laws.{OneFile}
 use Rattle.ls_parser_spelling.specs.Outlines.{file_tree}
-use Rattle.ls_find.specs.Laws.{OneAnswer}
-use Rattle.ls_find.proofs.Files.{no_places}
+use Rattle.ls_types_places.specs.Laws.{OneAnswer}
+use Rattle.ls_types_places.proofs.Files.{no_places}
 
 -- the law: if a text has one tree, its files have one answer
 pub one_answer : OneFile → OneAnswer

@@ -30,9 +30,9 @@ use Rattle.ls_types_elaboration.specs.TypedStatements.{monitor, statement, items
 use Rattle.ls_parser_spelling.specs.Unplaced.{nowhere, unplaced, unplaced_name, unplaced_type, unplaced_declarator}
 use Rattle.ls_parser_spelling.specs.Unplaced.{unplaced_declaration, unplaced_simple, unplaced_opening}
 use Rattle.ls_parser_spelling.specs.Unplaced.{unplaced_statement, unplaced_items}
-use Rattle.ls_find.proofs.Anywhere.{anywhere}
-use Rattle.ls_find.proofs.Steps.{bind, blank, test, choice, each_same}
-use Rattle.ls_find.proofs.Expressions.{span_nowhere, typed_same, fitting_same}
+use Rattle.ls_types_places.proofs.Anywhere.{anywhere}
+use Rattle.ls_types_places.proofs.Steps.{bind, blank, test, choice, each_same}
+use Rattle.ls_types_places.proofs.Expressions.{span_nowhere, typed_same, fitting_same}
 
 -- the body of a method whose name's place is put to 0
 abbrev pub unplaced_body : Body → Body

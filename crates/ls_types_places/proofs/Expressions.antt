@@ -26,10 +26,11 @@ use Rattle.ls_types_elaboration.specs.StaticTypes.{as_array, comparable, of_type
 use Rattle.ls_types_elaboration.specs.Members.{method_member, member_of, found, maker_of, object_maker, markable_maker}
 use Rattle.ls_types_elaboration.specs.Operators.{unary_of, of_operands, computed, compared, binary_of}
 use Rattle.ls_types_elaboration.specs.TypedExpressions.{own_field, local_or, field_in, field_at, is_integer}
-use Rattle.ls_types_elaboration.specs.TypedExpressions.{argument_count, counts, integer_constant, typed, passed, fitting}
+use Rattle.ls_types_elaboration.specs.TypedExpressions.{argument_count, counts, integer_constant, typed, passed}
+use Rattle.ls_types_elaboration.specs.TypedExpressions.{fitting}
 use Rattle.ls_parser_spelling.specs.Unplaced.{nowhere, unplaced, all_unplaced, unplaced_name}
-use Rattle.ls_find.proofs.Anywhere.{anywhere}
-use Rattle.ls_find.proofs.Steps.{bind, blank, choice}
+use Rattle.ls_types_places.proofs.Anywhere.{anywhere}
+use Rattle.ls_types_places.proofs.Steps.{bind, blank, choice}
 
 -- an expression without places is nowhere
 pub span_nowhere : (e : Expression) → span_of (unplaced e) ≡ nowhere
@@ -269,7 +270,8 @@ mutual
       bind (as_type types.Int (span_of length) x) (as_type types.Int (span_of (unplaced length)) x) _ _
       (as_type_same types.Int (span_of (unplaced length)) (span_of length) x (span_nowhere length)) (λ n. refl))
 
-  passed_same : (known : Known) (locals : List Local) (n : Counts) (ts : List ValueType) (es : Expressions) (span : Span)
+  passed_same : (known : Known) (locals : List Local) (n : Counts) (ts : List ValueType) (es : Expressions)
+      (span : Span)
       → passed known locals n ts (all_unplaced es) nowhere ≡ anywhere (passed known locals n ts es span)
   passed_same known locals n [] Trees.End span = refl
   passed_same known locals n [] (Trees.More e es) span = refl

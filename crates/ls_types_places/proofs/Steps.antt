@@ -5,7 +5,7 @@ use Rattle.ls_lexer.specs.declared.token.Span.{Span}
 use Rattle.ls_types_elaboration.specs.declared.rule.Rule.{Rule}
 use Rattle.ls_types_elaboration.specs.Elaborated.{Elaborated, broken, with_ok, unless_broken, each}
 use Rattle.ls_parser_spelling.specs.Unplaced.{nowhere}
-use Rattle.ls_find.proofs.Anywhere.{anywhere}
+use Rattle.ls_types_places.proofs.Anywhere.{anywhere}
 
 -- one step and then another
 pub bind : {A B : Type 0} (x x' : Elaborated A) (f f' : A → Elaborated B) →
