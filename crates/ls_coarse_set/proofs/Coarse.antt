@@ -37,7 +37,7 @@ use Rattle.ls_one_at_a_time.proofs.CoarseLists.{coarse_lists}
 use Rattle.ls_one_at_a_time.proofs.Standing.{acts_up, steps_so, up_ended}
 use Rattle.ls_orders.specs.declared.calls.Operation.TheVariants as operations
 use Rattle.ls_legal_laws.specs.Laws.{AreNamed, HasOwnNames}
-use Rattle.ls_coarse_set.specs.Laws.{AllSmallSetCalls, AreSmallSetCalls, CoarseListIsASet, IsNameOf, IsSmallItem}
+use Rattle.ls_coarse_set.specs.Laws.{AllSmallSetCalls, AreSmallSetCalls, CheckedListIsASet, IsNameOf, IsSmallItem}
 use Rattle.ls_legal_laws.proofs.Naming.{is_name}
 use Rattle.ls_coarse_set.proofs.Deeds.{IsDoneBy, called, events_by, returned, told}
 use Rattle.ls_coarse_set.proofs.Serial.{serial_is, small_calls}
@@ -290,6 +290,6 @@ module _ (name : SetupName) (text setup : List ℕ) (more : List ProgramCall) (t
         )
 
 -- the law
-pub coarse_list_is_a_set : CoarseListIsASet
-coarse_list_is_a_set name text setup more threads small_more small_threads own schedule =
+pub checked_list_is_a_set : CheckedListIsASet
+checked_list_is_a_set name text setup more threads small_more small_threads own schedule =
     legal name text setup more threads small_more small_threads own schedule

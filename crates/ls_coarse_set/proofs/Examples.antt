@@ -7,7 +7,7 @@ use Rattle.std.specs.Prelude.{slice_get, slice_index_or}
 use Rattle.ls_checked.specs.CheckedProgram.{ThreadProgram}
 use Rattle.ls_legal_laws.specs.Laws.{HasOwnNames}
 use Rattle.ls_coarse_set.specs.Example.{ExampleIsLegal, example, first, name, second}
-use Rattle.ls_coarse_set.proofs.Coarse.{coarse_list_is_a_set}
+use Rattle.ls_coarse_set.proofs.Coarse.{checked_list_is_a_set}
 
 -- the first letter of a thread's name
 abbrev letter : ThreadProgram → ℕ
@@ -54,7 +54,7 @@ own = record {
 
 -- the law at the program
 pub example_is_legal : ExampleIsLegal
-example_is_legal = coarse_list_is_a_set name _ _ [] (first ∷ second ∷ []) tt (
+example_is_legal = checked_list_is_a_set name _ _ [] (first ∷ second ∷ []) tt (
   ((refl, inl (refl, refl), refl, tt)),
   ((refl, inr (inl (refl, refl)), refl, (refl, inr (inr (refl, refl)), refl, tt)), tt),
 ) own

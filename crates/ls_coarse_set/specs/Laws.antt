@@ -32,8 +32,8 @@ AllSmallSetCalls [] = Unit {0}
 AllSmallSetCalls (t ∷ ts) = AreSmallSetCalls t.calls × AllSmallSetCalls ts
 
 -- with as many threads and calls as one likes, the history of each schedule has a legal order
-abbrev pub CoarseListIsASet : Type 0
-CoarseListIsASet =
+abbrev pub CheckedListIsASet : Type 0
+CheckedListIsASet =
     (name : SetupName) (text setup : List ℕ) (more : List ProgramCall) (threads : List ThreadProgram) →
     AreSmallSetCalls more → AllSmallSetCalls threads → HasOwnNames (of_list name text setup more threads) →
     (schedule : List ℕ) →
