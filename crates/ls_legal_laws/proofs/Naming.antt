@@ -107,6 +107,16 @@ module _ (p : Program) where
       slice_get events k ≡ Some x → (e : RunEvent) × (slice_get run k ≡ Some e) × (named p e ≡ Some x)
   named_run run events k x is there = named_map (named p) run events k x is there
 
+  -- the name of an event stands at its place
+  pub named_there : (run : List RunEvent) (events : List Event) (k : ℕ) (e : RunEvent) (x : Event) →
+      AreNamed p run events →
+      slice_get run k ≡ Some e →
+      named p e ≡ Some x →
+      slice_get events k ≡ Some x
+  named_there run events k e x is there name =
+      let y = run_named run events k e is there in
+      y.1 ∙ sym y.2 ∙ name
+
   pub record IsName (e : RunEvent) (x : Event) : Type 0 where
     pub thread : ThreadProgram
     pub at : slice_get p.threads e.thread ≡ Some thread

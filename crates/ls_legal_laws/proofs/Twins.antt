@@ -26,7 +26,8 @@ use Rattle.std.specs.Prelude.{if◌then◌else◌}
 use Rattle.ls_orders.specs.Legal.{IsLegal, IsRun, Set, after, empty}
 use Rattle.ls_legal_laws.specs.Laws.{AreNamed, HasOwnNames}
 use Rattle.ls_legal_laws.proofs.Calls.{Found, HasEnd, IsCallOf, IsOf, Open, at_set_call, has_end, set_call, set_call_at}
-use Rattle.ls_legal_laws.proofs.Naming.{IsBefore, asks_called, before, call_or_end, is_name, named_run, run_named}
+use Rattle.ls_legal_laws.proofs.Naming.{IsBefore, asks_called, before, call_or_end, is_name, named_run, named_there}
+use Rattle.ls_legal_laws.proofs.Naming.{run_named}
 use Rattle.ls_legal_laws.proofs.Naming.{same_called}
 use Rattle.ls_legal_laws.proofs.Naming.{same_of}
 use Rattle.ls_legal_laws.proofs.Only.{Begins, begins, named_only}
@@ -84,8 +85,7 @@ module _ (p : Program) (own : HasOwnNames p) (g h : List RunEvent) (G H : List E
     j = contains_get h o.0 (x.called o.0 (get_contains g c.called o.0 o.1) is_call)
 
     in_H : slice_get H j.0 ≡ Some r.event
-    in_H = let y = run_named p h H j.0 o.0 hn j.1 in
-        y.1 ∙ ap Some (some_is (sym y.2 ∙ o.2))
+    in_H = named_there p h H j.0 o.0 r.event hn j.1 o.2
 
     abbrev d : SetCall
     d = set_call H j.0 r.event (c.operation, c.item)
@@ -113,8 +113,7 @@ module _ (p : Program) (own : HasOwnNames p) (g h : List RunEvent) (G H : List E
             let b = contains_get g f.0 (x.ended f.0 (get_contains h (j.0 + 1 + k) f.0 f.1) end) in
             let place : b.0 ≡ c.called + 1 = right_behind o.0 f.0 c.called b.0 o.1 is_call b.1 end same.0 same.1 in
             let in_g : slice_get g (c.called + 1) ≡ Some f.0 = ap (slice_get g) (sym place) ∙ b.1 in
-            let z = run_named p g G (c.called + 1) f.0 gn in_g in
-            let in_G : slice_get G (c.called + 1) ≡ Some y = z.1 ∙ ap Some (some_is (sym z.2 ∙ f.2)) in
+            let in_G : slice_get G (c.called + 1) ≡ Some y = named_there p g G (c.called + 1) f.0 y gn in_g f.2 in
             let rest = drop_is G (c.called + 1) y in_G in
             record {
               end = f.0;
@@ -322,11 +321,8 @@ module _ (p : Program) (own : HasOwnNames p) (g h : List RunEvent) (G H : List E
           in_g : slice_get g q.place ≡ Some b.event
           in_g = q.there ∙ ap Some is_event
 
-          z : (y : Event) × (slice_get G q.place ≡ Some y) × (named p b.event ≡ Some y)
-          z = run_named p g G q.place b.event gn in_g
-
           in_G : slice_get G q.place ≡ Some r.event
-          in_G = z.1 ∙ ap Some (some_is (sym z.2 ∙ b.is))
+          in_G = named_there p g G q.place b.event r.event gn in_g b.is
 
           abbrev c : SetCall
           c = set_call G q.place r.event (d.operation, d.item)
@@ -337,8 +333,7 @@ module _ (p : Program) (own : HasOwnNames p) (g h : List RunEvent) (G H : List E
           in_G_end : slice_get G (q.place + 1) ≡ Some y
           in_G_end =
               let next : at.0 ≡ q.place + 1 = omega (arith, q.next) in
-              let u = run_named p g G (q.place + 1) f.0 gn (ap (slice_get g) (sym next) ∙ at.1) in
-              u.1 ∙ ap Some (some_is (sym u.2 ∙ f.2))
+              named_there p g G (q.place + 1) f.0 y gn (ap (slice_get g) (sym next) ∙ at.1) f.2
 
           rest : (rest : List Event) × (drop (q.place + 1) G ≡ y ∷ rest)
           rest = drop_is G (q.place + 1) y in_G_end
