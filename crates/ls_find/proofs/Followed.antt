@@ -14,7 +14,7 @@ use Rattle.ls_translation.specs.Texts.{file_of, program_of}
 use Rattle.ls_types_checked.specs.CheckedFile.{elaborated_file}
 use Rattle.ls_types_elaboration.specs.Elaborated.{Elaborated}
 use Rattle.ls_types_elaboration.specs.Elaboration.{ElaboratedFile, elaborated}
-use Rattle.ls_find.specs.Laws.{OneAnswer, SameAnswer}
+use Rattle.ls_types_places.specs.Laws.{OneAnswer, SameAnswer}
 use Rattle.ls_types_programs.specs.Laws.{OneProgram}
 use Rattle.ls_types_programs.specs.Programs.{IsTextOf}
 use Rattle.ls_find.specs.Doubles.{SoundFollows}

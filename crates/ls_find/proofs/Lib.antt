@@ -7,11 +7,5 @@ pub mod Goodness
 pub mod Legalities
 pub mod Simpler
 pub mod Followed
-pub mod Anywhere
-pub mod Steps
-pub mod Expressions
-pub mod Statements
-pub mod Files
-pub mod Texts
 pub mod ReadBack
 pub mod Turned

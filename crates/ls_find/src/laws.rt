@@ -3,12 +3,12 @@
 ghost use Rattle.ls_find.specs.Doubles.{SoundFollows};
 ghost use Rattle.ls_find.specs.Family.{EachIsSound, EachPassedIsSound};
 
-use crate::places::one_answer;
 use ls_exchanged::doubles::{doubles_are_exchanged, doubles_have_names};
 use ls_exchanged::laws::{
     exchanged_is_legal, exchanged_is_linearizable, exchanged_never_turns, exchanged_never_waits,
 };
 use ls_families::laws::each_belongs;
+use ls_types_places::laws::one_answer;
 use ls_types_programs::reads_what_is_spelled;
 
 /// If a program is another with two threads exchanged, it is sound if that one is.

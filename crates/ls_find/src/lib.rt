@@ -1,11 +1,10 @@
 //! What is found of the programs of a class: the first that isn't linearizable or has threads that wait for ever, and
-//! its schedule. Calls mean the same wherever they stand in a text.
+//! its schedule.
 #![tactic(auto)]
 
 mod explorer;
 pub mod laws;
 mod legal;
-pub mod places;
 mod reasons;
 mod simplifying;
 mod sought;

@@ -1,0 +1,4 @@
+pub mod ClassText
+pub mod Laws
+pub mod Images
+pub mod Example

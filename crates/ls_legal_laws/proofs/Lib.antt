@@ -1,0 +1,8 @@
+pub mod Lists
+pub mod Calls
+pub mod Ends
+pub mod Naming
+pub mod Only
+pub mod Twins
+pub mod Explained
+pub mod Ordered

@@ -1,0 +1,7 @@
+-- Why `explained_is_legal` in src/laws.rt keeps its contract.
+
+use Rattle.ls_legal_laws.proofs.Explained.{explained}
+use Rattle.ls_legal_laws.proofs.laws.explained_is_legal.Goals as goal
+
+pub returns : goal.returns
+returns c = explained
