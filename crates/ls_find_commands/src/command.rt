@@ -6,11 +6,12 @@ ghost use Rattle.ls_explore.specs.Watching.{GoesOn};
 ghost use Rattle.ls_explore.specs.Faults.{AreBadStates};
 ghost use Rattle.ls_faults.specs.Given.{GivesText};
 ghost use Rattle.ls_items.specs.Cutting.{plain_text};
-ghost use Rattle.ls_find_commands.specs.Found.{FindsIn, FindsTo, IsBadRange, PrintsTo};
+ghost use Rattle.ls_find_commands.specs.Found.{AreAllNumbers, FindsIn, FindsTo, IsBadRange, PrintsTo};
 ghost use Rattle.ls_find_commands.specs.Found.{halted_answer, why_answer};
 
 use crate::menus::{Texts, programs_for};
 use crate::noting::searched;
+use crate::whole::whole;
 use ls_class_programs::Choosing;
 use ls_explore::{ExploreFault, MOST_STATES, Watch};
 use ls_families::print_plan;
@@ -52,6 +53,13 @@ fn is_bad_range(range: Range, count: u64) -> bool
     ensures good { result ≡ false → (0 < range.from) × (range.from ≤ range.to) × (range.from ≤ count) }
 {
     range.from == 0 || range.to < range.from || range.from > count
+}
+
+/// Whether no range is asked for: it has the numbers of all programs that a family may have.
+fn are_all_numbers(range: Range) -> bool
+    ensures { IsTrue result ↔ AreAllNumbers range }
+{
+    range.from == 1 && range.to >= 1_000_000
 }
 
 /// The text of a program of a number with which the search ends.
@@ -136,6 +144,9 @@ fn found<W: Watch>(
 /// the reason, how the programs before it were passed, its text, and as another part the schedule. Or that there is
 /// none. A program that isn't explored whole is counted as cut.
 ///
+/// If no range is asked for, each call of the class runs alone, under one lock, and that decides what is looked for, this
+/// is said at once, whatever the bounds.
+///
 /// Refused with 61 as `explore` is; else as `programs_of` is; else as `check_entries` is, if a menu is given; else
 /// with 70 if no program has the first number, or the last number comes before it; else as `compile` is for a program.
 ///
@@ -154,6 +165,11 @@ pub fn find<W: Watch>(
 {
     if are_bad_states(range.states) {
         return Err(ToolFault::Explore(ExploreFault::BadStates));
+    }
+    if are_all_numbers(range) {
+        if let Some(text) = whole(alloc, choosing, range.sought, texts)? {
+            return Ok(text);
+        }
     }
     let made = programs_for(alloc, choosing, texts)?;
     let programs = made.programs();
