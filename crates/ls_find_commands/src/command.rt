@@ -6,12 +6,12 @@ ghost use Rattle.ls_explore.specs.Watching.{GoesOn};
 ghost use Rattle.ls_explore.specs.Faults.{AreBadStates};
 ghost use Rattle.ls_faults.specs.Given.{GivesText};
 ghost use Rattle.ls_items.specs.Cutting.{plain_text};
-ghost use Rattle.ls_find_commands.specs.Found.{AreAllNumbers, FindsIn, FindsTo, IsBadRange, PrintsTo};
+ghost use Rattle.ls_find_commands.specs.Found.{FindsIn, FindsTo, IsBadRange, PrintsTo};
 ghost use Rattle.ls_find_commands.specs.Found.{halted_answer, why_answer};
 
 use crate::menus::{Texts, programs_for};
 use crate::noting::searched;
-use crate::whole::whole;
+use crate::whole::at_once;
 use ls_class_programs::Choosing;
 use ls_explore::{ExploreFault, MOST_STATES, Watch};
 use ls_families::print_plan;
@@ -53,13 +53,6 @@ fn is_bad_range(range: Range, count: u64) -> bool
     ensures good { result ≡ false → (0 < range.from) × (range.from ≤ range.to) × (range.from ≤ count) }
 {
     range.from == 0 || range.to < range.from || range.from > count
-}
-
-/// Whether no range is asked for: it has the numbers of all programs that a family may have.
-fn are_all_numbers(range: Range) -> bool
-    ensures { IsTrue result ↔ AreAllNumbers range }
-{
-    range.from == 1 && range.to >= 1_000_000
 }
 
 /// The text of a program of a number with which the search ends.
@@ -166,10 +159,8 @@ pub fn find<W: Watch>(
     if are_bad_states(range.states) {
         return Err(ToolFault::Explore(ExploreFault::BadStates));
     }
-    if are_all_numbers(range) {
-        if let Some(text) = whole(alloc, choosing, range.sought, texts)? {
-            return Ok(text);
-        }
+    if let Some(text) = at_once(alloc, choosing, range, texts)? {
+        return Ok(text);
     }
     let made = programs_for(alloc, choosing, texts)?;
     let programs = made.programs();

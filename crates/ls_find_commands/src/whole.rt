@@ -1,9 +1,10 @@
 // What is said of a class at once, whatever the bounds.
 
-ghost use Rattle.std.specs.Prelude.{◌≡◌, IfOk, IfSome, option_map, string_bytes};
+ghost use Rattle.std.specs.Prelude.{◌≡◌, ◌↔◌, IfOk, IfSome, IsTrue, option_map, string_bytes};
 ghost use Rattle.ls_items.specs.Cutting.{plain_text};
-ghost use Rattle.ls_find_commands.specs.Found.{IsWhole, smallest};
+ghost use Rattle.ls_find_commands.specs.Found.{AreAllNumbers, IsWhole, smallest};
 
+use crate::command::Range;
 use crate::menus::Texts;
 use ls_any_size::{print_whole, whole_of};
 use ls_class_programs::{Choosing, ClassFault, programs_of};
@@ -27,7 +28,7 @@ fn smallest(choosing: Choosing) -> Choosing
 }
 
 /// What is printed where each call of the class runs alone, and nothing is left to explore. None where that isn't so.
-pub(crate) fn whole(
+fn whole(
     alloc: Global,
     choosing: Choosing,
     sought: Sought,
@@ -52,4 +53,28 @@ pub(crate) fn whole(
         Some(said) => Ok(Some(print_whole(alloc, said.as_str())?)),
         None => Ok(None),
     }
+}
+
+/// Whether no range is asked for: it has the numbers of all programs that a family may have.
+fn are_all_numbers(range: Range) -> bool
+    ensures { IsTrue result ↔ AreAllNumbers range }
+{
+    range.from == 1 && range.to >= 1_000_000
+}
+
+/// The same, if no range is asked for.
+pub(crate) fn at_once(
+    alloc: Global,
+    choosing: Choosing,
+    range: Range,
+    texts: Texts<'_>,
+) -> Result<Option<String>, AllocError>
+    ensures numbers { IfOk result (λ some. IfSome some (λ text. AreAllNumbers range)) }
+    ensures text { IfOk result (λ some. IfSome some (λ text. IsWhole choosing range.sought texts.entry.classes.now
+        (option_map plain_text texts.entry.menu) (string_bytes text))) }
+{
+    if !are_all_numbers(range) {
+        return Ok(None);
+    }
+    whole(alloc, choosing, range.sought, texts)
 }
