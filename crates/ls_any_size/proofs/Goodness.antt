@@ -1,5 +1,6 @@
 -- Calm programs are good for what is looked for; and what a checked file says, it says of each program of its text.
-use Rattle.std.proofs.Common.{◌≡◌, ◌∙◌, ℕ, Bool, true, false, List, [], ◌++◌, Option, None, Some, Result, Ok, Err, IfOk, IfSome}
+use Rattle.std.proofs.Common.{◌≡◌, ◌∙◌, ℕ, Bool, true, false, List, [], ◌++◌, Option, None, Some, Result, Ok, Err}
+use Rattle.std.proofs.Common.{IfOk, IfSome}
 use Rattle.std.proofs.Common.{Global, string_bytes, ap, append_assoc, subst, sym}
 use Rattle.std.specs.Prelude.{String}
 use Rattle.std.specs.declared.alloc.AllocError.{AllocError}
@@ -9,7 +10,7 @@ use Rattle.ls_explore_reports.specs.ImageNames.{names_in}
 use Rattle.ls_find.specs.Laws.{OneAnswer, SameAnswer}
 use Rattle.ls_find.specs.declared.sought.Sought.{Sought}
 use Rattle.ls_guarded.proofs.Calm.{calm}
-use Rattle.ls_guarded.specs.Guards.{Guards, IsKeptBy}
+use Rattle.ls_guarded.specs.Guards.{IsKeptBy}
 use Rattle.ls_image.specs.Images.{Compiles, checked_of}
 use Rattle.ls_image.specs.declared.image.Image.{Image}
 use Rattle.ls_loopless.specs.Loops.{HasNoLoops, LooplessTurnExcused}
@@ -58,7 +59,8 @@ runs_alone one good sought classes making calls first image class methods said c
   some = x.some;
   kept = keeps;
   calm = λ program i is on. calm x.guard (file_of i) (program_of i) x.some (keeps program i is on);
-  good = λ program i is on. good sought (file_of i) (program_of i) (λ e. subst HasNoLoops (same program i is) (x.loops e)) x.set
+  good = λ program i is on. good sought (file_of i) (program_of i)
+      (λ e. subst HasNoLoops (same program i is) (x.loops e)) x.set
       (calm x.guard (file_of i) (program_of i) x.some (keeps program i is on));
   first = first;
   image = image;

@@ -29,8 +29,8 @@ AreMadeOf classes making class methods [] = Unit {0}
 AreMadeOf classes making class methods (call ∷ calls) =
     IsMadeOf classes making class methods call × AreMadeOf classes making class methods calls
 
--- So it is of each thread program of the class text that makes one object of the class, and whose other calls are of the
--- methods on it, with arguments that name no object. There may be any number of threads and calls.
+-- So it is of each thread program of the class text that makes one object of the class, and whose other calls are of
+-- the methods on it, with arguments that name no object. There may be any number of threads and calls.
 abbrev pub OfAnySize : (File → Program → Type 0) → Text → ℕ → List ℕ → Type 0
 OfAnySize P classes class methods =
     (program : Text) (i : Image) → Compiles classes program i → IsOnOne class methods (program_of i) →

@@ -27,7 +27,8 @@ fn push_guard(
     class: usize,
     guard: Guard,
 ) -> Result<(), AllocError>
-    ensures { OnOk result (string_bytes out.new ≡ string_bytes out.old ++ guard_text (names_of names.entry) class guard) }
+    ensures { OnOk result (string_bytes out.new ≡
+        string_bytes out.old ++ guard_text (names_of names.entry) class guard) }
 {
     match guard {
         Guard::Monitor => out.push_str(", under its monitor"),
@@ -84,8 +85,8 @@ fn told(
     }
 }
 
-/// That each call of a menu runs alone, whatever the size of a program, and under which lock. None if that isn't told by
-/// the form of the class's methods, or doesn't decide what is looked for.
+/// That each call of a menu runs alone, whatever the size of a program, and under which lock. None if that isn't told
+/// by the form of the class's methods, or doesn't decide what is looked for.
 pub fn whole_of(
     alloc: Global,
     classes: &str,

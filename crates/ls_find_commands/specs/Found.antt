@@ -43,8 +43,8 @@ halted_answer before to count ps None = Ok (none_text (figures_of before to coun
 halted_answer before to count ps (Some h) =
     why_answer (figures_of before to count ps) (before + length ps + 1) (string_bytes h.program) h.halt
 
--- What is found among programs: what a search of the numbers of a range says. Each program that it has passed is good for
--- what is looked for, if none up to that one is cut.
+-- What is found among programs: what a search of the numbers of a range says. Each program that it has passed is good
+-- for what is looked for, if none up to that one is cut.
 pub data FindsIn (classes : Text) (p : Programs) (r : Range) : Result Text ToolFault → Type 0 where
   NoNumbers : IsBadRange r (length (plans p.family)) → FindsIn classes p r (Err faults.BadNumbers)
   Searched : (f : Finding Why) →
@@ -85,7 +85,8 @@ AreAllNumbers r = (r.from ≡ 1) × (1000000 ≤ r.to)
 abbrev pub smallest : Choosing → Choosing
 smallest o = record { class = o.class; values = 1; bounds = record { threads = 2; calls = 1; setup = 0 } }
 
--- Each call of the menu runs alone, whatever the size of a program and whatever the bounds. Nothing is left to explore.
+-- Each call of the menu runs alone, whatever the size of a program and whatever the bounds. Nothing is left to
+-- explore.
 pub record IsWhole (o : Choosing) (sought : Sought) (classes : Text) (menu : Option Text) (text : Text) : Type 0 where
   pub programs : Programs
   pub of_class : AreProgramsOf (smallest o) classes menu programs

@@ -137,8 +137,8 @@ fn found<W: Watch>(
 /// the reason, how the programs before it were passed, its text, and as another part the schedule. Or that there is
 /// none. A program that isn't explored whole is counted as cut.
 ///
-/// If no range is asked for, each call of the class runs alone, under one lock, and that decides what is looked for, this
-/// is said at once, whatever the bounds.
+/// If no range is asked for, each call of the class runs alone, under one lock, and that decides what is looked for,
+/// this is said at once, whatever the bounds.
 ///
 /// Refused with 61 as `explore` is; else as `programs_of` is; else as `check_entries` is, if a menu is given; else
 /// with 70 if no program has the first number, or the last number comes before it; else as `compile` is for a program.

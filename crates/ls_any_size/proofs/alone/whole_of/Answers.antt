@@ -1,6 +1,6 @@
 -- Why `whole_of` in src/alone.rt keeps its contract.
 
-use Rattle.std.proofs.Common.{◌≡◌, List, ℕ, map, subst}
+use Rattle.std.proofs.Common.{map, subst}
 use Rattle.std.specs.Prelude.{IfSome, string_bytes}
 use Rattle.ls_families.specs.Texts.{alone_text}
 use Rattle.ls_image.specs.Images.{Compiles}

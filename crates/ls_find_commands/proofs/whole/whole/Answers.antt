@@ -1,6 +1,6 @@
 -- Why `whole` in src/whole.rt keeps its contract.
 
-use Rattle.std.proofs.Common.{List, map, subst}
+use Rattle.std.proofs.Common.{map, subst}
 use Rattle.std.specs.Prelude.{IfSome, option_map, string_bytes}
 use Rattle.ls_any_size.specs.Alone.{RunsAlone}
 use Rattle.ls_items.specs.Cutting.{plain_text}
