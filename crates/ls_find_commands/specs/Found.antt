@@ -1,7 +1,8 @@
 -- What the command `find` says.
-use Rattle.std.specs.Prelude.{◌≡◌, ◌+◌, ◌-◌, ◌<◌, ◌⊎◌, ℕ, List, Option, None, Some, Result, Ok, Err, length, min}
+use Rattle.std.specs.Prelude.{◌≡◌, ◌+◌, ◌-◌, ◌<◌, ◌≤◌, ◌⊎◌, ℕ, List, Option, None, Some, Result, Ok, Err, length, min}
 use Rattle.std.specs.Prelude.{slice_get}
 use Rattle.std.specs.Prelude.{string_bytes}
+use Rattle.ls_any_size.specs.Alone.{RunsAlone, whole_text}
 use Rattle.ls_class_programs.specs.ClassPrograms.{AreProgramsOf, IsClassFault}
 use Rattle.ls_class_programs.specs.declared.choosing.Choosing.{Choosing}
 use Rattle.ls_class_programs.specs.declared.fault.ClassFault.{ClassFault}
@@ -18,6 +19,7 @@ use Rattle.ls_faults.specs.Faults.{lifted_class, lifted_compile, lifted_entry}
 use Rattle.ls_faults.specs.declared.fault.ToolFault.{ToolFault}
 use Rattle.ls_faults.specs.declared.fault.ToolFault.TheVariants as faults
 use Rattle.ls_find.specs.Family.{IsFound, PassedAreSound}
+use Rattle.ls_find.specs.declared.sought.Sought.{Sought}
 use Rattle.ls_find.specs.declared.explorer.Why.{Why}
 use Rattle.ls_find.specs.declared.explorer.Why.TheVariants as whys
 use Rattle.ls_find_reports.specs.Printing.{figures_of, found_text, none_text}
@@ -41,8 +43,8 @@ halted_answer before to count ps None = Ok (none_text (figures_of before to coun
 halted_answer before to count ps (Some h) =
     why_answer (figures_of before to count ps) (before + length ps + 1) (string_bytes h.program) h.halt
 
--- What is found among programs: what a search of the numbers of a range says. Each program that it has passed is good for
--- what is looked for, if none up to that one is cut.
+-- What is found among programs: what a search of the numbers of a range says. Each program that it has passed is good
+-- for what is looked for, if none up to that one is cut.
 pub data FindsIn (classes : Text) (p : Programs) (r : Range) : Result Text ToolFault → Type 0 where
   NoNumbers : IsBadRange r (length (plans p.family)) → FindsIn classes p r (Err faults.BadNumbers)
   Searched : (f : Finding Why) →
@@ -75,6 +77,23 @@ pub data HasNoPrograms (o : Choosing) (classes : Text) (menu : Option Text) : To
       IsUnfit classes p.making o.bounds.threads menu f →
       HasNoPrograms o classes menu (lifted_entry f)
 
+-- no range is asked for: it has the numbers of all programs that a family may have
+abbrev pub AreAllNumbers : Range → Type 0
+AreAllNumbers r = (r.from ≡ 1) × (1000000 ≤ r.to)
+
+-- the programs of the class in which each int is 1: their menu has each method
+abbrev pub smallest : Choosing → Choosing
+smallest o = record { class = o.class; values = 1; bounds = record { threads = 2; calls = 1; setup = 0 } }
+
+-- Each call of the menu runs alone, whatever the size of a program and whatever the bounds. Nothing is left to
+-- explore.
+pub record IsWhole (o : Choosing) (sought : Sought) (classes : Text) (menu : Option Text) (text : Text) : Type 0 where
+  pub programs : Programs
+  pub of_class : AreProgramsOf (smallest o) classes menu programs
+  pub said : Text
+  pub alone : RunsAlone sought classes programs.making programs.calls said
+  pub is : text ≡ whole_text said
+
 -- What is found among those of a class text, or why there are none.
 pub data FindsTo (o : Choosing) (r : Range) (classes : Text) (menu : Option Text) : Result Text ToolFault → Type 0 where
   NoStates : AreBadStates r.states → FindsTo o r classes menu (Err (faults.Explore explore.BadStates))
@@ -87,6 +106,11 @@ pub data FindsTo (o : Choosing) (r : Range) (classes : Text) (menu : Option Text
       AreProgramsFor o classes menu p →
       FindsIn classes p r answer →
       FindsTo o r classes menu answer
+  AtOnce : (text : Text) →
+      ¬ AreBadStates r.states →
+      AreAllNumbers r →
+      IsWhole o r.sought classes menu text →
+      FindsTo o r classes menu (Ok text)
 
 -- The program of a number, from 1, or why there is none.
 pub data PrintsTo (o : Choosing) (n : ℕ) (classes : Text) (menu : Option Text) : Result Text ToolFault → Type 0 where

@@ -11,6 +11,7 @@ ghost use Rattle.ls_find_commands.specs.Found.{halted_answer, why_answer};
 
 use crate::menus::{Texts, programs_for};
 use crate::noting::searched;
+use crate::whole::at_once;
 use ls_class_programs::Choosing;
 use ls_explore::{ExploreFault, MOST_STATES, Watch};
 use ls_families::print_plan;
@@ -136,6 +137,9 @@ fn found<W: Watch>(
 /// the reason, how the programs before it were passed, its text, and as another part the schedule. Or that there is
 /// none. A program that isn't explored whole is counted as cut.
 ///
+/// If no range is asked for, each call of the class runs alone, under one lock, and that decides what is looked for,
+/// this is said at once, whatever the bounds.
+///
 /// Refused with 61 as `explore` is; else as `programs_of` is; else as `check_entries` is, if a menu is given; else
 /// with 70 if no program has the first number, or the last number comes before it; else as `compile` is for a program.
 ///
@@ -154,6 +158,9 @@ pub fn find<W: Watch>(
 {
     if are_bad_states(range.states) {
         return Err(ToolFault::Explore(ExploreFault::BadStates));
+    }
+    if let Some(text) = at_once(alloc, choosing, range, texts)? {
+        return Ok(text);
     }
     let made = programs_for(alloc, choosing, texts)?;
     let programs = made.programs();

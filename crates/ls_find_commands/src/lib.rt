@@ -5,6 +5,7 @@ mod command;
 pub mod laws;
 mod menus;
 mod noting;
+mod whole;
 
 pub use command::{Range, find, print_program};
 pub use ls_class_programs::Choosing;

@@ -1,0 +1,6 @@
+pub mod Marks
+pub mod Rounds
+pub mod Methods
+pub mod Guards
+pub mod Shapes
+pub mod Reasons
