@@ -81,9 +81,9 @@ pub data HasNoPrograms (o : Choosing) (classes : Text) (menu : Option Text) : To
 abbrev pub AreAllNumbers : Range → Type 0
 AreAllNumbers r = (r.from ≡ 1) × (1000000 ≤ r.to)
 
--- the programs of the class in which each int is 1: their menu has each method
+-- the programs of the class in which each int that a call passes is 1: their menu has each method
 abbrev pub smallest : Choosing → Choosing
-smallest o = record { class = o.class; values = 1; bounds = record { threads = 2; calls = 1; setup = 0 } }
+smallest o = record { class = o.class; values = 1; given = o.given; bounds = record { threads = 2; calls = 1; setup = 0 } }
 
 -- Each call of the menu runs alone, whatever the size of a program and whatever the bounds. Nothing is left to
 -- explore.

@@ -12,13 +12,14 @@ use ls_families::Bounds;
 use ls_find::Sought;
 use std::alloc::{AllocError, Global};
 
-/// The same class, with 1 for each int, and the smallest bounds.
+/// The same class, with 1 for each int that a call passes, and the smallest bounds.
 fn smallest(choosing: Choosing) -> Choosing
     ensures { result ≡ smallest choosing }
 {
     Choosing {
         class: choosing.class,
         values: 1,
+        given: choosing.given,
         bounds: Bounds {
             threads: 2,
             calls: 1,
