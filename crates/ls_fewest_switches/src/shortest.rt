@@ -75,7 +75,7 @@ fn shortest_bad<O: Observer>(
 }
 
 /// A schedule whose history is one of these, if this one's is, and no longer one; if possible a shortest of all such
-/// schedules. At most so many states are kept. If more would be needed, it is this one. A refusal is that memory ran out, or that a store or a work has no number left.
+/// schedules. At most so many states are kept. If more would be needed, it is this one. It is refused as `simplest` is.
 pub fn shortest_among(
     alloc: Global,
     file: &File,
