@@ -31,7 +31,7 @@ pub struct Sought<'a, O> {
     pub observer: &'a O,
     /// How many threads there are, the setup with them.
     pub threads: u8,
-    /// The most states.
+    /// The most states. They have 16,777,216 objects together at most, but for the last of them.
     pub limit: usize,
     pub counted: Counted,
     /// Whether no thread may act at the end, and one must wait.
@@ -53,7 +53,7 @@ pub enum Level {
 const MOST_AT_ONCE: usize = 4096;
 
 /// The most objects that the states that are kept have together, but for the last of them.
-const MOST_OBJECTS: usize = 0x400_0000;
+const MOST_OBJECTS: usize = 0x100_0000;
 
 /// The steps along edges, with those at once after each, as far as a schedule may have so many.
 fn steps_along(alloc: Global, path: &[Edge]) -> Result<Vec<u8>, AllocError> {

@@ -266,7 +266,9 @@ fn close_all<P: Space>(
         if let Some(halt) = look_at(space, plan, tables, closing, pair.at as usize)? {
             return Ok(halt);
         }
-        closing.front.follow(plan.counted, &closing.graph.edges, pair)?;
+        closing
+            .front
+            .follow(plan.counted, &closing.graph.edges, pair)?;
     }
     Ok(Halt::Far)
 }

@@ -16,13 +16,7 @@ fn cost_at(counted: Counted, costs: &[Vec<u32>], last: u8, at: u32) -> usize
 }
 
 /// Whether an edge makes no node cheaper after a step of this actor, or costs so much at least.
-fn is_no_cheaper(
-    counted: Counted,
-    costs: &[Vec<u32>],
-    before: u8,
-    edge: Edge,
-    least: usize,
-) -> bool
+fn is_no_cheaper(counted: Counted, costs: &[Vec<u32>], before: u8, edge: Edge, least: usize) -> bool
     ensures { IsTrue result →
         (cost_at counted (map (λ v. v.items) costs.now) edge.actor edge.to ≤
         cost_along counted (map (λ v. v.items) costs.now) before edge) ⊎
@@ -46,13 +40,7 @@ fn is_cost(counted: Counted, costs: &[Vec<u32>], actors: u8, edge: Edge, least: 
 }
 
 /// Whether so it is of all edges.
-fn are_costs(
-    counted: Counted,
-    costs: &[Vec<u32>],
-    actors: u8,
-    edges: &[Edge],
-    least: usize,
-) -> bool
+fn are_costs(counted: Counted, costs: &[Vec<u32>], actors: u8, edges: &[Edge], least: usize) -> bool
     ensures { IsTrue result → AreCosts counted (map (λ v. v.items) costs.now) actors least edges.now }
 {
     for edge in edges {
@@ -64,13 +52,7 @@ fn are_costs(
 }
 
 /// Whether it is told to cost at least so much to reach a node.
-fn costs_so_much(
-    counted: Counted,
-    costs: &[Vec<u32>],
-    actors: u8,
-    at: u32,
-    least: usize,
-) -> bool
+fn costs_so_much(counted: Counted, costs: &[Vec<u32>], actors: u8, at: u32, least: usize) -> bool
     ensures { IsTrue result → (last : ℕ) → last < actors →
         least ≤ cost_at counted (map (λ v. v.items) costs.now) last at }
 {

@@ -46,11 +46,7 @@ fn edge_from(edges: &[Edge], place: usize, at: u32) -> Option<Edge>
 }
 
 /// The walk along the edges at these places, if they lead from the first node on, one after another.
-fn walk_along(
-    alloc: Global,
-    edges: &[Edge],
-    places: &[usize],
-) -> Result<Option<Walk>, AllocError>
+fn walk_along(alloc: Global, edges: &[Edge], places: &[usize]) -> Result<Option<Walk>, AllocError>
     ensures { IfOk result (λ o. IfSome o (λ w. Walks edges.now 0 w.path.items w.end)) }
 {
     let mut walk = Walk {

@@ -401,8 +401,11 @@ pub fn begin<'a, O: Observer>(
         (map (O.stands ground.now.observer.now) b.tables.pool.values.items) b.root) }
     ensures stands { IfOk result (λ b. noticed_at (O.first ground.now.observer.now) (table_of b.tables.transitions)
         (map (O.stands ground.now.observer.now) b.tables.pool.values.items) b.root.place ≡
-        record { configuration = configuration_at (table_of numbered.entry.transitions) numbered.entry.store
-        numbered.entry.works.items; noted = O.first ground.now.observer.now }) }
+        record {
+          configuration = configuration_at (table_of numbered.entry.transitions) numbered.entry.store
+              numbered.entry.works.items;
+          noted = O.first ground.now.observer.now;
+        }) }
 {
     if !file_has_constants(ground.file) {
         return Err(AllocError);
