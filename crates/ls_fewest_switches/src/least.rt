@@ -16,7 +16,7 @@ use ls_graph::closing::{Closing, Edge, Halt, Plan, close};
 use ls_graph::costs::{Counted, costs};
 use ls_graph::least::is_least;
 use ls_graph::nodes::Bounds;
-use ls_graph::walks::walk_to_last;
+use ls_graph::walks::edges_to_last;
 use ls_observers::observer::Observer;
 use ls_search::nameless::Nameless;
 use ls_search::searching::Ground;
@@ -69,14 +69,6 @@ fn steps_along(alloc: Global, path: &[Edge]) -> Result<Vec<u8>, AllocError> {
     Ok(steps)
 }
 
-/// The steps of the cheapest walk to the end at which a search stopped.
-fn steps_to_end<N>(alloc: Global, closing: &Closing<N>) -> Result<Vec<u8>, AllocError> {
-    match walk_to_last(alloc, closing)? {
-        None => Ok(Vec::new(alloc)),
-        Some(walk) => steps_along(alloc, &walk.path),
-    }
-}
-
 /// What a search tells of the end at which it stopped.
 fn level_at_end<O: Observer>(
     sought: &Sought<'_, O>,
@@ -90,7 +82,8 @@ fn level_at_end<O: Observer>(
         sought.now.counted (IsLeast sought.now.counted closing.now.graph.edges.items
         (length closing.now.graph.found.nodes.items) closing.now.looked.items) count) }
 {
-    let steps = steps_to_end(sought.alloc, closing)?;
+    let edges = edges_to_last(sought.alloc, closing)?;
+    let steps = steps_along(sought.alloc, &edges)?;
     let spent = costs(sought.counted, &steps);
     if steps.len() > MOST_STEPS || spent >= count {
         return Ok(Level::Cut);

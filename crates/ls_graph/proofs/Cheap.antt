@@ -7,13 +7,6 @@ use Rattle.ls_graph.specs.declared.costs.Counted.{Counted}
 use Rattle.ls_graph.specs.Costs.{cost, costs}
 use Rattle.ls_graph.specs.Walks.{AreCosts, CostAtLeast, IsLeast, Walks, actors_of, cost_along, cost_at}
 
-pub walks_more : (edges : List Edge) (at : ℕ) (path : List Edge) (to : ℕ) (e : Edge) (i : ℕ) → Walks edges at path to →
-    slice_get edges i ≡ Some e →
-    e.from ≡ to →
-    Walks edges at (path ++ e ∷ []) e.to
-walks_more edges at [] to e i h here from = ((i, here), from ∙ sym h, refl)
-walks_more edges at (x ∷ path) to e i h here from = (h.0, h.1, walks_more edges x.to path to e i h.2 here from)
-
 module _ (counted : Counted) (known : List (List ℕ)) (actors least : ℕ) (edges : List Edge)
     (are : AreCosts counted known actors least edges) where
   -- a node is told to be no dearer than so much, or so much is no less than the least
