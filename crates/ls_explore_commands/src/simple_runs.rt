@@ -17,7 +17,7 @@ use ls_source_judge::simplest_unexplained;
 use ls_translation::fault::TranslationFault;
 use std::alloc::{AllocError, Global};
 
-/// The most states of a search for a run with the fewest context switches, for each number of changes of thread.
+/// The most states of a search for a run with the fewest context switches.
 const MOST_OF_CHANGES: usize = 1_000_000;
 
 /// The schedule of these steps, if they aren't too many.

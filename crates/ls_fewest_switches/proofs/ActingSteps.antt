@@ -16,12 +16,13 @@ use Rattle.ls_search_laws.specs.Stepping.{ActAll, IsOneMore, events_of}
 use Rattle.ls_search_laws.proofs.Acting.{acting_more, acting_still, acts_more}
 use Rattle.ls_search_laws.proofs.Stepping.{acts_within, one_more, still_stays}
 use Rattle.ls_fewest_switches.specs.Acting.{acting}
-use Rattle.ls_fewest_switches.specs.Switches.{changes, switches}
-use Rattle.ls_fewest_switches.specs.declared.changing.Counted.TheVariants.{Switches}
-use Rattle.ls_fewest_switches.proofs.Changes.{one_more as next_number, take_next}
-use Rattle.ls_fewest_switches.proofs.Costs.{costs_changes, no_less}
+use Rattle.ls_fewest_switches.specs.Switches.{switches}
+use Rattle.ls_graph.specs.Costs.{changes}
+use Rattle.ls_graph.specs.declared.costs.Counted.TheVariants.{Changes}
+use Rattle.ls_fewest_switches.proofs.Items.{one_more as next_number, take_next}
+use Rattle.ls_graph.proofs.Changes.{costs_changes, sooner}
 use Rattle.ls_fewest_switches.proofs.Ending.{still_or_acts}
-use Rattle.ls_fewest_switches.proofs.Paths.{no_events}
+use Rattle.ls_fewest_switches.proofs.Ending.{no_events}
 
 take_more : (steps : List ℕ) (i t : ℕ) → i < length steps →
     take (i + 1) steps ≡ take i steps ++ get_or steps i t ∷ []
@@ -31,7 +32,7 @@ take_more steps i t within =
 -- a step left out doesn't make the changes more
 less : (b t : ℕ) (ts : List ℕ) → changes b ts ≤ changes b (t ∷ ts)
 less b t ts =
-    let h = no_less Switches b t ts in
+    let h = sooner Changes b t ts in
     let few = costs_changes b ts in
     let many = costs_changes b (t ∷ ts) in
     omega (arith, h, few, many)

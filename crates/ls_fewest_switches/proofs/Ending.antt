@@ -1,6 +1,6 @@
 -- Where no thread acts and one waits.
 use Rattle.std.proofs.Common.{◌≡◌, ◌⊎◌, inl, inr, ℕ, ◌+◌, ◌++◌, ◌<◌, ◌≤◌, Bool, true, List, [], length}
-use Rattle.std.proofs.Common.{sym, ap, ◌∙◌, subst, arith}
+use Rattle.std.proofs.Common.{refl, sym, ap, ◌∙◌, subst, arith}
 use Rattle.std.proofs.lemmas.Bool.{cases_lt}
 use Rattle.std.proofs.lemmas.List.{append-nil}
 use Rattle.ls_checked.specs.CheckedTree.{File}
@@ -15,12 +15,16 @@ use Rattle.ls_search_laws.proofs.Stepping.{acts_within, still_stays, traced_even
 use Rattle.ls_source.specs.Progress.{Progress, gone_on}
 use Rattle.ls_search.specs.Runs.{progress_at}
 use Rattle.ls_search.specs.Verdicts.{LeavesStuck}
-use Rattle.ls_fewest_switches.proofs.Paths.{no_events}
 use Rattle.ls_fewest_switches.specs.Levels.{IsWaiting}
 
 -- what the step of a thread does
 abbrev pub did_at : Progress → ℕ → Did
 did_at r u = (step r.file r.program r.state u).did
+
+pub no_events : (t : ℕ) (d : Did) → IsStill d → events_of t d ≡ []
+no_events t (did.Acted action answer) still = absurd still
+no_events t did.Waits still = refl
+no_events t did.Idle still = refl
 
 pub still_or_acts : (d : Did) → IsStill d ⊎ IsActing d
 still_or_acts (did.Acted action answer) = inr tt

@@ -9,7 +9,7 @@ use Rattle.std.proofs.lemmas.List.Folds.{Any-from_list_any, list_any-from_Any, l
 use Rattle.ls_events.specs.declared.event.Event.{Event}
 use Rattle.ls_fewest_switches.specs.Along.{is_whole, left_after, left_of}
 use Rattle.ls_fewest_switches.specs.Among.{history_at, is_one_whole, lefts_after, lefts_at}
-use Rattle.ls_fewest_switches.proofs.Changes.{one_more, take_next}
+use Rattle.ls_fewest_switches.proofs.Items.{one_more, take_next}
 use Rattle.ls_fewest_switches.proofs.Left.{never_whole, whole_at, whole_is}
 
 -- ---- which histories are bad

@@ -1,13 +1,7 @@
-pub mod Changes
-pub mod Costs
-pub mod Paths
-pub mod Forward
-pub mod Growing
-pub mod Passing
+pub mod Items
 pub mod Ending
 pub mod ActingSteps
-pub mod Roots
-pub mod Reaching
+pub mod Told
 pub mod Running
 pub mod Left
 pub mod Lefts

@@ -6,7 +6,7 @@ use Rattle.ls_checked.specs.CheckedProgram.{Program}
 use Rattle.ls_source.specs.Progress.{Progress, gone_on}
 use Rattle.ls_search.specs.Runs.{progress_at}
 use Rattle.ls_search.proofs.Progressing.{gone}
-use Rattle.ls_fewest_switches.proofs.Changes.{one_more, take_next}
+use Rattle.ls_fewest_switches.proofs.Items.{one_more, take_next}
 
 -- after one step more
 pub stepped : (file : File) (program : Program) (steps : List ℕ) (i d : ℕ) (before after : Progress) →

@@ -1,8 +1,5 @@
 pub mod Switches
-pub mod Costs
 pub mod Shortest
-pub mod Reached
-pub mod Spots
 pub mod Acting
 pub mod Levels
 pub mod Wording

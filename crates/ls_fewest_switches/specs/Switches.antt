@@ -1,20 +1,12 @@
 -- Context switches of schedules.
-use Rattle.std.specs.Prelude.{◌≡◌, ◌≤◌, ◌+◌, ◌-◌, ℕ, Bool, true, false, List, [], ◌∷◌, nat_eq, if◌then◌else◌}
+use Rattle.std.specs.Prelude.{◌≡◌, ◌≤◌, ◌-◌, ℕ, Bool, true, false, List}
 use Rattle.std.specs.List.{fold}
 use Rattle.ls_events.specs.declared.event.Event.{Event}
 use Rattle.ls_checked.specs.CheckedTree.{File}
 use Rattle.ls_checked.specs.CheckedProgram.{Program}
 use Rattle.ls_meaning.specs.Runs.{source_history}
+use Rattle.ls_graph.specs.Costs.{changes}
 use Rattle.ls_search.specs.Verdicts.{LeavesStuck}
-
--- whether a step is of another thread than the step before
-abbrev pub change : ℕ → ℕ → ℕ
-change before thread = if nat_eq thread before then 0 else 1
-
--- how many steps are of another thread than the step before, where one of this thread comes before the first
-abbrev pub changes : ℕ → List ℕ → ℕ
-changes before [] = 0
-changes before (t ∷ ts) = change before t + changes t ts
 
 -- A context switch is a step of another thread than the step before. The first such step, with which the setup is left,
 -- isn't counted.

@@ -1,27 +1,19 @@
 // A schedule with the fewest context switches.
 
-ghost use Rattle.std.specs.Prelude.{◌≡◌, ◌<◌, ◌≤◌, IfOk, IfSome, IsTrue, length};
+ghost use Rattle.std.specs.Prelude.{◌≡◌, ◌≤◌, IfOk, IsTrue};
 ghost use Rattle.ls_checked.specs.Plain.{plain_file};
 ghost use Rattle.ls_checked.specs.PlainProgram.{plain_program};
-ghost use Rattle.ls_meaning.specs.Runs.{source_history, start};
-ghost use Rattle.ls_search_laws.specs.Configuration.{configuration_of};
+ghost use Rattle.ls_meaning.specs.Runs.{source_history};
 ghost use Rattle.ls_search_laws.specs.Stepping.{ActAll};
-ghost use Rattle.ls_search.specs.Places.{AreThere, configuration_at};
-ghost use Rattle.ls_transitions.specs.Seen.{table_of};
-ghost use Rattle.ls_fewest_switches.specs.Levels.{IsBelow};
-ghost use Rattle.ls_fewest_switches.specs.Reached.{NeverBad};
 ghost use Rattle.ls_fewest_switches.specs.Switches.{EndsSo, HasFewest, HasFewestOf, IsSought, switches};
 
 use crate::along::Along;
-use crate::changing::{Counted, changes};
-use crate::following::Ground;
-use crate::levels::{Level, within};
-use crate::starting::numbered_start;
+use crate::least::{Level, Sought, least_below};
 use ls_checked::program::Program;
 use ls_checked::tree::File;
 use ls_events::schedule::Schedule;
+use ls_graph::costs::{Counted, changes};
 use ls_observers::observer::Observer;
-use ls_search::numbering::Numbered;
 use ls_source::run::play;
 use std::alloc::{AllocError, Global};
 
@@ -37,7 +29,7 @@ pub struct SimpleRun {
 pub struct Target {
     /// Whether no thread may act after it, and one must wait.
     pub stuck: bool,
-    /// How many states are kept at the most, for each number of changes of thread.
+    /// How many states are kept at the most. They have 16,777,216 objects together at most, but for the last one.
     pub limit: usize,
 }
 
@@ -54,58 +46,6 @@ pub fn switches(schedule: &Schedule) -> usize
     changes(schedule.steps()).saturating_sub(1)
 }
 
-/// The schedule that costs least of those that are looked for, if it costs less than so much and not too many states
-/// are needed. The numbers are those of the start.
-fn first_below<'a, O: Observer>(
-    ground: &mut Ground<'_, O, O::Noted>,
-    file: &File,
-    program: &Program,
-    numbered: &mut Numbered<'a>,
-    count: usize,
-) -> Result<Level, AllocError>
-    requires there { AreThere (table_of numbered.old.transitions) numbered.old.store numbered.old.works.items }
-    requires width { length numbered.old.works.items ≡ ground.old.threads }
-    requires file { (table_of numbered.old.transitions).file ≡ plain_file file.now }
-    requires start { configuration_at (table_of numbered.old.transitions) numbered.old.store
-        numbered.old.works.items ≡
-        configuration_of (plain_file file.now) (plain_program program.now) (start (plain_program program.now)) }
-    requires lost { IfSome ground.old.lost (λ n. NeverBad (O.next ground.old.observer.now)
-        (O.bad ground.old.observer.now) (O.stands ground.old.observer.now n)) }
-    ensures { IfOk result (IsBelow (O.first ground.old.observer.now) (O.next ground.old.observer.now)
-        (O.bad ground.old.observer.now) ground.old.stuck (plain_file file.now) (plain_program program.now)
-        ground.old.counted count) }
-{
-    for level in 0..count {
-        ground.most = level;
-        match within(ground, file, program, numbered)? {
-            Level::Nothing => {}
-            Level::Cut => return Ok(Level::Cut),
-            Level::Steps(steps) => return Ok(Level::Steps(steps)),
-        }
-    }
-    Ok(Level::Nothing)
-}
-
-/// The schedule that costs least of those that are looked for, if it costs less than so much and not too many states
-/// are needed.
-fn least_below<O: Observer>(
-    ground: Ground<'_, O, O::Noted>,
-    file: &File,
-    program: &Program,
-    count: usize,
-) -> Result<Level, AllocError>
-    requires threads { ground.threads ≡ length program.now.threads.items }
-    requires lost { IfSome ground.lost (λ n. NeverBad (O.next ground.observer.now) (O.bad ground.observer.now)
-        (O.stands ground.observer.now n)) }
-    ensures { IfOk result (IsBelow (O.first ground.entry.observer.now) (O.next ground.entry.observer.now)
-        (O.bad ground.entry.observer.now) ground.entry.stuck (plain_file file.now) (plain_program program.now)
-        ground.entry.counted count) }
-{
-    let mut ground = ground;
-    let mut numbered = numbered_start(ground.alloc, file, program)?;
-    first_below(&mut ground, file, program, &mut numbered, count)
-}
-
 /// The schedule itself.
 fn unchanged(alloc: Global, found: &Schedule, fewest: bool) -> Result<SimpleRun, AllocError>
     ensures schedule { IfOk result (λ r. r.schedule ≡ found.now) }
@@ -115,10 +55,10 @@ fn unchanged(alloc: Global, found: &Schedule, fewest: bool) -> Result<SimpleRun,
     Ok(SimpleRun { schedule, fewest })
 }
 
-/// A schedule with the history of this one and the fewest context switches; of these the shortest, and of these the
-/// least by its threads' numbers. If the target is stuck, no thread acts after it and one waits, where that is so after
-/// this one. For each number of changes at most so many states are kept as the target says. If more would be needed, it is
-/// this schedule. A refusal is that memory ran out, or that a store or a work has no number left.
+/// A schedule with the history of this one and the fewest context switches. If the target is stuck, no thread acts after
+/// it and one waits, where that is so after this one. At most so many states are kept as the target says. If more would
+/// be needed, it is this schedule. A refusal is that memory ran out, or that a store, a work or a state has no number
+/// left. A call that answers an object is refused too: the calls of a program that was read answer none.
 pub fn simplest(
     alloc: Global,
     file: &File,
@@ -144,17 +84,15 @@ pub fn simplest(
         history: history.as_slice(),
     };
     let most = changes(steps);
-    let ground = Ground {
+    let sought = Sought {
         alloc,
         observer: &along,
-        lost: Some(None),
         threads: program.threads.len() as u8,
         limit: target.limit,
-        counted: Counted::Switches,
-        most,
+        counted: Counted::Changes,
         stuck: target.stuck,
     };
-    match least_below(ground, file, program, most + 1)? {
+    match least_below(sought, Some(None), file, program, most + 1)? {
         Level::Steps(least) => Ok(SimpleRun {
             schedule: Schedule::of(least),
             fewest: true,
@@ -165,9 +103,8 @@ pub fn simplest(
 
 /// A schedule whose history an observer calls bad, if it does so of this one's, with no more context switches; if
 /// possible with the fewest of all such schedules, whatever their histories. If the target is stuck, schedules are meant
-/// after which no thread acts and one waits. For each number of changes below that of this schedule at most so many states
-/// are kept as the target says. If more would be needed, or none has fewer changes, it is this schedule. A refusal is that
-/// memory ran out, or that a store or a work has no number left.
+/// after which no thread acts and one waits. At most so many states are kept as the target says. If more would be needed,
+/// or none has fewer changes, it is this schedule. It is refused as `simplest` is.
 pub fn simplest_bad<O: Observer>(
     alloc: Global,
     observer: &O,
@@ -192,17 +129,15 @@ pub fn simplest_bad<O: Observer>(
 {
     found.fits();
     let most = changes(found.steps());
-    let ground = Ground {
+    let sought = Sought {
         alloc,
         observer,
-        lost: None,
         threads: program.threads.len() as u8,
         limit: target.limit,
-        counted: Counted::Switches,
-        most,
+        counted: Counted::Changes,
         stuck: target.stuck,
     };
-    match least_below(ground, file, program, most)? {
+    match least_below(sought, None, file, program, most)? {
         Level::Steps(least) => Ok(SimpleRun {
             schedule: Schedule::of(least),
             fewest: true,

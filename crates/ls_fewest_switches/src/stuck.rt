@@ -15,9 +15,8 @@ use ls_events::schedule::Schedule;
 use std::alloc::{AllocError, Global};
 
 /// A schedule after which no thread acts and one waits, if that is so after this one, with no more context switches; if
-/// possible with the fewest of all such schedules. For each number of changes of thread at most so many states are kept.
-/// If more would be needed, it has the fewest of those with the history of this one, or it is this one. A refusal is that
-/// memory ran out, or that a store or a work has no number left.
+/// possible with the fewest of all such schedules. At most so many states are kept. If more would be needed, it has the
+/// fewest of those with the history of this one, or it is this one. It is refused as `simplest` is.
 pub fn simplest_stuck(
     alloc: Global,
     file: &File,

@@ -17,7 +17,7 @@ use ls_image::image::Image;
 use ls_source_judge::simplest_unexplained;
 use std::alloc::{AllocError, Global};
 
-/// The most states of a search for a run with the fewest context switches, for each number of changes of thread.
+/// The most states of a search for a run with the fewest context switches.
 const MOST_OF_CHANGES: usize = 1_000_000;
 
 /// A run of the program of an image with the history of a schedule, and the fewest context switches. With `stuck` no

@@ -22,3 +22,6 @@ pub mod Trying
 pub mod Judging
 pub mod Progressing
 pub mod Numbers
+pub mod FollowingOn
+pub mod Nearness
+pub mod Covering

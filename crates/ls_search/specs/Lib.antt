@@ -12,3 +12,5 @@ pub mod Closed
 pub mod Verdicts
 pub mod Nameless
 pub mod Runs
+pub mod Space
+pub mod Near

@@ -50,7 +50,11 @@ pub struct Found {
 }
 
 /// Whether what is noted at a state is bad.
-fn is_bad_at<O: Observer>(observer: &O, pool: &Pool<O::Noted>, place: &NumberedState) -> bool
+pub(crate) fn is_bad_at<O: Observer>(
+    observer: &O,
+    pool: &Pool<O::Noted>,
+    place: &NumberedState,
+) -> bool
     requires { place.now.noted < length pool.now.values.items }
     ensures { result ≡ O.bad observer.now
         (slice_index_or (map (O.stands observer.now) pool.now.values.items) place.now.noted (O.first observer.now)) }

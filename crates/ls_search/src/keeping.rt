@@ -18,7 +18,7 @@ pub struct Nodes {
 const START: u64 = 0xcbf2_9ce4_8422_2325;
 
 /// A number made of a state, by which it is found. Nothing depends on it.
-fn hash_of(place: &NumberedState) -> u64 {
+pub(crate) fn hash_of(place: &NumberedState) -> u64 {
     let mut hash = hashed(hashed(START, place.store as u64), place.noted as u64);
     for work in &place.works {
         hash = hashed(hash, *work as u64);
@@ -34,7 +34,7 @@ fn are_same_works(works: &[usize], others: &[usize]) -> bool
 }
 
 /// Whether a state is the other.
-fn is_same_place(place: &NumberedState, other: &NumberedState) -> bool
+pub(crate) fn is_same_place(place: &NumberedState, other: &NumberedState) -> bool
     ensures store { IsTrue result → place.now.store ≡ other.now.store }
     ensures works { IsTrue result → place.now.works.items ≡ other.now.works.items }
     ensures noted { IsTrue result → place.now.noted ≡ other.now.noted }

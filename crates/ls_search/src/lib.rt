@@ -18,6 +18,7 @@ pub mod run_listing;
 pub mod running;
 pub mod searching;
 mod setting_up;
+pub mod space;
 pub mod steps;
 pub mod verdict;
 pub mod watching;

@@ -62,9 +62,9 @@ pub struct Search<'a, N> {
 
 /// A state after an action, and how many steps were taken at once after that.
 #[derive(Drop)]
-struct After {
-    place: NumberedState,
-    steps: usize,
+pub(crate) struct After {
+    pub(crate) place: NumberedState,
+    pub(crate) steps: usize,
 }
 
 /// The state at a place.
@@ -159,7 +159,7 @@ pub fn renumber<'a>(
 }
 
 /// The state after a thread's action, and after its steps at once after that.
-fn go_on<'a, O: Observer>(
+pub(crate) fn go_on<'a, O: Observer>(
     ground: &Ground<'_, O>,
     transitions: &mut Transitions<'a>,
     renumbering: &mut Renumbering,

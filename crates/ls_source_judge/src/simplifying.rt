@@ -46,9 +46,10 @@ fn simplest_by(
 }
 
 /// A schedule whose history isn't linearizable, if that of this one isn't, with no more context switches; if possible with
-/// the fewest of all such schedules. For each number of changes of thread at most so many states are kept. If more would
-/// be needed, or not all serial histories are known, it has the fewest of those with the history of this one, or it is this
-/// one. A refusal is that memory ran out, or that a store or a work has no number left.
+/// the fewest of all such schedules. At most so many states are kept. If more would be needed, or not all serial histories
+/// are known, it has the fewest of those with the history of this one, or it is this one. A refusal is that memory ran
+/// out, or that a store, a work or a state has no number left. A call that answers an object is refused too: the calls of
+/// a program that was read answer none.
 pub fn simplest_unexplained(
     alloc: Global,
     file: &File,

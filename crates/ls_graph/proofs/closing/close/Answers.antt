@@ -1,0 +1,14 @@
+-- Why `close` in src/closing.rt keeps its contract.
+use Rattle.ls_graph.proofs.Growing.{first_stands}
+use Rattle.ls_graph.proofs.closing.close.Goals as goal
+
+pub returns-clause-graph : goal.returns-clause-graph
+returns-clause-graph g c =
+    let stands = g.P.Space.stands c.args.space.now in
+    let goes = c.in_ok-halt.ensures.goes in
+    record {
+      begins = goes.states 0 (stands c.args.tables.now c.args.root)
+          (first_stands stands c.args.tables.now c.in_ok-found.found.nodes.items c.args.root c.in_ok-found.ensures.alone);
+      led = goes.led;
+      told = c.in_ok-halt.ensures.looked;
+    }
