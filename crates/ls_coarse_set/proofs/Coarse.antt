@@ -26,7 +26,7 @@ use Rattle.ls_serial.specs.Serial.{IsSerial}
 use Rattle.ls_serial.proofs.Lists.{contains_get}
 use Rattle.ls_linearizable.specs.Resting.{AreOnce}
 use Rattle.ls_linearizable.proofs.There.{there_first, there_later}
-use Rattle.ls_source_judge.proofs.Once.{once}
+use Rattle.ls_automaton.proofs.Once.{once}
 use Rattle.ls_report.specs.Events.{Event, Made, Returned, Text}
 use Rattle.ls_report.specs.Printing.{named, occurrence_of}
 use Rattle.ls_orders.specs.SetCalls.{first_foreign, set_calls}

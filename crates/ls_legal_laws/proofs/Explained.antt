@@ -1,6 +1,6 @@
 -- What legal serial histories explain is legal.
 use Rattle.ls_meaning.specs.Runs.{source_history}
-use Rattle.ls_source_judge.proofs.Once.{once}
+use Rattle.ls_automaton.proofs.Once.{once}
 use Rattle.ls_legal_laws.specs.Laws.{ExplainedIsLegal, LinearizableIsLegal}
 use Rattle.ls_legal_laws.proofs.Twins.{legal}
 

@@ -1,9 +1,10 @@
 // Two threads that each add one to a counter, and are answered what it held before.
 
+use ls_automaton::outcome::Outcome;
 use ls_events::event::{Event, Happening};
 use ls_events::value::Value;
 use ls_observers::observer::Observer;
-use ls_source_judge::RestsObserver;
+use ls_source_judge::PairsObserver;
 use std::alloc::{AllocError, Global};
 use std::test::Fail;
 
@@ -23,20 +24,23 @@ fn answered(thread: usize, answer: i32) -> Event {
     }
 }
 
-// A run in which one thread's call comes before the other's.
-fn run_of(alloc: Global, first: usize, second: usize) -> Result<Vec<Event>, AllocError> {
-    let run = vec![in alloc;
-        called(first),
-        answered(first, 0),
-        called(second),
-        answered(second, 1),
-    ]?;
-    Ok(run)
+// The call of a thread is answered so, and then the state has this number.
+fn outcome(thread: usize, answer: i32, after: usize) -> Outcome {
+    Outcome {
+        end: answered(thread, answer),
+        after,
+    }
 }
 
-fn observer_of_both(alloc: Global) -> Result<RestsObserver, AllocError> {
-    let runs = vec![in alloc; run_of(alloc, 1, 2)?, run_of(alloc, 2, 1)?]?;
-    RestsObserver::new(alloc, runs.as_slice())
+// The counter as an automaton: in state 0 no call has run, in states 1 and 2 that of one thread, in state 3 both.
+fn observer_of_both(alloc: Global) -> Result<PairsObserver, AllocError> {
+    let rows = vec![in alloc;
+        vec![in alloc; outcome(1, 0, 1), outcome(2, 0, 2)]?,
+        vec![in alloc; outcome(2, 1, 3)]?,
+        vec![in alloc; outcome(1, 1, 3)]?,
+        Vec::new(alloc),
+    ]?;
+    PairsObserver::new(alloc, rows)
 }
 
 // After how many of the events the observer first calls the history bad, and the number of all where it never does.

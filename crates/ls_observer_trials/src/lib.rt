@@ -1,4 +1,4 @@
-//! Trials of the observer of serial runs.
+//! Trials of the observer of a specification as an automaton.
 #![tactic(auto)]
 
 #[cfg(test)]

@@ -33,7 +33,7 @@ use Rattle.ls_search_laws.proofs.Covering.{IsKept, holds_of_all}
 use Rattle.ls_serial.specs.Serial.{Explains, IsSerial}
 use Rattle.ls_linearizable.specs.Linearizable.{IsLinearizable}
 use Rattle.ls_linearizable.specs.Resting.{AreOnce}
-use Rattle.ls_source_judge.proofs.Once.{once}
+use Rattle.ls_automaton.proofs.Once.{once}
 use Rattle.ls_one_at_a_time.specs.Inner.{IsInner}
 use Rattle.ls_one_at_a_time.proofs.Onward.{GoesOn, LeavesNone, Spent}
 use Rattle.ls_one_at_a_time.proofs.Keeps.{inner_acts, inner_silent}

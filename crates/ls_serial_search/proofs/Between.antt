@@ -14,7 +14,8 @@ use Rattle.ls_meaning.specs.Still.{IsActing}
 use Rattle.ls_meaning.specs.Course.{Answers, Evaluated, Asks, Results, Throws}
 use Rattle.ls_meaning.specs.Effect.{Effect, Waits, Does, effect}
 use Rattle.ls_meaning.specs.Threads.{Next, Goes, Ended, Trapped, after_call, all_calls, calls_in, next, one_call}
-use Rattle.ls_meaning.specs.Runs.{State, answers_of, event_of, has_started, idle, performed, source_history, source_run}
+use Rattle.ls_meaning.specs.Runs.{State, answers_of, event_of, has_started, idle, performed, source_history}
+use Rattle.ls_meaning.specs.Runs.{source_run}
 use Rattle.ls_meaning.specs.Runs.{start, step, step_of}
 use Rattle.ls_serial.specs.Serial.{IsCall, IsEnd, IsSerial}
 use Rattle.ls_serial_search.specs.Following.{CallsNext, IsBetween, called, events_in, events_of}
@@ -146,9 +147,9 @@ module _ (file : File) (program : Program) (s : State) (t : ℕ) where
 -- ---- along a schedule
 
 module _ (file : File) (program : Program) where
-  record IsOrderly (s : State) (h : List Event) : Type 0 where
-    closed : IsSerial h → (u : ℕ) → IsBetween file program s u
-    pending : (g : List Event) (c : Event) → IsSerial g → IsCall c → g ++ c ∷ [] ≡ h → (u : ℕ) → u ≢ c.thread →
+  pub record IsOrderly (s : State) (h : List Event) : Type 0 where
+    pub closed : IsSerial h → (u : ℕ) → IsBetween file program s u
+    pub pending : (g : List Event) (c : Event) → IsSerial g → IsCall c → g ++ c ∷ [] ≡ h → (u : ℕ) → u ≢ c.thread →
         IsBetween file program s u
 
   -- a step of another thread
@@ -254,7 +255,7 @@ module _ (file : File) (program : Program) where
       pending = λ g c serial call at u other. pending_one a e g c is one serial at u other;
     }
 
-    orderly_kept : IsOrderly s' (h ++ es)
+    pub orderly_kept : IsOrderly s' (h ++ es)
     orderly_kept = let a = has_acted file program s t acts in by_event a (event_of t a.action) refl
 
   abbrev none_of : ThreadProgram → Answers
@@ -265,7 +266,7 @@ module _ (file : File) (program : Program) where
   none_at_start (x ∷ xs) zero = refl
   none_at_start (x ∷ xs) (suc u) = none_at_start xs u
 
-  start_between : (u : ℕ) → IsBetween file program (start program) u
+  pub start_between : (u : ℕ) → IsBetween file program (start program) u
   start_between u = none_between file program (start program) u (none_at_start program.threads u)
 
   orderly : (schedule : List ℕ) →

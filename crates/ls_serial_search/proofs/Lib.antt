@@ -1,10 +1,10 @@
-mod SoFar
+pub mod SoFar
 pub mod Stepping
 pub mod Answering
 pub mod Further
 mod Splits
 pub mod Inside
-mod Between
+pub mod Between
 pub mod Within
 pub mod Covering
 pub mod Doubts

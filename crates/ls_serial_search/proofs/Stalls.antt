@@ -42,7 +42,7 @@ module _ (file : File) (program : Program) (schedule : List ℕ) (t : ℕ) where
   StillAt j = IsStill (step file program (source_run file program (after j)) t).did
 
   -- after so many steps more the state is the same
-  state_kept : (j k : ℕ) → StillAt j → source_run file program (after (k + j)) ≡ source_run file program (after j)
+  pub state_kept : (j k : ℕ) → StillAt j → source_run file program (after (k + j)) ≡ source_run file program (after j)
   state_kept j zero still = let e : 0 + j ≡ j = omega arith in ap (λ n. source_run file program (after n)) e
   state_kept j (suc k) still =
       let e : suc k + j ≡ suc (k + j) = omega arith in
@@ -52,7 +52,7 @@ module _ (file : File) (program : Program) (schedule : List ℕ) (t : ℕ) where
       ∙ still_stays file program (source_run file program (after j)) t still
 
   -- and the history
-  history_kept : (j k : ℕ) → StillAt j →
+  pub history_kept : (j k : ℕ) → StillAt j →
       source_history file program (after (k + j)) ≡ source_history file program (after j)
   history_kept j zero still = let e : 0 + j ≡ j = omega arith in ap (λ n. source_history file program (after n)) e
   history_kept j (suc k) still =
@@ -63,7 +63,7 @@ module _ (file : File) (program : Program) (schedule : List ℕ) (t : ℕ) where
       ∙ append-nil (source_history file program (after (k + j))) ∙ history_kept j k still
 
   -- no history gets shorter
-  no_shorter : (j k : ℕ) →
+  pub no_shorter : (j k : ℕ) →
       length (source_history file program (after j)) ≤ length (source_history file program (after (k + j)))
   no_shorter j zero = let e : 0 + j ≡ j = omega arith in omega (arith, ap (λ n. length (source_history file program (after n))) e)
   no_shorter j (suc k) =
@@ -78,10 +78,10 @@ module _ (file : File) (program : Program) (schedule : List ℕ) (t : ℕ) where
             (events_of t (step file program (source_run file program (after (k + j))) t).did),
       )
 
-  one_longer : (h : List Event) (c : Event) → length (h ++ c ∷ []) ≡ length h + 1
+  pub one_longer : (h : List Event) (c : Event) → length (h ++ c ∷ []) ≡ length h + 1
   one_longer h c = length-append h (c ∷ [])
 
-  at_first : source_history file program (after 0) ≡ source_history file program schedule
+  pub at_first : source_history file program (after 0) ≡ source_history file program schedule
   at_first = ap (source_history file program) (append-nil schedule)
 
   -- the history within a call

@@ -11,7 +11,7 @@ ghost use Rattle.ls_serial_search.specs.Marks.{IsMarkOf};
 ghost use Rattle.ls_serial_search.specs.Orders.{progress_at};
 
 use crate::marks::Mark;
-use crate::playing::played;
+use crate::playing::played_along;
 use ls_checked::program::Program;
 use ls_checked::tree::File;
 use ls_events::action::Action;
@@ -34,7 +34,7 @@ pub(crate) enum Happened {
 
 /// What comes of a call.
 #[derive(Drop)]
-pub(crate) enum Followed {
+pub enum Followed {
     /// There is none.
     Stays,
     /// This one never ends: its thread waits, or it comes back to where it was.
@@ -47,17 +47,17 @@ pub(crate) enum Followed {
 
 /// A program of a file, and the most steps in which a call is followed.
 #[derive(Drop)]
-pub(crate) struct Task<'a> {
-    pub(crate) file: &'a File,
-    pub(crate) program: &'a Program,
-    pub(crate) most_steps: usize,
+pub struct Task<'a> {
+    pub file: &'a File,
+    pub program: &'a Program,
+    pub most_steps: usize,
 }
 
 /// A thread's next call after a schedule of a task, and the most steps in which it is followed.
 #[derive(Drop)]
 struct NextCall<'a> {
     task: &'a Task<'a>,
-    schedule: &'a Schedule,
+    schedule: &'a [u8],
     thread: u8,
     most: usize,
 }
@@ -155,14 +155,14 @@ fn follow_run(alloc: Global, next: &NextCall, run: &mut Playing<'_>) -> Result<F
     }
 }
 
-/// Follows a thread's next call after a schedule, for at most so many steps. The only refusal is that memory ran out.
+/// Follows a thread's next call after these steps, for at most so many steps. The only refusal is that memory ran out.
 ///
 /// It is marked where the run stands after the first step, and after each power of two from 64 on. If the run comes
 /// back there, the call never ends, since no other thread goes on.
-pub(crate) fn follow(
+pub fn follow_after(
     alloc: Global,
     task: &Task,
-    schedule: &Schedule,
+    schedule: &[u8],
     thread: u8,
     most: usize,
 ) -> Result<Followed, AllocError>
@@ -175,6 +175,20 @@ pub(crate) fn follow(
         thread,
         most,
     };
-    let mut run = played(alloc, next.task.file, next.task.program, next.schedule)?;
+    let mut run = played_along(alloc, next.task.file, next.task.program, next.schedule)?;
     follow_run(alloc, &next, &mut run)
+}
+
+/// Follows a thread's next call after a schedule, for at most so many steps. The only refusal is that memory ran out.
+pub(crate) fn follow(
+    alloc: Global,
+    task: &Task,
+    schedule: &Schedule,
+    thread: u8,
+    most: usize,
+) -> Result<Followed, AllocError>
+    ensures { IfOk result (λ f. HasFollowed (plain_file task.now.file.now) (plain_program task.now.program.now)
+        schedule.now thread most f) }
+{
+    follow_after(alloc, task, schedule.steps(), thread, most)
 }

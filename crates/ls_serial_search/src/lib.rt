@@ -2,11 +2,11 @@
 #![tactic(auto)]
 
 pub mod endless;
-mod following;
+pub mod following;
 pub mod histories;
 pub mod judging;
 pub mod laws;
-mod marks;
-mod playing;
+pub mod marks;
+pub mod playing;
 mod searching;
 pub mod telling;

@@ -12,9 +12,9 @@ use std::alloc::{AllocError, Global};
 
 /// Where a run stands: its store, and what each thread still has to do.
 #[derive(Drop)]
-pub(crate) struct Mark<'a> {
-    pub(crate) store: Store,
-    pub(crate) threads: Vec<Thread<'a>>,
+pub struct Mark<'a> {
+    pub store: Store,
+    pub threads: Vec<Thread<'a>>,
 }
 
 /// Fills the copies, of which there are none yet, with threads that still have to do the same. The only refusal is that
@@ -62,7 +62,7 @@ impl<'a> Mark<'a> {
     ghost use Rattle.ls_serial_search.specs.Marks.{IsMarkOf};
 
     /// Where a run stands. The only refusal is that memory ran out.
-    pub(crate) fn of(alloc: Global, run: &Playing<'a>) -> Result<Mark<'a>, AllocError>
+    pub fn of(alloc: Global, run: &Playing<'a>) -> Result<Mark<'a>, AllocError>
         ensures { IfOk result (λ m. IsMarkOf m run.now) }
     {
         let store = copy_store(alloc, &run.store_and_events.store)?;
@@ -71,7 +71,7 @@ impl<'a> Mark<'a> {
     }
 
     /// Whether a run stands there. True only where it does.
-    pub(crate) fn is_at(&self, run: &Playing<'a>) -> bool
+    pub fn is_at(&self, run: &Playing<'a>) -> bool
         ensures { IsTrue result → IsMarkOf self.now run.now }
     {
         are_same_threads(&self.threads, &run.threads)

@@ -13,6 +13,23 @@ use ls_events::schedule::Schedule;
 use ls_source::playing::Playing;
 use std::alloc::{AllocError, Global};
 
+/// The run of a program of a file after these threads' steps. The only refusal is that memory ran out.
+pub fn played_along<'a>(
+    alloc: Global,
+    file: &'a File,
+    program: &'a Program,
+    steps: &[u8],
+) -> Result<Playing<'a>, AllocError>
+    ensures { IfOk result
+        (λ r. StandsFor r (progress_at (plain_file file.now) (plain_program program.now) steps.now)) }
+{
+    let mut run = Playing::new(alloc, file, program)?;
+    for thread in steps {
+        let _did = run.step(alloc, *thread as usize)?;
+    }
+    Ok(run)
+}
+
 /// The run of a program of a file after a schedule. The only refusal is that memory ran out.
 pub(crate) fn played<'a>(
     alloc: Global,
@@ -23,12 +40,7 @@ pub(crate) fn played<'a>(
     ensures { IfOk result
         (λ r. StandsFor r (progress_at (plain_file file.now) (plain_program program.now) schedule.now)) }
 {
-    let mut run = Playing::new(alloc, file, program)?;
-    let steps = schedule.steps();
-    for thread in steps {
-        let _did = run.step(alloc, *thread as usize)?;
-    }
-    Ok(run)
+    played_along(alloc, file, program, schedule.steps())
 }
 
 /// The schedule with so many steps more of a thread. The only refusal is that memory ran out.

@@ -1,41 +1,57 @@
 -- What is bad isn't linearizable, and what isn't bad is.
-use Rattle.std.proofs.Common.{◌≡◌, true, false, sym, ◌∙◌}
-use Rattle.ls_meaning.specs.Runs.{source_history}
-use Rattle.ls_linearizable.specs.Same.{same_event}
-use Rattle.ls_linearizable.proofs.Judging.{good_is, noted_refutes, refuted_is, refuted_is_not}
-use Rattle.ls_linearizable.proofs.Same.{event_test}
-use Rattle.ls_source_judge.proofs.Once.{once}
-use Rattle.ls_source_judge.specs.Laws.{BadAreNotJudged, BadIsNotLinearizable, GoodIsLinearizable}
-use Rattle.ls_source_judge.specs.Watched.{runs_of}
-use Rattle.ls_source_judge.specs.declared.watched.RestsObserver.{RestsObserver}
+use Rattle.std.proofs.Common.{◌≡◌, Bool, false, List, [], ◌∷◌, ap, subst, sym, ◌∙◌}
+use Rattle.std.proofs.Common.{ℕ}
+use Rattle.std.specs.List.{fold}
+use Rattle.std.specs.declared.vec.Vec.{Vec}
+use Rattle.std.specs.declared.alloc.Global.{Global}
 use Rattle.ls_checked.specs.CheckedTree.{File}
 use Rattle.ls_checked.specs.CheckedProgram.{Program}
-use Rattle.ls_linearizable.specs.Resting.{AreSerial}
-use Rattle.ls_serial_search.specs.Found.{AreFound}
+use Rattle.ls_meaning.specs.Runs.{source_history}
+use Rattle.ls_linearizable.specs.Judging.{later, now}
+use Rattle.ls_serial_search.specs.Open.{HasLongCall}
+use Rattle.ls_serial_search.specs.Told.{IsDoubt}
 use Rattle.ls_serial_search.specs.declared.telling.Bounds.{Bounds}
 use Rattle.ls_serial_search.specs.declared.telling.Doubt.{Doubt}
-use Rattle.ls_serial_search.proofs.Collected.{not_judged}
+use Rattle.ls_serial_search.specs.declared.telling.Doubt.TheVariants as doubts
+use Rattle.ls_automaton.specs.declared.outcome.Outcome.{Outcome}
+use Rattle.ls_automaton.specs.Held.{first_held, leaves_none}
+use Rattle.ls_automaton.specs.Merged.{AreMerged}
+use Rattle.ls_automaton.specs.Tables.{AreOutcomes}
+use Rattle.ls_automaton.proofs.Deciding.{bad_is_not, bad_not_within, good_is}
+use Rattle.ls_source_judge.specs.Judged.{IsUnexplained}
+use Rattle.ls_source_judge.specs.Laws.{BadAreNotJudged, BadAreNotLinearizable, GoodAreLinearizable, is_bad}
+use Rattle.ls_source_judge.specs.Watched.{first_pairs}
+use Rattle.ls_source_judge.specs.declared.watched.PairsObserver.{PairsObserver}
 
-apart : true ≡ false → ⊥
-apart h = cc
+module _ (o : PairsObserver) (file : File) (program : Program) (bound : ℕ) (goes_on : Bool)
+    (rows merged : List (Vec Outcome Global)) (own : o.rows.items ≡ merged) (first : first_pairs o ≡ first_held ∷ [])
+    (are : AreOutcomes file program bound goes_on rows)
+    (joined : AreMerged rows merged) where
+  bad_as : (schedule : List ℕ) → is_bad o (source_history file program schedule) ≡
+      now (fold later (leaves_none merged (first_held ∷ [])) (source_history file program schedule))
+  bad_as schedule =
+      ap (λ r. now (fold later (leaves_none r (first_pairs o)) (source_history file program schedule))) own
+      ∙ ap (λ p. now (fold later (leaves_none merged p) (source_history file program schedule))) first
 
-pub good_are : GoodIsLinearizable
-good_are o file program serial told schedule good =
-    good_is same_event file program (runs_of o) (source_history file program schedule) event_test serial told
-    (once file program schedule) (λ bad. apart (sym bad ∙ good))
+  pub good_are : GoodAreLinearizable o file program
+  good_are schedule good =
+      good_is file program bound goes_on rows are merged joined schedule (sym (bad_as schedule) ∙ good)
 
--- what is bad isn't judged, where the runs are those that were found where a bound was met
-pub bad_not_judged : (o : RestsObserver) (file : File) (program : Program) (bounds : Bounds) (doubt : Doubt) →
-    AreSerial (runs_of o) →
-    AreFound file program bounds doubt (runs_of o) →
-    BadAreNotJudged o file program bounds doubt
-bad_not_judged o file program bounds doubt serial found schedule bad =
-    let h = source_history file program schedule in
-    not_judged file program bounds doubt (runs_of o) h found
-    (λ e. (refuted_is same_event (runs_of o) h event_test serial (once file program schedule)).0
-    (sym (noted_refutes same_event (runs_of o) h) ∙ bad) e)
+  pub bad_are_not : goes_on ≡ false → BadAreNotLinearizable o file program
+  bad_are_not known schedule bad =
+      bad_is_not file program bound goes_on rows are merged joined schedule known (sym (bad_as schedule) ∙ bad)
 
-pub bad_are_not : BadIsNotLinearizable
-bad_are_not o file program serial told tell schedule bad is =
-    (refuted_is_not same_event file program (runs_of o) (source_history file program schedule) event_test serial told
-    tell (once file program schedule)).0 bad is
+  pub bad_not_judged : HasLongCall file program bound → (d : Doubt) → d ≡ doubts.LongCall →
+      BadAreNotJudged o file program bound d
+  bad_not_judged long d is schedule bad =
+      subst (λ x. IsUnexplained file program bound x (source_history file program schedule)) (sym is)
+      (record {
+        long = long;
+        unexplained =
+            bad_not_within file program bound goes_on rows are merged joined schedule (sym (bad_as schedule) ∙ bad);
+      })
+
+-- a call that goes on is the doubt
+pub is_long : (file : File) (program : Program) (bounds : Bounds) (d : Doubt) → d ≡ doubts.LongCall →
+    HasLongCall file program bounds.steps → IsDoubt file program bounds d
+is_long file program bounds d is long = subst (IsDoubt file program bounds) (sym is) long

@@ -1,18 +1,18 @@
 -- What holds of a path after the setup holds of the schedule from the start.
-use Rattle.std.proofs.Common.{◌≡◌, ◌++◌, ◌∙◌, ℕ, true, List, Option, None, Some, IfNone, IfSome, Vec, replicate, sym, ap, subst}
+use Rattle.std.proofs.Common.{◌≡◌, ◌++◌, ◌∙◌, ℕ, true, List, Option, None, Some, IfNone, IfSome, Vec, replicate, sym}
+use Rattle.std.proofs.Common.{ap, subst}
 use Rattle.std.specs.Global.{Global}
 use Rattle.ls_checked.specs.CheckedTree.{File}
 use Rattle.ls_checked.specs.CheckedProgram.{Program}
 use Rattle.ls_meaning.specs.Runs.{State, source_history, step}
 use Rattle.ls_meaning.specs.Still.{IsOver}
-use Rattle.ls_meaning.specs.declared.step.Did.TheVariants as did
 use Rattle.ls_search.specs.Verdicts.{LeavesStuck}
 use Rattle.ls_serial_search.specs.Told.{usual}
 use Rattle.ls_serial_search.specs.declared.telling.Doubt.{Doubt}
 use Rattle.ls_source_judge.specs.Judged.{IsBadRun, IsStuckRun, IsUnjudged}
 use Rattle.ls_source_judge.specs.Laws.{BadAreNotJudged, BadAreNotLinearizable, is_bad}
 use Rattle.ls_source_judge.specs.Wholes.{IsActingOf, IsWholeOf}
-use Rattle.ls_source_judge.specs.declared.watched.RestsObserver.{RestsObserver}
+use Rattle.ls_source_judge.specs.declared.watched.PairsObserver.{PairsObserver}
 
 pub if_none : {X P Q : Type 0} (o : Option X) → (P → Q) → IfNone o P → IfNone o Q
 if_none None f p = f p
@@ -52,7 +52,7 @@ module _ (file : File) (program : Program) (setup : ℕ) where
       })
 
   -- a history that an observer of all serial histories calls bad
-  whole_bad : (o : RestsObserver) → BadAreNotLinearizable o file program → (path steps : Option (Vec ℕ Global)) →
+  whole_bad : (o : PairsObserver) → BadAreNotLinearizable o file program → (path steps : Option (Vec ℕ Global)) →
       IsWholeOf file program setup path steps →
       IfSome path (λ v. is_bad o (source_history file program (replicate setup 0 ++ v.items)) ≡ true) →
       IfSome steps (λ v. IsBadRun file program v.items)
@@ -60,7 +60,7 @@ module _ (file : File) (program : Program) (setup : ℕ) where
       some_whole (λ s. is_bad o (source_history file program s) ≡ true) (IsBadRun file program)
       (λ s t is bad. record { acts = is.acts; bad = are t (ap (is_bad o) is.history ∙ bad) })
 
-  pub bad_if_none : (o : RestsObserver) (doubt : Option Doubt) → IfNone doubt (BadAreNotLinearizable o file program) →
+  pub bad_if_none : (o : PairsObserver) (doubt : Option Doubt) → IfNone doubt (BadAreNotLinearizable o file program) →
       (path steps : Option (Vec ℕ Global)) →
       IsWholeOf file program setup path steps →
       IfSome path (λ v. is_bad o (source_history file program (replicate setup 0 ++ v.items)) ≡ true) →
@@ -68,7 +68,7 @@ module _ (file : File) (program : Program) (setup : ℕ) where
   bad_if_none o doubt are path steps is bad = if_none doubt (λ all. whole_bad o all path steps is bad) are
 
   -- one that no history explains that was found
-  whole_unjudged : (o : RestsObserver) (d : Doubt) → BadAreNotJudged o file program usual d →
+  whole_unjudged : (o : PairsObserver) (d : Doubt) → BadAreNotJudged o file program usual.steps d →
       (path steps : Option (Vec ℕ Global)) →
       IsWholeOf file program setup path steps →
       IfSome path (λ v. is_bad o (source_history file program (replicate setup 0 ++ v.items)) ≡ true) →
@@ -77,8 +77,8 @@ module _ (file : File) (program : Program) (setup : ℕ) where
       some_whole (λ s. is_bad o (source_history file program s) ≡ true) (IsUnjudged file program d)
       (λ s t is bad. record { acts = is.acts; unexplained = are t (ap (is_bad o) is.history ∙ bad) })
 
-  pub unjudged_if_some : (o : RestsObserver) (doubt : Option Doubt) →
-      IfSome doubt (BadAreNotJudged o file program usual) →
+  pub unjudged_if_some : (o : PairsObserver) (doubt : Option Doubt) →
+      IfSome doubt (BadAreNotJudged o file program usual.steps) →
       (path steps : Option (Vec ℕ Global)) →
       IsWholeOf file program setup path steps →
       IfSome path (λ v. is_bad o (source_history file program (replicate setup 0 ++ v.items)) ≡ true) →

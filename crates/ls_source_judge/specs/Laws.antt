@@ -5,49 +5,34 @@ use Rattle.ls_events.specs.declared.event.Event.{Event}
 use Rattle.ls_checked.specs.CheckedTree.{File}
 use Rattle.ls_checked.specs.CheckedProgram.{Program}
 use Rattle.ls_meaning.specs.Runs.{source_history}
-use Rattle.ls_linearizable.specs.Linearizable.{AreTrue, IsLinearizable, TellSerial}
+use Rattle.ls_linearizable.specs.Linearizable.{IsLinearizable}
 use Rattle.ls_linearizable.specs.Judging.{Verdict, later, now}
-use Rattle.ls_linearizable.specs.Resting.{AreSerial, refutes}
-use Rattle.ls_linearizable.specs.Same.{same_event}
-use Rattle.ls_serial_search.specs.Found.{IsNotJudged}
-use Rattle.ls_serial_search.specs.declared.telling.Bounds.{Bounds}
 use Rattle.ls_serial_search.specs.declared.telling.Doubt.{Doubt}
-use Rattle.ls_source_judge.specs.Watched.{runs_of}
-use Rattle.ls_source_judge.specs.declared.watched.RestsObserver.{RestsObserver}
+use Rattle.ls_source_judge.specs.Judged.{IsUnexplained}
+use Rattle.ls_source_judge.specs.Watched.{first_verdict}
+use Rattle.ls_source_judge.specs.declared.watched.PairsObserver.{PairsObserver}
 
 abbrev pub BadStaysBad : Type 0
 BadStaysBad = (v : Verdict) (e : Event) → now v ≡ true → now (later v e) ≡ true
 
 -- whether a history is bad, event by event
-abbrev pub is_bad : RestsObserver → List Event → Bool
-is_bad o h = now (fold later (refutes same_event (runs_of o)) h)
+abbrev pub is_bad : PairsObserver → List Event → Bool
+is_bad o h = now (fold later (first_verdict o) h)
 
 -- each schedule whose history isn't bad has a linearizable history
-abbrev pub GoodAreLinearizable : RestsObserver → File → Program → Type 0
+abbrev pub GoodAreLinearizable : PairsObserver → File → Program → Type 0
 GoodAreLinearizable o file program =
     (schedule : List ℕ) → is_bad o (source_history file program schedule) ≡ false →
     IsLinearizable file program (source_history file program schedule)
 
 -- no schedule whose history is bad has a linearizable history
-abbrev pub BadAreNotLinearizable : RestsObserver → File → Program → Type 0
+abbrev pub BadAreNotLinearizable : PairsObserver → File → Program → Type 0
 BadAreNotLinearizable o file program =
     (schedule : List ℕ) → is_bad o (source_history file program schedule) ≡ true →
     IsLinearizable file program (source_history file program schedule) → ⊥
 
--- no history that was found explains one that is bad, where this bound was met
-abbrev pub BadAreNotJudged : RestsObserver → File → Program → Bounds → Doubt → Type 0
-BadAreNotJudged o file program bounds doubt =
+-- no serial run within the bound explains a history that is bad, where this bound was met
+abbrev pub BadAreNotJudged : PairsObserver → File → Program → ℕ → Doubt → Type 0
+BadAreNotJudged o file program bound doubt =
     (schedule : List ℕ) → is_bad o (source_history file program schedule) ≡ true →
-    IsNotJudged file program bounds doubt (source_history file program schedule)
-
--- so it is if the runs are serial histories of schedules
-abbrev pub GoodIsLinearizable : Type 0
-GoodIsLinearizable =
-    (o : RestsObserver) (file : File) (program : Program) → AreSerial (runs_of o) → AreTrue file program (runs_of o) →
-    GoodAreLinearizable o file program
-
--- and if they also begin with each serial history of a schedule
-abbrev pub BadIsNotLinearizable : Type 0
-BadIsNotLinearizable =
-    (o : RestsObserver) (file : File) (program : Program) → AreSerial (runs_of o) → AreTrue file program (runs_of o) →
-    TellSerial file program (runs_of o) → BadAreNotLinearizable o file program
+    IsUnexplained file program bound doubt (source_history file program schedule)

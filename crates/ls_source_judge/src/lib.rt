@@ -1,16 +1,11 @@
 //! Whether the histories of all schedules of a program are linearizable, and whether threads wait for ever, by the
-//! states of the source. Its observer notes what is left of each serial run that may still explain a history.
+//! states of the source. Its observer notes which pairs are left of a state of the specification and of pending calls.
 #![tactic(auto)]
 
 mod judging;
 pub mod laws;
-mod listing;
 mod observing;
-pub mod once_laws;
-mod ordering;
-mod resting;
 mod simplifying;
-mod stepping;
 mod tabling;
 mod watched;
 pub mod watching;
@@ -18,5 +13,5 @@ mod wholes;
 
 pub use judging::{Judged, judge_schedules};
 pub use simplifying::simplest_unexplained;
-pub use tabling::{Noted, Rests};
-pub use watched::RestsObserver;
+pub use tabling::{Noted, Pairs};
+pub use watched::PairsObserver;

@@ -1,19 +1,17 @@
-// The observer of serial runs.
+// The observer of a specification as an automaton.
 
-ghost use Rattle.std.specs.Prelude.{◌≡◌, IfOk, IfSome, IsTrue};
+ghost use Rattle.std.specs.Prelude.{◌≡◌, ◌∷◌, [], IfOk, IfSome, IsTrue};
+ghost use Rattle.ls_automaton.specs.Held.{first_held, helds_of, leaves_none};
 ghost use Rattle.ls_linearizable.specs.Judging.{Verdict, later, now};
-ghost use Rattle.ls_linearizable.specs.Resting.{refutes};
-ghost use Rattle.ls_linearizable.specs.Same.{same_event};
-ghost use Rattle.ls_source_judge.specs.Numbered.{lists_of, rests_at};
 ghost use Rattle.ls_source_judge.specs.Stepped.{IsTabled};
-ghost use Rattle.ls_source_judge.specs.Watched.{rests_of, runs_of, verdict_of};
+ghost use Rattle.ls_source_judge.specs.Watched.{first_pairs, first_verdict, pairs_of, verdict_of};
 
-use crate::listing::numbers_of;
-use crate::ordering::are_same_rests;
-use crate::resting::is_same;
-use crate::tabling::{Noted, Step, hash_of, rests_then, table_of};
-use crate::watched::RestsObserver;
+use crate::tabling::{Noted, Pairs, Step, table_of};
+use crate::watched::PairsObserver;
+use ls_automaton::outcome::Outcome;
+use ls_automaton::pairs::{Pair, are_same_pairs, first_pair, hash_of_pairs, pairs_after};
 use ls_events::event::Event;
+use ls_events::same::is_event;
 use ls_observers::observer::Observer;
 use std::alloc::{AllocError, Global};
 
@@ -22,7 +20,7 @@ fn tabled(steps: &[Step], event: &Event) -> Option<usize>
     ensures { IfSome result (λ n. IsTabled steps.now n event.now) }
 {
     for i in 0..steps.len() {
-        if is_same(&steps[i].event, event) {
+        if is_event(&steps[i].event, event) {
             return Some(steps[i].after);
         }
     }
@@ -42,34 +40,31 @@ fn have_same_number(noted: &Noted, other: &Noted) -> bool
     }
 }
 
-impl RestsObserver {
-    /// An observer of these runs. The only refusal is that memory ran out.
-    pub fn new(alloc: Global, runs: &[Vec<Event>]) -> Result<RestsObserver, AllocError>
-        ensures { IfOk result (λ o. runs_of o ≡ lists_of runs.now) }
+impl PairsObserver {
+    /// An observer of a specification with these outcomes. The only refusal is that memory ran out.
+    pub fn new(alloc: Global, rows: Vec<Vec<Outcome>>) -> Result<PairsObserver, AllocError>
+        ensures rows { IfOk result (λ o. o.rows.items ≡ rows.items) }
+        ensures first { IfOk result (λ o. first_pairs o ≡ first_held ∷ []) }
     {
-        let mut events = Vec::new(alloc);
-        let mut numbered = Vec::new(alloc);
-        for i in 0..runs.len() {
-            let numbers = numbers_of(alloc, &mut events, runs[i].as_slice())?;
-            numbered.push(numbers)?;
-        }
-        let table = table_of(alloc, events.as_slice(), numbered)?;
-        Ok(RestsObserver { events, table })
+        let mut first = Vec::new(alloc);
+        first.push(first_pair(alloc))?;
+        let table = table_of(alloc, rows.as_slice(), first)?;
+        Ok(PairsObserver { rows, table })
     }
 
-    /// What is left of the runs.
-    fn rests<'a>(&'a self, noted: &'a Noted) -> &'a [Vec<usize>]
-        ensures { rests_at self.now.events.items result.now ≡ rests_of self.now noted.now }
+    /// What is left.
+    fn pairs<'a>(&'a self, noted: &'a Noted) -> &'a [Pair]
+        ensures { helds_of result.now ≡ pairs_of self.now noted.now }
     {
         match noted {
             Noted::Known(number) => {
                 if *number < self.table.known.len() {
-                    self.table.known[*number].rests.as_slice()
+                    self.table.known[*number].pairs.as_slice()
                 } else {
                     &[]
                 }
             }
-            Noted::Other(rests) => rests.rests.as_slice(),
+            Noted::Other(pairs) => pairs.pairs.as_slice(),
         }
     }
 
@@ -91,10 +86,10 @@ impl RestsObserver {
     }
 }
 
-impl Observer for RestsObserver {
+impl Observer for PairsObserver {
     ghost State = { Verdict };
 
-    ghost first = { λ o. refutes same_event (runs_of o) };
+    ghost first = { λ o. first_verdict o };
 
     ghost next = { λ o v e. later v e };
 
@@ -112,12 +107,12 @@ impl Observer for RestsObserver {
         if let Some(number) = self.step(noted, event) {
             return Ok(Noted::Known(number));
         }
-        let rests = rests_then(alloc, self.events.as_slice(), self.rests(noted), event)?;
-        Ok(Noted::Other(rests))
+        let pairs = pairs_after(alloc, self.rows.as_slice(), self.pairs(noted), event)?;
+        Ok(Noted::Other(Pairs { pairs }))
     }
 
     fn is_same(&self, noted: &Noted, other: &Noted) -> bool {
-        have_same_number(noted, other) || are_same_rests(self.rests(noted), self.rests(other))
+        have_same_number(noted, other) || are_same_pairs(self.pairs(noted), self.pairs(other))
     }
 
     fn hash(&self, noted: &Noted) -> u64 {
@@ -129,11 +124,11 @@ impl Observer for RestsObserver {
                     0
                 }
             }
-            Noted::Other(rests) => hash_of(rests.rests.as_slice()),
+            Noted::Other(pairs) => hash_of_pairs(pairs.pairs.as_slice()),
         }
     }
 
     fn is_bad(&self, noted: &Noted) -> bool {
-        self.rests(noted).is_empty()
+        self.pairs(noted).is_empty()
     }
 }

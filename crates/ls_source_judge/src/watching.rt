@@ -1,27 +1,40 @@
-// The observer of the serial histories of a program.
+// The observer of a program as an automaton.
 
-ghost use Rattle.std.specs.Prelude.{IfNone, IfOk, IfSome};
+ghost use Rattle.std.specs.Prelude.{◌≡◌, true, false, IfNone, IfOk, IfSome};
 ghost use Rattle.ls_checked.specs.Plain.{plain_file};
 ghost use Rattle.ls_checked.specs.PlainProgram.{plain_program};
 ghost use Rattle.ls_serial_search.specs.Told.{IsDoubt};
 ghost use Rattle.ls_source_judge.specs.Laws.{BadAreNotJudged, BadAreNotLinearizable, GoodAreLinearizable};
 
-use crate::watched::RestsObserver;
+use crate::watched::PairsObserver;
+use ls_automaton::merging::merge;
+use ls_automaton::table::table_of;
 use ls_checked::program::Program;
 use ls_checked::tree::File;
-use ls_serial_search::histories::serial_histories;
 use ls_serial_search::telling::{Bounds, Doubt};
 use std::alloc::{AllocError, Global};
 
-/// An observer of serial histories of a program.
+/// An observer of a program as an automaton.
 #[derive(Drop)]
 pub struct SerialObserver {
-    pub observer: RestsObserver,
-    /// The bound that was met. If none was, a history that is bad isn't linearizable.
+    pub observer: PairsObserver,
+    /// Whether a call goes on. If none does, a history that is bad isn't linearizable.
     pub doubt: Option<Doubt>,
 }
 
-/// An observer of the serial histories of a program. The only refusal is that memory ran out.
+/// Why some outcomes aren't known.
+fn doubt_of(goes_on: bool) -> Option<Doubt>
+    ensures none { IfNone result (goes_on ≡ false) }
+    ensures some { IfSome result (λ d. (d ≡ Doubt.LongCall) × (goes_on ≡ true)) }
+{
+    if goes_on {
+        return Some(Doubt::LongCall);
+    }
+    None
+}
+
+/// An observer of a program as an automaton. A refusal is that memory ran out, or that a state between calls has no number
+/// left.
 pub fn serial_observer(
     alloc: Global,
     file: &File,
@@ -32,13 +45,12 @@ pub fn serial_observer(
     ensures bad { IfOk result (λ s. IfNone s.doubt
         (BadAreNotLinearizable s.observer (plain_file file.now) (plain_program program.now))) }
     ensures unjudged { IfOk result (λ s. IfSome s.doubt
-        (BadAreNotJudged s.observer (plain_file file.now) (plain_program program.now) bounds)) }
+        (BadAreNotJudged s.observer (plain_file file.now) (plain_program program.now) bounds.steps)) }
     ensures doubt { IfOk result (λ s. IfSome s.doubt (IsDoubt (plain_file file.now) (plain_program program.now) bounds)) }
 {
-    let found = serial_histories(alloc, file, program, bounds)?;
-    let observer = RestsObserver::new(alloc, found.histories.as_slice())?;
-    Ok(SerialObserver {
-        observer,
-        doubt: found.doubt,
-    })
+    let table = table_of(alloc, file, program, bounds.steps)?;
+    let doubt = doubt_of(table.goes_on);
+    let rows = merge(alloc, table.rows)?;
+    let observer = PairsObserver::new(alloc, rows)?;
+    Ok(SerialObserver { observer, doubt })
 }

@@ -9,7 +9,7 @@ use Rattle.ls_types_checked.specs.CheckedFile.{elaborated_file}
 use Rattle.ls_fewest_switches.specs.Switches.{HasFewest}
 use Rattle.ls_meaning.specs.Runs.{source_history}
 use Rattle.ls_search_laws.specs.Stepping.{ActAll}
-use Rattle.ls_serial_search.specs.Found.{IsNotJudged}
+use Rattle.ls_source_judge.specs.Judged.{IsUnexplained}
 use Rattle.ls_serial_search.specs.Told.{usual}
 use Rattle.ls_translation.specs.Texts.{file_of, program_of}
 use Rattle.ls_explore_commands.proofs.Decisions.{at_same}
@@ -24,9 +24,9 @@ returns-clause-unjudged c = λ d unjudged.
     let program : plain_program c.program.result.now ≡ program_of i = ap plain_program c.program.ensures in
     record {
       acts = kept ActAll file program c.in_ok-found.ensures.steps c.in_ok-run.ensures.acts unjudged.acts;
-      unexplained = kept (λ (f : File) (p : Program) (s : List ℕ). IsNotJudged f p usual d (source_history f p s))
+      unexplained = kept (λ (f : File) (p : Program) (s : List ℕ). IsUnexplained f p usual.steps d (source_history f p s))
           {schedule = c.in_ok-run.run'.schedule} file program c.in_ok-found.ensures.steps
-          (subst (IsNotJudged (plain_file c.file-file.result.now) (plain_program c.program.result.now) usual d)
+          (subst (IsUnexplained (plain_file c.file-file.result.now) (plain_program c.program.result.now) usual.steps d)
           (sym c.in_ok-run.ensures.history)) unjudged.unexplained;
     }
 

@@ -34,7 +34,8 @@ returns-clause-unjudged c =
     let f = c.in_ok-setup.field-0 in
     unjudged_if_some file program f.setup c.in_ok-serial.serial.observer c.in_ok-serial.serial.doubt
     (subst (λ (b : Bounds). IfSome c.in_ok-serial.serial.doubt
-    (BadAreNotJudged c.in_ok-serial.serial.observer file program b)) c.usual.ensures c.in_ok-serial.ensures.unjudged)
+    (BadAreNotJudged c.in_ok-serial.serial.observer file program b.steps))
+    c.usual.ensures c.in_ok-serial.ensures.unjudged)
     f.bad c.in_ok-bad.bad c.in_ok-bad.ensures c.in_ok-setup.ensures.bad
 
 pub returns-clause-free : goal.returns-clause-free

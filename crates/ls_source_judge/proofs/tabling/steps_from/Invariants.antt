@@ -6,5 +6,5 @@ use Rattle.ls_source_judge.proofs.tabling.steps_from.Given as goal
 abbrev pub invariant-loop-i : goal.invariant-loop-i
 invariant-loop-i l = record {
   grows : Grows l.initial.known.items l.known.items;
-  steps : AreStepsOf l.events l.known.items l.at l.steps.items;
+  steps : AreStepsOf l.rows l.known.items l.at l.steps.items;
 }

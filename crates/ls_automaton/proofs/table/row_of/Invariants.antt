@@ -1,0 +1,16 @@
+-- What the loop `thread` of `row_of` in src/table.rt keeps.
+
+use Rattle.std.proofs.Common.{◌≡◌, true}
+use Rattle.ls_checked.specs.Plain.{plain_file}
+use Rattle.ls_checked.specs.PlainProgram.{plain_program}
+use Rattle.ls_serial_search.specs.Open.{HasLongCall}
+use Rattle.ls_automaton.proofs.Filled.{IsFilled}
+use Rattle.ls_automaton.proofs.table.row_of.Given as goal
+
+abbrev pub invariant-loop-thread : goal.invariant-loop-thread
+invariant-loop-thread l = record {
+  filled : IsFilled (plain_file l.task.file.now) (plain_program l.task.program.now) l.task.most_steps l.goes_on
+      l.initial.spots.items l.spots.items l.steps l.thread l.outcomes.items;
+  long : l.goes_on ≡ true →
+      HasLongCall (plain_file l.task.file.now) (plain_program l.task.program.now) l.task.most_steps;
+}

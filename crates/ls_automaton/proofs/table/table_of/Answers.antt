@@ -1,0 +1,76 @@
+-- Why `table_of` in src/table.rt keeps its contract and its loop `task`.
+
+use Rattle.std.proofs.Common.{◌≡◌, ◌∙◌, ◌++◌, ◌∷◌, [], Some, ap, arith, false, slice_get, subst, sym, true}
+use Rattle.ls_checked.specs.CheckedTree.{File}
+use Rattle.ls_checked.specs.CheckedProgram.{Program}
+use Rattle.ls_checked.specs.Plain.{plain_file}
+use Rattle.ls_checked.specs.PlainProgram.{plain_program}
+use Rattle.ls_meaning.specs.Runs.{source_history}
+use Rattle.ls_serial.specs.Serial.{IsSerial}
+use Rattle.ls_search_laws.specs.Stepping.{ActAll}
+use Rattle.ls_serial_search.specs.Open.{HasLongCall}
+use Rattle.ls_automaton.specs.Spots.{IsFound, schedules_of}
+use Rattle.ls_automaton.proofs.Filled.{AreFilled, acting_to, either_long, filled_done, filled_first, filled_on}
+use Rattle.ls_automaton.proofs.Filled.{serial_to}
+use Rattle.ls_automaton.proofs.table.table_of.Goals as goal
+
+pub loop-task-init : goal.loop-task-init
+loop-task-init c =
+    let file : File = plain_file c.args.file.now in
+    let program : Program = plain_program c.args.program.now in
+    record {
+      filled = filled_first file program c.args.most_steps c.push.new.self.items c.in_ok-first_spot.field-0
+          c.new-rows.result.items c.new-rows.ensures.items
+          (c.in_ok-push.ensures.items ∙ ap (λ l. l ++ c.in_ok-first_spot.field-0 ∷ []) c.new-spots.ensures.items)
+          c.in_ok-first_spot.ensures;
+      long = λ goes. absurd (apart goes);
+    }
+  where
+    apart : false ≡ true → ⊥
+    apart h = cc
+
+pub row_of-requires-clause-serial : goal.row_of-requires-clause-serial
+row_of-requires-clause-serial c =
+    let file : File = plain_file c.args.file.now in
+    let program : Program = plain_program c.args.program.now in
+    subst (λ l. IsSerial (source_history file program l)) (sym c.as_slice-in-loop-task.ensures.value)
+    (serial_to file program c.args.most_steps c.loop-task.spots.items c.len-in-loop-task-3.result
+    c.in_ok-steps.steps.items c.loop-task.invariant.filled.are
+    (subst (λ l. slice_get (schedules_of l) c.len-in-loop-task-3.result ≡ Some c.in_ok-steps.steps.items)
+    c.as_slice.ensures.value c.in_ok-steps.ensures))
+
+pub row_of-requires-clause-acts : goal.row_of-requires-clause-acts
+row_of-requires-clause-acts c =
+    let file : File = plain_file c.args.file.now in
+    let program : Program = plain_program c.args.program.now in
+    subst (ActAll file program) (sym c.as_slice-in-loop-task.ensures.value)
+    (acting_to file program c.args.most_steps c.loop-task.spots.items c.len-in-loop-task-3.result
+    c.in_ok-steps.steps.items c.loop-task.invariant.filled.are
+    (subst (λ l. slice_get (schedules_of l) c.len-in-loop-task-3.result ≡ Some c.in_ok-steps.steps.items)
+    c.as_slice.ensures.value c.in_ok-steps.ensures))
+
+pub loop-task-preserved : goal.loop-task-preserved
+loop-task-preserved c =
+    let file : File = plain_file c.args.file.now in
+    let program : Program = plain_program c.args.program.now in
+    record {
+      filled = subst (AreFilled file program c.args.most_steps c.either-goes_on.result c.row_of.new.spots.items)
+          (sym c.in_ok-push-2.ensures.items)
+          (filled_on file program c.args.most_steps c.loop-task.goes_on c.in_ok-row.row.goes_on c.either-goes_on.result
+          c.loop-task.spots.items c.row_of.new.spots.items c.loop-task.rows.items c.in_ok-row.row.outcomes
+          c.in_ok-steps.steps.items c.either-goes_on.ensures.none c.loop-task.invariant.filled
+          (subst (λ n. slice_get (schedules_of c.loop-task.spots.items) n ≡ Some c.in_ok-steps.steps.items)
+          (omega arith)
+          (subst (λ l. slice_get (schedules_of l) c.len-in-loop-task-3.result ≡ Some c.in_ok-steps.steps.items)
+          c.as_slice.ensures.value c.in_ok-steps.ensures))
+          (subst (λ l. IsFound file program c.args.most_steps c.in_ok-row.row.goes_on c.loop-task.spots.items
+          c.row_of.new.spots.items l c.in_ok-row.row.outcomes.items) c.as_slice-in-loop-task.ensures.value
+          c.in_ok-row.ensures.row));
+      long = λ goes. either_long (HasLongCall file program c.args.most_steps) (c.either-goes_on.ensures.one goes)
+          c.loop-task.invariant.long c.in_ok-row.ensures.long;
+    }
+
+pub returns-clause-outcomes : goal.returns-clause-outcomes
+returns-clause-outcomes c =
+    filled_done (plain_file c.args.file.now) (plain_program c.args.program.now) c.args.most_steps c.loop-task.goes_on
+    c.loop-task.spots.items c.loop-task.rows.items (omega (arith, c.loop-task-test.false)) c.loop-task.invariant.filled

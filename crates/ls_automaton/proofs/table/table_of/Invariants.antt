@@ -1,0 +1,19 @@
+-- What the loop `task` of `table_of` in src/table.rt keeps, and why the loop ends.
+
+use Rattle.std.proofs.Common.{◌≡◌, ◌-◌, true, length}
+use Rattle.ls_checked.specs.Plain.{plain_file}
+use Rattle.ls_checked.specs.PlainProgram.{plain_program}
+use Rattle.ls_serial_search.specs.Open.{HasLongCall}
+use Rattle.ls_automaton.proofs.Filled.{AreFilled}
+use Rattle.ls_automaton.proofs.table.table_of.Given as goal
+
+abbrev pub invariant-loop-task : goal.invariant-loop-task
+invariant-loop-task l = record {
+  filled : AreFilled (plain_file l.task.file.now) (plain_program l.task.program.now) l.task.most_steps l.goes_on
+      l.spots.items l.rows.items;
+  long : l.goes_on ≡ true →
+      HasLongCall (plain_file l.task.file.now) (plain_program l.task.program.now) l.task.most_steps;
+}
+
+abbrev pub decreases-loop-task : goal.decreases-loop-task
+decreases-loop-task l = 1000000 - length l.rows.items

@@ -1,0 +1,9 @@
+pub mod Automaton
+pub mod Laws
+pub mod Programs
+pub mod Alike
+pub mod Once
+pub mod Tables
+pub mod Spots
+pub mod Held
+pub mod Merged

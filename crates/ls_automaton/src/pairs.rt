@@ -1,0 +1,242 @@
+// Pairs of a state and of what pending calls have done, event by event.
+
+ghost use Rattle.std.specs.Prelude.{◌≡◌, ◌++◌, Contains, IfOk, IsTrue, List, OnOk, slice_get};
+ghost use Rattle.std.specs.List.{flat_map};
+ghost use Rattle.std.specs.declared.alloc.Global.{Global};
+ghost use Rattle.std.specs.declared.vec.Vec.{Vec};
+ghost use Rattle.ls_linearizable.specs.Judging.{later};
+ghost use Rattle.ls_automaton.specs.declared.outcome.Outcome.{Outcome};
+ghost use Rattle.ls_automaton.specs.Held.{AreAmong, begun_held, ends, first_held, held_of, helds_of, kept, leaves_none};
+ghost use Rattle.ls_automaton.specs.Held.{moved, row_of, taking};
+
+use crate::event_hashing::hashed_event;
+use crate::outcome::Outcome;
+use crate::pending::{
+    entry, has_taken, is_call, is_noted, is_open, with_call, with_effect, without_call,
+};
+use ls_events::event::Event;
+use ls_events::same::are_same_events;
+use ls_observers::hashing::hashed;
+use std::alloc::{AllocError, Global};
+
+/// A state by its number, and what is noted of the calls that are pending there: the end of each that has taken effect,
+/// and the first event of each other.
+#[derive(Drop)]
+pub struct Pair {
+    pub(crate) state: usize,
+    pub(crate) pending: Vec<Event>,
+}
+
+/// The pair where nothing has happened.
+pub fn first_pair(alloc: Global) -> Pair
+    ensures { held_of result ≡ first_held }
+{
+    Pair {
+        state: 0,
+        pending: Vec::new(alloc),
+    }
+}
+
+/// What a pair becomes where a call begins. The only refusal is that memory ran out.
+fn begun_pair(alloc: Global, pair: &Pair, call: &Event) -> Result<Pair, AllocError>
+    ensures { IfOk result (λ p. held_of p ≡ begun_held call.now (held_of pair.now)) }
+{
+    let pending = with_call(alloc, pair.pending.as_slice(), call)?;
+    Ok(Pair {
+        state: pair.state,
+        pending,
+    })
+}
+
+/// What a pair becomes where a call takes effect. The only refusal is that memory ran out.
+pub(crate) fn taking_pair(alloc: Global, pair: &Pair, outcome: &Outcome) -> Result<Pair, AllocError>
+    ensures { IfOk result (λ p. held_of p ≡ taking (held_of pair.now) outcome.now) }
+{
+    let pending = with_effect(alloc, pair.pending.as_slice(), &outcome.end)?;
+    Ok(Pair {
+        state: outcome.after,
+        pending,
+    })
+}
+
+/// Adds what a pair becomes with this end, if the call has taken effect with it. The only refusal is that memory ran out.
+fn add_kept(
+    alloc: Global,
+    pair: &Pair,
+    end: &Event,
+    found: &mut Vec<Pair>,
+) -> Result<(), AllocError>
+    ensures { OnOk result (helds_of found.new.items ≡ helds_of found.old.items ++ kept end.now (held_of pair.now)) }
+{
+    if !is_noted(end, entry(pair.pending.as_slice(), end)) {
+        return Ok(());
+    }
+    let pending = without_call(alloc, pair.pending.as_slice(), end)?;
+    found.push(Pair {
+        state: pair.state,
+        pending,
+    })?;
+    Ok(())
+}
+
+/// The outcomes in a state.
+pub(crate) fn row_at(rows: &[Vec<Outcome>], state: usize) -> &[Outcome]
+    ensures { result.now ≡ row_of (slice_get rows.now state) }
+{
+    if state < rows.len() {
+        rows[state].as_slice()
+    } else {
+        &[]
+    }
+}
+
+/// Adds what a pair becomes with this end: calls take effect, at most so many, up to the one that ends, and no further.
+/// The only refusal is that memory ran out.
+fn add_ends(
+    alloc: Global,
+    rows: &[Vec<Outcome>],
+    pair: &Pair,
+    end: &Event,
+    left: usize,
+    found: &mut Vec<Pair>,
+) -> Result<(), AllocError>
+    ensures { OnOk result (helds_of found.new.items ≡
+        helds_of found.old.items ++ ends rows.now left end.now (held_of pair.now)) }
+{
+    if left == 0 || has_taken(entry(pair.pending.as_slice(), end)) {
+        return add_kept(alloc, pair, end, found);
+    }
+    let row = row_at(rows, pair.state);
+    for i in 0..row.len() {
+        if is_open(entry(pair.pending.as_slice(), &row[i].end)) {
+            let next = taking_pair(alloc, pair, &row[i])?;
+            add_ends(alloc, rows, &next, end, left - 1, found)?;
+        }
+    }
+    Ok(())
+}
+
+/// Adds what a pair becomes with this event. The only refusal is that memory ran out.
+fn add_moved(
+    alloc: Global,
+    rows: &[Vec<Outcome>],
+    pair: &Pair,
+    event: &Event,
+    found: &mut Vec<Pair>,
+) -> Result<(), AllocError>
+    ensures { OnOk result (helds_of found.new.items ≡
+        helds_of found.old.items ++ moved rows.now event.now (held_of pair.now)) }
+{
+    if is_call(event) {
+        let begun = begun_pair(alloc, pair, event)?;
+        found.push(begun)?;
+        return Ok(());
+    }
+    add_ends(alloc, rows, pair, event, pair.pending.len(), found)
+}
+
+/// What pairs become with this event. The only refusal is that memory ran out.
+fn all_moved(
+    alloc: Global,
+    rows: &[Vec<Outcome>],
+    pairs: &[Pair],
+    event: &Event,
+) -> Result<Vec<Pair>, AllocError>
+    ensures { IfOk result (λ v. helds_of v.items ≡ flat_map (moved rows.now event.now) (helds_of pairs.now)) }
+{
+    let mut found = Vec::new(alloc);
+    for i in 0..pairs.len() {
+        add_moved(alloc, rows, &pairs[i], event, &mut found)?;
+    }
+    Ok(found)
+}
+
+/// Whether a pair is the other. True only where it is.
+fn is_same_pair(pair: &Pair, other: &Pair) -> bool
+    ensures { IsTrue result → held_of pair.now ≡ held_of other.now }
+{
+    pair.state == other.state && are_same_events(pair.pending.as_slice(), other.pending.as_slice())
+}
+
+/// Whether a pair is one of these. True only where it is.
+fn has_pair(pairs: &[Pair], pair: &Pair) -> bool
+    ensures { IsTrue result → Contains (helds_of pairs.now) (held_of pair.now) }
+{
+    for i in 0..pairs.len() {
+        if is_same_pair(&pairs[i], pair) {
+            return true;
+        }
+    }
+    false
+}
+
+/// Whether each pair is one of the others. True only where it is.
+fn are_among(pairs: &[Pair], others: &[Pair]) -> bool
+    ensures { IsTrue result → AreAmong (helds_of pairs.now) (helds_of others.now) }
+{
+    for i in 0..pairs.len() {
+        if !has_pair(others, &pairs[i]) {
+            return false;
+        }
+    }
+    true
+}
+
+/// Whether the pairs are the others. True only where the same is left of them.
+pub fn are_same_pairs(pairs: &[Pair], others: &[Pair]) -> bool
+    ensures { IsTrue result → (rows : List (Vec Outcome Global)) →
+        leaves_none rows (helds_of pairs.now) ≡ leaves_none rows (helds_of others.now) }
+{
+    if pairs.len() != others.len() || !are_among(pairs, others) {
+        return false;
+    }
+    are_among(others, pairs)
+}
+
+/// The pairs, each once. The only refusal is that memory ran out.
+fn each_once(alloc: Global, pairs: Vec<Pair>) -> Result<Vec<Pair>, AllocError>
+    ensures none_new { IfOk result (λ v. AreAmong (helds_of v.items) (helds_of pairs.items)) }
+    ensures none_lost { IfOk result (λ v. AreAmong (helds_of pairs.items) (helds_of v.items)) }
+{
+    let mut rest = pairs;
+    let mut once = Vec::new(alloc);
+    while let Some(pair) = rest.pop() {
+        if !has_pair(once.as_slice(), &pair) {
+            once.push(pair)?;
+        }
+    }
+    Ok(once)
+}
+
+/// What is left of pairs after an event. The only refusal is that memory ran out.
+pub fn pairs_after(
+    alloc: Global,
+    rows: &[Vec<Outcome>],
+    pairs: &[Pair],
+    event: &Event,
+) -> Result<Vec<Pair>, AllocError>
+    ensures { IfOk result (λ v. leaves_none rows.now (helds_of v.items) ≡
+        later (leaves_none rows.now (helds_of pairs.now)) event.now) }
+{
+    let found = all_moved(alloc, rows, pairs, event)?;
+    let once = each_once(alloc, found)?;
+    Ok(once)
+}
+
+/// A number by which a pair is found. Nothing depends on it.
+fn hash_of_pair(pair: &Pair) -> u64 {
+    let mut hash = hashed(0, pair.state as u64);
+    for i in 0..pair.pending.len() {
+        hash = hashed_event(hash, &pair.pending[i]);
+    }
+    hash
+}
+
+/// A number by which pairs are found, in whatever order they stand. Nothing depends on it.
+pub fn hash_of_pairs(pairs: &[Pair]) -> u64 {
+    let mut hash = pairs.len() as u64;
+    for i in 0..pairs.len() {
+        hash = hash.wrapping_add(hash_of_pair(&pairs[i]));
+    }
+    hash
+}

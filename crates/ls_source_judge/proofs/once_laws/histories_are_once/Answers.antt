@@ -1,7 +1,0 @@
--- Why `histories_are_once` in src/once_laws.rt keeps its contract.
-
-use Rattle.ls_source_judge.proofs.Once.{once}
-use Rattle.ls_source_judge.proofs.once_laws.histories_are_once.Goals as goal
-
-pub returns : goal.returns
-returns c = once
