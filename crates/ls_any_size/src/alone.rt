@@ -13,11 +13,11 @@ use crate::laws::calm_is_good;
 use crate::menu::{Menu, are_made_of, menu_of};
 use ls_explore_reports::names_in;
 use ls_find::Sought;
-use ls_find::places::one_answer;
 use ls_guarded::guard::{Guard, guard_of};
 use ls_image::image::Image;
 use ls_labels::names::{Names, class_name, field_name};
 use ls_loopless::loops::has_no_loops;
+use ls_types_places::laws::one_answer;
 use std::alloc::{AllocError, Global};
 
 /// Adds what guards the calls.
