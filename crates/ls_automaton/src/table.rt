@@ -1,6 +1,6 @@
 // What calls do that run one at a time, in states by number.
 
-ghost use Rattle.std.specs.Prelude.{◌≡◌, ◌<◌, ◌⊎◌, ◌++◌, true, false, IfOk, Some, length, replicate, slice_get};
+ghost use Rattle.std.specs.Prelude.{◌≡◌, ◌<◌, ◌⊎◌, ◌++◌, true, false, IfOk, IfSome, Some, length, replicate, slice_get};
 ghost use Rattle.ls_checked.specs.Plain.{plain_file};
 ghost use Rattle.ls_checked.specs.PlainProgram.{plain_program};
 ghost use Rattle.ls_meaning.specs.Runs.{source_history};
@@ -31,9 +31,6 @@ struct Row {
     outcomes: Vec<Outcome>,
     goes_on: bool,
 }
-
-/// So many states have numbers.
-const MOST_STATES: usize = 1_000_000;
 
 /// Whether one of both holds.
 fn either(one: bool, other: bool) -> bool
@@ -119,18 +116,19 @@ fn steps_to<'a>(alloc: Global, spots: &[Spot<'a>], number: usize) -> Result<Vec<
     Ok(steps)
 }
 
-/// What calls do in each state to which calls lead that run one at a time, each for at most so many steps. The source
-/// alone is run, with no cells. A refusal is that memory ran out, or that a state has no number left.
+/// What calls do in each state to which calls lead that run one at a time, each for at most so many steps. None if there
+/// are more states than so many. The source alone is run, with no cells. The only refusal is that memory ran out.
 pub fn table_of(
     alloc: Global,
     file: &File,
     program: &Program,
     most_steps: usize,
-) -> Result<Table, AllocError>
-    ensures outcomes { IfOk result (λ t. AreOutcomes (plain_file file.now) (plain_program program.now) most_steps t.goes_on
-        t.rows.items) }
-    ensures long { IfOk result (λ t. t.goes_on ≡ true →
-        HasLongCall (plain_file file.now) (plain_program program.now) most_steps) }
+    most_states: usize,
+) -> Result<Option<Table>, AllocError>
+    ensures outcomes { IfOk result (λ some. IfSome some (λ t.
+        AreOutcomes (plain_file file.now) (plain_program program.now) most_steps t.goes_on t.rows.items)) }
+    ensures long { IfOk result (λ some. IfSome some (λ t. t.goes_on ≡ true →
+        HasLongCall (plain_file file.now) (plain_program program.now) most_steps)) }
 {
     let task = Task {
         file,
@@ -142,13 +140,13 @@ pub fn table_of(
     let mut rows = Vec::new(alloc);
     let mut goes_on = false;
     while rows.len() < spots.len() {
-        if rows.len() >= MOST_STATES {
-            return Err(AllocError);
+        if rows.len() >= most_states {
+            return Ok(None);
         }
         let steps = steps_to(alloc, spots.as_slice(), rows.len())?;
         let row = row_of(alloc, &task, &mut spots, steps.as_slice())?;
         goes_on = either(goes_on, row.goes_on);
         rows.push(row.outcomes)?;
     }
-    Ok(Table { rows, goes_on })
+    Ok(Some(Table { rows, goes_on }))
 }

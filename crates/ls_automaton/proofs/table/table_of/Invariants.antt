@@ -16,4 +16,4 @@ invariant-loop-task l = record {
 }
 
 abbrev pub decreases-loop-task : goal.decreases-loop-task
-decreases-loop-task l = 1000000 - length l.rows.items
+decreases-loop-task l = l.most_states - length l.rows.items

@@ -1,10 +1,10 @@
--- Why `serial_observer` in src/watching.rt keeps its contract.
+-- Why `observer_of` in src/watching.rt keeps its contract.
 
 use Rattle.std.proofs.Common.{Option, None, Some, IfNone, IfSome}
 use Rattle.ls_checked.specs.Plain.{plain_file}
 use Rattle.ls_checked.specs.PlainProgram.{plain_program}
 use Rattle.ls_source_judge.proofs.Verdicts.{bad_are_not, bad_not_judged, good_are, is_long}
-use Rattle.ls_source_judge.proofs.watching.serial_observer.Goals as goal
+use Rattle.ls_source_judge.proofs.watching.observer_of.Goals as goal
 
 if_none : {X P Q : Type 0} (o : Option X) → (P → Q) → IfNone o P → IfNone o Q
 if_none None f p = f p
@@ -17,30 +17,30 @@ if_some (Some x) f p = f x p
 pub returns-clause-good : goal.returns-clause-good
 returns-clause-good c =
     good_are c.in_ok-observer.observer (plain_file c.args.file.now) (plain_program c.args.program.now)
-    c.args.bounds.steps c.in_ok-table.table.goes_on
-    c.in_ok-table.table.rows.items c.in_ok-rows.rows.items c.in_ok-observer.ensures.rows
-    c.in_ok-observer.ensures.first c.in_ok-table.ensures.outcomes c.in_ok-rows.ensures
+    c.args.bounds.steps c.args.table.goes_on
+    c.args.table.rows.items c.in_ok-rows.rows.items c.in_ok-observer.ensures.rows
+    c.in_ok-observer.ensures.first c.requires.outcomes c.in_ok-rows.ensures
 
 pub returns-clause-bad : goal.returns-clause-bad
 returns-clause-bad c =
     if_none c.doubt_of-doubt.result
     (bad_are_not c.in_ok-observer.observer (plain_file c.args.file.now) (plain_program c.args.program.now)
-    c.args.bounds.steps c.in_ok-table.table.goes_on
-    c.in_ok-table.table.rows.items c.in_ok-rows.rows.items c.in_ok-observer.ensures.rows
-    c.in_ok-observer.ensures.first c.in_ok-table.ensures.outcomes c.in_ok-rows.ensures) c.doubt_of-doubt.ensures.none
+    c.args.bounds.steps c.args.table.goes_on
+    c.args.table.rows.items c.in_ok-rows.rows.items c.in_ok-observer.ensures.rows
+    c.in_ok-observer.ensures.first c.requires.outcomes c.in_ok-rows.ensures) c.doubt_of-doubt.ensures.none
 
 pub returns-clause-unjudged : goal.returns-clause-unjudged
 returns-clause-unjudged c =
     if_some c.doubt_of-doubt.result
     (λ d so. bad_not_judged c.in_ok-observer.observer (plain_file c.args.file.now) (plain_program c.args.program.now)
-    c.args.bounds.steps c.in_ok-table.table.goes_on
-    c.in_ok-table.table.rows.items c.in_ok-rows.rows.items c.in_ok-observer.ensures.rows
-    c.in_ok-observer.ensures.first c.in_ok-table.ensures.outcomes
-    c.in_ok-rows.ensures (c.in_ok-table.ensures.long so.1) d so.0)
+    c.args.bounds.steps c.args.table.goes_on
+    c.args.table.rows.items c.in_ok-rows.rows.items c.in_ok-observer.ensures.rows
+    c.in_ok-observer.ensures.first c.requires.outcomes
+    c.in_ok-rows.ensures (c.requires.long so.1) d so.0)
     c.doubt_of-doubt.ensures.some
 
 pub returns-clause-doubt : goal.returns-clause-doubt
 returns-clause-doubt c =
     if_some c.doubt_of-doubt.result
     (λ d so. is_long (plain_file c.args.file.now) (plain_program c.args.program.now) c.args.bounds d so.0
-    (c.in_ok-table.ensures.long so.1)) c.doubt_of-doubt.ensures.some
+    (c.requires.long so.1)) c.doubt_of-doubt.ensures.some

@@ -1,14 +1,11 @@
--- Why `judge_schedules` in src/judging.rt keeps its clauses of schedules.
+-- Why `judged_by` in src/judging.rt keeps its clauses of schedules.
 
-use Rattle.std.proofs.Common.{IfSome, subst}
 use Rattle.ls_checked.specs.CheckedTree.{File}
 use Rattle.ls_checked.specs.CheckedProgram.{Program}
 use Rattle.ls_checked.specs.Plain.{plain_file}
 use Rattle.ls_checked.specs.PlainProgram.{plain_program}
-use Rattle.ls_serial_search.specs.declared.telling.Bounds.{Bounds}
-use Rattle.ls_source_judge.specs.Laws.{BadAreNotJudged}
 use Rattle.ls_source_judge.proofs.WholeRuns.{bad_if_none, if_none, none_whole, unjudged_if_some, whole_stuck}
-use Rattle.ls_source_judge.proofs.judging.judge_schedules.Goals as goal
+use Rattle.ls_source_judge.proofs.judging.judged_by.Goals as goal
 
 pub returns-clause-good : goal.returns-clause-good
 returns-clause-good c = λ complete.
@@ -16,7 +13,7 @@ returns-clause-good c = λ complete.
     let program : Program = plain_program c.args.program.now in
     let f = c.in_ok-setup.field-0 in
     none_whole file program f.setup _ f.bad c.in_ok-bad.bad c.in_ok-bad.ensures
-    (if_none f.bad (λ good schedule. c.in_ok-serial.ensures.good schedule (good c.bad_stays_bad.ensures schedule))
+    (if_none f.bad (λ good schedule. c.requires.explained schedule (good c.bad_stays_bad.ensures schedule))
     (c.in_ok-setup.ensures.good complete))
 
 pub returns-clause-bad : goal.returns-clause-bad
@@ -24,18 +21,16 @@ returns-clause-bad c =
     let file : File = plain_file c.args.file.now in
     let program : Program = plain_program c.args.program.now in
     let f = c.in_ok-setup.field-0 in
-    bad_if_none file program f.setup c.in_ok-serial.serial.observer c.in_ok-serial.serial.doubt
-    c.in_ok-serial.ensures.bad f.bad c.in_ok-bad.bad c.in_ok-bad.ensures c.in_ok-setup.ensures.bad
+    bad_if_none file program f.setup c.args.serial.observer c.args.serial.doubt
+    c.requires.unexplained f.bad c.in_ok-bad.bad c.in_ok-bad.ensures c.in_ok-setup.ensures.bad
 
 pub returns-clause-unjudged : goal.returns-clause-unjudged
 returns-clause-unjudged c =
     let file : File = plain_file c.args.file.now in
     let program : Program = plain_program c.args.program.now in
     let f = c.in_ok-setup.field-0 in
-    unjudged_if_some file program f.setup c.in_ok-serial.serial.observer c.in_ok-serial.serial.doubt
-    (subst (λ (b : Bounds). IfSome c.in_ok-serial.serial.doubt
-    (BadAreNotJudged c.in_ok-serial.serial.observer file program b.steps))
-    c.usual.ensures c.in_ok-serial.ensures.unjudged)
+    unjudged_if_some file program f.setup c.args.serial.observer c.args.serial.doubt
+    c.requires.doubted
     f.bad c.in_ok-bad.bad c.in_ok-bad.ensures c.in_ok-setup.ensures.bad
 
 pub returns-clause-free : goal.returns-clause-free
