@@ -7,7 +7,7 @@ use Rattle.std.specs.declared.alloc.AllocError.{AllocError}
 use Rattle.ls_checked.specs.CheckedTree.{File}
 use Rattle.ls_endless_calls.specs.Laws.{NoWaitNoneForEver}
 use Rattle.ls_explore_reports.specs.ImageNames.{names_in}
-use Rattle.ls_find.specs.Laws.{OneAnswer, SameAnswer}
+use Rattle.ls_types_places.specs.Laws.{OneAnswer, SameAnswer}
 use Rattle.ls_find.specs.declared.sought.Sought.{Sought}
 use Rattle.ls_guarded.proofs.Calm.{calm}
 use Rattle.ls_guarded.specs.Guards.{IsKeptBy}
