@@ -11,7 +11,8 @@ async function found(trial, page, number) {
   await page.evaluate(Object.entries(bounds).map(([it, n]) => `byId('most-${it}').value = ${n}`).join());
   await trial.done(page, "byId('find').click()");
   const words = Object.entries(bounds).flatMap(([it, n]) => ["--" + it, String(n)]);
-  const printed = trial.run(["find", ...words], [text]);
+  // the page asks for ranges, so the native program is asked for one too
+  const printed = trial.run(["find", ...words, "--to", "999999"], [text]);
   trial.same("find of " + name, await trial.printed(page), printed);
   if (!printed.includes("\n%%\n")) return trial.holds("no run is shown of " + name, !await trial.isRun(page));
   const data = trial.run(["page"], [text, printed.replace(/^\/\/.*\n/gm, "")]);
@@ -42,7 +43,7 @@ module.exports = {
   async "bounds of find"(trial) {
     const page = await trial.open(), text = trial.kept("page/play/examples/counter.txt");
     const lines = ["--threads 3 --calls 1", "--calls 1 --setup 0", "--states 120", "--no-turning --no-waiting",
-      "--class 1", "--threads 2 --calls 1 --states 20 --set"];
+      "--class 1", "--new 2", "--threads 2 --calls 1 --states 20 --set"];
     for (const line of lines) {
       await trial.put(page, text);
       await page.evaluate(`takeBounds(${JSON.stringify(line)})`);
