@@ -1,3 +1,0 @@
-pub mod Chain
-pub mod Places
-pub mod Together
