@@ -37,7 +37,7 @@ pub struct Judged {
 }
 
 /// A program as an automaton has few states if it has at most so many.
-const FEW_STATES: usize = 5000;
+const FEW_STATES: usize = 32_000;
 
 /// What is told without a look at the histories, if there are more states than may be kept. The only refusal is that
 /// memory ran out, or that a store, a work or a state has no number left.
