@@ -20,7 +20,7 @@ use Rattle.ls_automaton.proofs.Ending.{noted_leaves}
 use Rattle.ls_automaton.proofs.Entries.{not_both}
 use Rattle.ls_automaton.proofs.Alike.{alike_explain, alike_runs}
 use Rattle.ls_automaton.proofs.Exact.{held_exactly}
-use Rattle.ls_automaton.proofs.Joined.{IsJoined, IsJoinedBack, joined_back, joined_like, merged_ends}
+use Rattle.ls_automaton.proofs.Joined.{IsJoined, IsJoinedBack, joined_back, joined_like}
 use Rattle.ls_automaton.proofs.Judged.{goes_if_held}
 use Rattle.ls_automaton.proofs.Numbers.{explained_within, is_explained, is_linearizable, numbers_once}
 use Rattle.ls_automaton.proofs.Once.{once}
@@ -54,7 +54,7 @@ module _ (file : File) (program : Program) (bound : ℕ) (goes_on : Bool) (rows 
       let along = one_left (goes_along merged h first_held) (sym (noted_leaves merged (first_held ∷ []) h) ∙ good) in
       alike_explain (Goes merged) 0 (Goes rows) 0 (IsJoinedBack rows merged joined) (joined_back rows merged joined) h
       ((held_exactly (Goes merged) 0 merged_once h (once file program schedule)).0
-      ((goes_if_held merged (merged_ends rows merged joined are.ends) h).0 along))
+      ((goes_if_held merged merged_once h (once file program schedule)).0 along))
 
   unexplained : leaves ≡ true → IsExplainedFrom (Goes rows) 0 h → ⊥
   unexplained bad is =
@@ -62,7 +62,7 @@ module _ (file : File) (program : Program) (bound : ℕ) (goes_on : Bool) (rows 
       let held = (held_exactly (Goes merged) 0 merged_once h (once file program schedule)).1
       (alike_explain (Goes rows) 0 (Goes merged) 0 (IsJoined rows merged joined) (joined_like rows merged joined) h
       is) in
-      not_both ((goes_if_held merged (merged_ends rows merged joined are.ends) h).1 held) none
+      not_both ((goes_if_held merged merged_once h (once file program schedule)).1 held) none
 
   -- where one is left, the history is linearizable
   pub good_is : leaves ≡ false → IsLinearizable file program h

@@ -32,7 +32,7 @@ pub gone_through : {A B : Type 0} (f : A → List B) (found old : List B) (xs : 
 gone_through f found old xs i few is =
     sym (append-nil found) ∙ ap (λ l. found ++ flat_map f l) (sym (drop_all xs i few)) ∙ is
 
-helds_there : (pairs : List Pair) (p : Pair) → Contains pairs p → Contains (helds_of pairs) (held_of p)
+pub helds_there : (pairs : List Pair) (p : Pair) → Contains pairs p → Contains (helds_of pairs) (held_of p)
 helds_there [] p there = absurd (there_not p there)
 helds_there (q ∷ pairs) p there = by_place (helds_there pairs p) (there_cases q p pairs there)
   where
@@ -42,7 +42,7 @@ helds_there (q ∷ pairs) p there = by_place (helds_there pairs p) (there_cases 
         (there_first (held_of q) (helds_of pairs))
     by_place more (inr later_on) = there_later (held_of q) (held_of p) (helds_of pairs) (more later_on)
 
-of_helds : (pairs : List Pair) (h : Held) → Contains (helds_of pairs) h → (p : Pair) × Contains pairs p ×
+pub of_helds : (pairs : List Pair) (h : Held) → Contains (helds_of pairs) h → (p : Pair) × Contains pairs p ×
     (held_of p ≡ h)
 of_helds [] h there = absurd (there_not h there)
 of_helds (q ∷ pairs) h there = by_place (of_helds pairs h) (there_cases (held_of q) h (helds_of pairs) there)
@@ -102,7 +102,7 @@ split_all all rest once none s h there = by_place (s.lost h there)
     by_place (inl more) = absurd (there_not h (subst (λ l. Contains (helds_of l) h) none more))
     by_place (inr once_there) = once_there
 
-helds_both : (xs ys : List Pair) → helds_of (xs ++ ys) ≡ helds_of xs ++ helds_of ys
+pub helds_both : (xs ys : List Pair) → helds_of (xs ++ ys) ≡ helds_of xs ++ helds_of ys
 helds_both [] ys = refl
 helds_both (x ∷ xs) ys = ap (λ l. held_of x ∷ l) (helds_both xs ys)
 
@@ -168,6 +168,11 @@ module _ (all before rest once : List Pair) (q : Pair) (is : before ≡ rest ++ 
           by_last (inl same) = subst (Contains (helds_of all)) same (s.old (held_of q) own_before)
           by_last (inr none) = absurd (there_not h none)
 
+pub both_ways : (a b : Bool) → (a ≡ true → b ≡ true) → (b ≡ true → a ≡ true) → a ≡ b
+both_ways true b f g = sym (f refl)
+both_ways false true f g = g refl
+both_ways false false f g = refl
+
 module _ (rows : List (Vec Outcome Global)) where
   -- where a call has not taken effect, and steps are left
   pub ends_further : (k : ℕ) (e : Event) (p : Held) → (k ≡ 0 → ⊥) →
@@ -204,17 +209,12 @@ module _ (rows : List (Vec Outcome Global)) where
       leaves_none rows (flat_map (moved rows e) pairs) ≡ later (leaves_none rows pairs) e
   moved_judge pairs e = sym (fun_ext (λ h. later_is pairs e h ∙ ap not (any_moved pairs e h)))
 
-  one_goes : (pairs others : List Held) (h : List Event) →
+  pub one_goes : (pairs others : List Held) (h : List Event) →
       ((p : Held) → Contains pairs p → Contains others p) → list_any (goes_along rows h) pairs ≡ true →
       list_any (goes_along rows h) others ≡ true
   one_goes pairs others h among any =
       let r = any_there (goes_along rows h) pairs any in
       there_any (goes_along rows h) others r.0 (among r.0 r.1) r.2
-
-  both_ways : (a b : Bool) → (a ≡ true → b ≡ true) → (b ≡ true → a ≡ true) → a ≡ b
-  both_ways true b f g = sym (f refl)
-  both_ways false true f g = g refl
-  both_ways false false f g = refl
 
   -- how often a pair stands there, and where, is all one
   pub same_judge : (pairs others : List Held) → ((p : Held) → Contains pairs p → Contains others p) →

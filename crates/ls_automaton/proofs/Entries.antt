@@ -37,7 +37,7 @@ not_both t f = absurd (apart (sym t ∙ f))
     apart : true ≡ false → ⊥
     apart h = cc
 
-and_parts : (a b : Bool) → (a && b) ≡ true → (a ≡ true) × (b ≡ true)
+pub and_parts : (a b : Bool) → (a && b) ≡ true → (a ≡ true) × (b ≡ true)
 and_parts true b h = (refl, h)
 and_parts false b h = absurd (isnt h)
   where

@@ -28,6 +28,10 @@ so_more h h' g g' a b Idle so = tt
 so_more h h' g g' a b (Open c) so = (so.0, a c so.1)
 so_more h h' g g' a b (Took e) so = b e so
 
+-- a history with one event less
+pub once_first : (h : List Event) (x : Event) → AreOnce (h ++ x ∷ []) → AreOnce h
+once_first h x once e i j at there = once e i j (get_of_first h (x ∷ []) i e at) (get_of_first h (x ∷ []) j e there)
+
 module _ {S : Type 0} (Leads : S → Event → Event → S → Type 0) where
   pub serially_more : (s m n : S) (g : List Event) (c e : Event) → Serially Leads s g m → IsCall c → IsEndOf c e →
       Leads m c e n → Serially Leads s (g ++ c ∷ e ∷ []) n
@@ -266,9 +270,6 @@ module _ {S : Type 0} (Leads : S → Event → Event → S → Type 0) where
               k.explains.order x i j call (get_first h (e ∷ []) i x lt at) there y
               (subst (λ l. Contains l y) (take_first h (e ∷ []) i (omega (arith, lt))) early) ends
           by_place (inr (last, is)) y early ends = absurd (not_both x call (subst IsEnd is is_end))
-
-  once_first : (h : List Event) (x : Event) → AreOnce (h ++ x ∷ []) → AreOnce h
-  once_first h x once e i j at there = once e i j (get_of_first h (x ∷ []) i e at) (get_of_first h (x ∷ []) j e there)
 
   pub linked : (first : S) → RunsAreOnce Leads first → (h : List Event) (p : Pair S) → AreOnce h →
       Holds Leads first h p → IsLinked first h p

@@ -23,8 +23,7 @@ use Rattle.std.proofs.lemmas.Bool.{cases_lt}
 use Rattle.std.specs.declared.vec.Vec.{Vec}
 use Rattle.std.specs.declared.alloc.Global.{Global}
 use Rattle.ls_events.specs.declared.event.Event.{Event}
-use Rattle.ls_serial.specs.Serial.{IsEnd}
-use Rattle.ls_serial.proofs.Lists.{is_get}
+use Rattle.ls_serial.proofs.Lists.{is_get, some_is}
 use Rattle.ls_linearizable.proofs.There.{there_cases, there_first, there_later, there_not}
 use Rattle.ls_automaton.specs.declared.outcome.Outcome.{Outcome}
 use Rattle.ls_automaton.specs.Alike.{IsLike}
@@ -33,36 +32,6 @@ use Rattle.ls_automaton.specs.Merged.{AreAlikeIn, AreMerged, IsAlikeIn, row_in}
 use Rattle.ls_automaton.specs.Tables.{Goes}
 
 -- ---- the tests
-
-abbrev pub AreFirstSame : List Outcome → List Outcome → ℕ → Type 0
-AreFirstSame row other i = (k : ℕ) → k < i → slice_get row k ≡ slice_get other k
-
-pub first_same_more : (row other : List Outcome) (i : ℕ) (d d' : Outcome) → AreFirstSame row other i →
-    i < length row → i < length other → slice_index_or row i d ≡ slice_index_or other i d' →
-    AreFirstSame row other (i + 1)
-first_same_more row other i d d' before in_row in_other same k less = by_place (cases_lt k i)
-  where
-    by_place : (k < i) ⊎ (i ≤ k) → slice_get row k ≡ slice_get other k
-    by_place (inl lt) = before k lt
-    by_place (inr past) =
-        let is : k ≡ i = omega (arith, past, less) in
-        ap (slice_get row) is ∙ is_get row i d in_row ∙ ap Some same ∙ sym (is_get other i d' in_other)
-        ∙ ap (slice_get other) (sym is)
-
-some_is : {A : Type 0} {x y : A} → Some x ≡ Some y → x ≡ y
-some_is h = cc
-
-pub first_same_all : (row other : List Outcome) (i : ℕ) → length row ≡ length other → length row ≤ i →
-    AreFirstSame row other i → row ≡ other
-first_same_all [] [] i long all same = refl
-first_same_all [] (p ∷ other) i long all same = absurd (omega (arith, long))
-first_same_all (o ∷ row) [] i long all same = absurd (omega (arith, long))
-first_same_all (o ∷ row) (p ∷ other) zero long all same = absurd (omega (arith, all))
-first_same_all (o ∷ row) (p ∷ other) (suc i) long all same =
-    let one : o ≡ p = some_is (same 0 (omega arith)) in
-    let more = first_same_all row other i (omega (arith, long)) (omega (arith, all))
-    (λ k less. same (suc k) (omega (arith, less))) in
-    ap (λ x. x ∷ row) one ∙ ap (λ l. p ∷ l) more
 
 abbrev pub AreFirstAlike : List (Vec Outcome Global) → List Outcome → List Outcome → ℕ → Type 0
 AreFirstAlike rows row other i = (k : ℕ) (o p : Outcome) → k < i → slice_get row k ≡ Some o →
@@ -219,11 +188,3 @@ module _ (rows merged : List (Vec Outcome Global)) (are : AreMerged rows merged)
           p.state,
         );
   }
-
-  pub merged_ends : ((n : ℕ) (row : Vec Outcome Global) (o : Outcome) → slice_get rows n ≡ Some row →
-      Contains row.items o → IsEnd o.end) → (n : ℕ) (row : Vec Outcome Global) (o : Outcome) →
-      slice_get merged n ≡ Some row → Contains row.items o → IsEnd o.end
-  merged_ends ends n row o at there =
-      let p = back (row_in rows n) (row_in merged n) o (are n) (subst (λ r. Contains (row_of r) o) (sym at) there) in
-      let g = in_goes rows n o.end p.outcome p.there in
-      subst IsEnd (sym p.end) (ends n g.row p.outcome g.at g.there)

@@ -1,36 +1,57 @@
 -- A pair is left, as a list, exactly if the observer holds one.
 use Rattle.std.proofs.Common.{◌≡◌, ◌↔◌, ◌⊎◌, inl, inr, ℕ, zero, suc, ◌<◌, ◌≤◌, Bool, true, false, not}
-use Rattle.std.proofs.Common.{if◌then◌else◌, List, [], ◌∷◌, ◌++◌, Option, Some, None, Contains, length, slice_get}
-use Rattle.std.proofs.Common.{refl, sym, ap, ◌∙◌, subst, arith, append_assoc, append-nil}
+use Rattle.std.proofs.Common.{◌&&◌, if◌then◌else◌, List, [], ◌∷◌, ◌++◌, Option, Some, None, is_none, Contains, length}
+use Rattle.std.proofs.Common.{slice_get, refl, sym, ap, ◌∙◌, subst, arith, append_assoc, append-nil}
 use Rattle.std.proofs.Math.Path.{fun_ext}
 use Rattle.std.specs.List.{flat_map, list_any}
 use Rattle.std.specs.declared.vec.Vec.{Vec}
 use Rattle.std.specs.declared.alloc.Global.{Global}
 use Rattle.ls_events.specs.declared.event.Event.{Event}
 use Rattle.ls_serial.specs.Serial.{IsCall, IsEnd, IsEndOf, is_called}
+use Rattle.ls_linearizable.specs.Resting.{AreOnce}
 use Rattle.ls_linearizable.proofs.Same.{event_test}
 use Rattle.ls_linearizable.proofs.There.{any_there, there_any, there_cases, there_first, there_later, there_not}
 use Rattle.ls_automaton.specs.declared.outcome.Outcome.{Outcome}
 use Rattle.ls_automaton.specs.Automaton.{Idle, Open, Took, Pair, status_of, with_status, Takes, Done, Take, Holds}
 use Rattle.ls_automaton.specs.Automaton.{Starts, Calls, Ends}
-use Rattle.ls_automaton.specs.Held.{Held, begun, ended, ends, entry_at, first_held, further, goes_along, has_taken}
-use Rattle.ls_automaton.specs.Held.{is_at}
-use Rattle.ls_automaton.specs.Held.{is_noted, is_open, kept, row_of, taken, taking}
+use Rattle.ls_automaton.specs.Held.{Held, begins, begun, begun_held, ended, ends, entry_at, first_held, further}
+use Rattle.ls_automaton.specs.Held.{goes_along, has_taken, is_at, is_noted, is_open, kept, may_take, row_of, taken}
+use Rattle.ls_automaton.specs.Held.{taking}
+use Rattle.ls_automaton.specs.Laws.{RunsAreOnce}
 use Rattle.ls_automaton.specs.Tables.{Goes}
+use Rattle.ls_automaton.proofs.Holding.{IsLinked, IsSo, linked, once_first}
 use Rattle.ls_automaton.proofs.Lists.{in_both, in_first, in_second}
-use Rattle.ls_automaton.proofs.Entries.{as_called, as_status, begun_entries, changed_status, ended_entries, found_at}
-use Rattle.ls_automaton.proofs.Entries.{not_both, opens, opens_few, opens_less, pair_of, statuses, taken_entries}
+use Rattle.ls_automaton.proofs.Entries.{and_parts, as_called, as_status, begun_entries, changed_status, ended_entries}
+use Rattle.ls_automaton.proofs.Entries.{found_at, not_both, opens, opens_few, opens_less, pair_of, statuses}
+use Rattle.ls_automaton.proofs.Entries.{taken_entries}
+use Rattle.ls_automaton.proofs.Runs.{apart, call_of, same_call, serially_serial}
 
 -- ---- what an entry says
 
-record IsOpenBy (o : Option Event) : Type 0 where
-  call : Event
-  is : o ≡ Some call
-  is_call : IsCall call
+not_true : (b : Bool) → not b ≡ true → b ≡ false
+not_true true h = absurd cc
+not_true false h = refl
+
+pub record IsOpenBy (o : Option Event) : Type 0 where
+  pub call : Event
+  pub is : o ≡ Some call
+  pub is_call : IsCall call
 
 open_by : (o : Option Event) → is_open o ≡ true → IsOpenBy o
 open_by None h = absurd cc
 open_by (Some x) h = record { call = x; is = refl; is_call = h }
+
+-- an outcome leads on from where its call is open, if it ends with an end
+pub may_by : (p : Held) (o : Outcome) → may_take p o ≡ true →
+    IsOpenBy (entry_at p.pending o.end.thread o.end.call) × IsEnd o.end
+may_by p o h =
+    let parts = and_parts (is_open (entry_at p.pending o.end.thread o.end.call)) (not (is_called o.end.happening)) h in
+    (open_by (entry_at p.pending o.end.thread o.end.call) parts.0, not_true (is_called o.end.happening) parts.1)
+
+pub may_take_by : (p : Held) (o : Outcome) (c : Event) → entry_at p.pending o.end.thread o.end.call ≡ Some c →
+    IsCall c → IsEnd o.end → may_take p o ≡ true
+may_take_by p o c there call end =
+    ap (λ b. b && not (is_called o.end.happening)) (ap is_open there ∙ call) ∙ ap not end
 
 record IsTakenBy (o : Option Event) : Type 0 where
   end : Event
@@ -39,11 +60,7 @@ record IsTakenBy (o : Option Event) : Type 0 where
 
 taken_by : (o : Option Event) → has_taken o ≡ true → IsTakenBy o
 taken_by None h = absurd cc
-taken_by (Some x) h = record { end = x; is = refl; is_end = by_test (is_called x.happening) h }
-  where
-    by_test : (b : Bool) → not b ≡ true → b ≡ false
-    by_test true h = absurd cc
-    by_test false h = refl
+taken_by (Some x) h = record { end = x; is = refl; is_end = not_true (is_called x.happening) h }
 
 -- of a status its entry
 opened : (o : Option Event) (c : Event) → as_status o ≡ Open c → (o ≡ Some c) × IsCall c
@@ -115,16 +132,31 @@ module _ {A B : Type 0} (f : A → List B) where
       by_place more (inl is) = in_first (f z) (flat_map f xs) y (subst (λ w. Contains (f w) y) (sym is) has)
       by_place more (inr there) = in_second (f z) (flat_map f xs) y (more there)
 
-only : {A : Type 0} (x y : A) → Contains (x ∷ []) y → x ≡ y
+pub only : {A : Type 0} (x y : A) → Contains (x ∷ []) y → x ≡ y
 only x y there = by_place (there_cases x y [] there)
   where
     by_place : (x ≡ y) ⊎ Contains [] y → x ≡ y
     by_place (inl is) = is
     by_place (inr there) = absurd (there_not y there)
 
-module _ (rows : List (Vec Outcome Global))
-    (are_ends : (n : ℕ) (row : Vec Outcome Global) (o : Outcome) → slice_get rows n ≡ Some row → Contains row.items o →
-    IsEnd o.end) where
+-- ---- a call begins
+
+pub begins_only : (c : Event) (p q : Held) → Contains (begins c p) q →
+    (entry_at p.pending c.thread c.call ≡ None) × (begun_held c p ≡ q)
+begins_only c p q there = by_entry (entry_at p.pending c.thread c.call) refl there
+  where
+    by_entry : (o : Option Event) → entry_at p.pending c.thread c.call ≡ o →
+        Contains (if is_none o then begun_held c p ∷ [] else []) q →
+        (entry_at p.pending c.thread c.call ≡ None) × (begun_held c p ≡ q)
+    by_entry None none there = (none, only (begun_held c p) q there)
+    by_entry (Some x) is there = absurd (there_not q there)
+
+pub begins_new : (c : Event) (p : Held) → entry_at p.pending c.thread c.call ≡ None →
+    Contains (begins c p) (begun_held c p)
+begins_new c p none = subst (λ o. Contains (if is_none o then begun_held c p ∷ [] else []) (begun_held c p))
+    (sym none) (there_first (begun_held c p) [])
+
+module _ (rows : List (Vec Outcome Global)) where
   abbrev goes : ℕ → Event → Event → ℕ → Type 0
   goes = Goes rows
 
@@ -162,17 +194,17 @@ module _ (rows : List (Vec Outcome Global))
     where
       by_open : ((r : Held) → Contains (ends rows k e r) q → IsLeft e r q) →
           has_taken (entry_at p.pending e.thread e.call) ≡ false → (o : Outcome) →
-          Contains (row_of (slice_get rows p.state)) o → (b : Bool) →
-          is_open (entry_at p.pending o.end.thread o.end.call) ≡ b →
+          Contains (row_of (slice_get rows p.state)) o → (b : Bool) → may_take p o ≡ b →
           Contains (if b then ends rows k e (taking p o) else []) q → IsLeft e p q
       by_open more none o inside false h there = absurd (there_not q there)
       by_open more none o inside true h there =
-          let y = open_by (entry_at p.pending o.end.thread o.end.call) h in
+          let may = may_by p o h in
+          let y = may.0 in
           let at = found_at p.pending o.end.thread o.end.call y.call y.is in
           let row = in_row (slice_get rows p.state) o inside in
           let left = more (taking p o) there in
           let is_end : IsEndOf y.call o.end = record {
-            ends = are_ends p.state row.0 o row.1 row.2;
+            ends = may.1;
             thread = at.0;
             call = at.1;
           } in
@@ -200,7 +232,7 @@ module _ (rows : List (Vec Outcome Global))
       by_test more true h there = kept_left e p q end there
       by_test more false h there =
           let r = of_flat (further (ends rows k e) p) (row_of (slice_get rows p.state)) q there in
-          by_open more h r.0 r.1 (is_open (entry_at p.pending r.0.end.thread r.0.end.call)) refl r.2
+          by_open more h r.0 r.1 (may_take p r.0) refl r.2
 
   -- and the other way round
   record IsFound (k : ℕ) (e : Event) (p : Held) (q : Pair ℕ) : Type 0 where
@@ -250,7 +282,7 @@ module _ (rows : List (Vec Outcome Global))
       let state : p'.state ≡ p.state = ap (λ (z : Pair ℕ). z.state) is in
       by_steps k few (λ j le. ends_found e (record { state = m; calls = with_status p'.calls c (Took f) })
       q more took_e j
-      (taking p o) same le) own less o refl refl state
+      (taking p o) same le) (may_take_by p o c own.0 own.1 end.ends) less o refl refl state
     where
       none_taken : (z : Option Event) → ((g : Event) → as_status z ≡ Took g → ⊥) → has_taken z ≡ false
       none_taken None not_taken = refl
@@ -262,10 +294,10 @@ module _ (rows : List (Vec Outcome Global))
 
       by_steps : (k : ℕ) → opens p.pending ≤ k →
           ((j : ℕ) → opens (taken f p.pending) ≤ j → IsFound j e (taking p (record { end = f; after = m })) q) →
-          (entry_at p.pending f.thread f.call ≡ Some c) × IsCall c → opens (taken f p.pending) < opens p.pending →
+          may_take p (record { end = f; after = m }) ≡ true → opens (taken f p.pending) < opens p.pending →
           (o : Outcome) → o.end ≡ f → o.after ≡ m → p'.state ≡ p.state → IsFound k e p q
-      by_steps zero few later_on own less o same_end same_after state = absurd (omega (arith, few, less))
-      by_steps (suc j) few later_on own less o same_end same_after state =
+      by_steps zero few later_on may less o same_end same_after state = absurd (omega (arith, few, less))
+      by_steps (suc j) few later_on may less o same_end same_after state =
           let r = later_on j (omega (arith, few, less)) in
           let quiet = none_taken (entry_at p.pending e.thread e.call)
           (λ g h. none g (ap (λ (z : Pair ℕ). status_of z.calls e) is ∙ h)) in
@@ -281,7 +313,7 @@ module _ (rows : List (Vec Outcome Global))
                 (record { state = r.pair.state; pending = ended e r.pair.pending }) inside
                 (subst (λ b. Contains (if b then ends rows j e (taking p (record { end = f; after = m })) else [])
                 (record { state = r.pair.state; pending = ended e r.pair.pending }))
-                (sym (ap is_open own.0 ∙ own.1)) r.there));
+                (sym may) r.there));
             is = r.is;
           }
 
@@ -298,16 +330,13 @@ module _ (rows : List (Vec Outcome Global))
 
       by_event : ((q : Held) → Holds goes 0 (g ++ e ∷ []) (pair_of q) → goes_along rows h q ≡ true →
           (z : Pair ℕ) × Holds goes 0 ((g ++ e ∷ []) ++ h) z) → (b : Bool) → is_called e.happening ≡ b →
-          list_any (goes_along rows h) (if b
-          then record { state = p.state; pending = begun e p.pending } ∷ []
-          else ends rows (length p.pending) e p) ≡ true →
+          list_any (goes_along rows h) (if b then begins e p else ends rows (length p.pending) e p) ≡ true →
           (q : Pair ℕ) × Holds goes 0 (g ++ e ∷ h) q
       by_event more true call any =
-          let r = any_there (goes_along rows h) (record { state = p.state; pending = begun e p.pending } ∷ []) any in
-          let new : Held = record { state = p.state; pending = begun e p.pending } in
-          again (more new (subst (Holds goes 0 (g ++ e ∷ []))
+          let r = any_there (goes_along rows h) (begins e p) any in
+          again (more (begun_held e p) (subst (Holds goes 0 (g ++ e ∷ []))
           (sym (begun_pair e p call)) (Calls g (pair_of p) e held call))
-          (ap (goes_along rows h) (only new r.0 r.1) ∙ r.2))
+          (ap (goes_along rows h) (begins_only e p r.0 r.1).1 ∙ r.2))
       by_event more false end any =
           let r = any_there (goes_along rows h) (ends rows (length p.pending) e p) any in
           let left = ends_left (length p.pending) e p r.0 end r.1 in
@@ -315,31 +344,57 @@ module _ (rows : List (Vec Outcome Global))
           (sym (ended_pair e left.pair) ∙ ap pair_of left.is)
           (Ends g (pair_of p) (pair_of left.pair) e held left.takes end left.took)) r.2)
 
-  goes_before : (g : List Event) (q : Pair ℕ) → Holds goes 0 g q → (h : List Event) →
+  -- the call that begins now isn't pending, if no event comes twice
+  none_pending : RunsAreOnce goes 0 → (g : List Event) (p : Pair ℕ) (c : Event) (r : Held) → IsCall c →
+      AreOnce (g ++ c ∷ []) → Holds goes 0 g p → pair_of r ≡ p → entry_at r.pending c.thread c.call ≡ None
+  none_pending runs g p c r call once held is = by_entry (entry_at r.pending c.thread c.call) refl
+    where
+      k : IsLinked goes 0 g p
+      k = linked goes 0 runs g p (once_first g c once) held
+
+      not_called : (d : Event) → IsCall d → d.thread ≡ c.thread → d.call ≡ c.call → Contains g d → ⊥
+      not_called d d_call t n there =
+          apart g (c ∷ []) c once (subst (Contains g) (same_call d c d_call call t n) there) (there_first c [])
+
+      by_status : (x : Event) → x.thread ≡ c.thread → x.call ≡ c.call → (b : Bool) → is_called x.happening ≡ b →
+          IsSo g k.run (as_called x b) → ⊥
+      by_status x t n true x_call so = not_called x so.0 t n so.1
+      by_status x t n false end there =
+          let w = call_of k.run x (serially_serial goes 0 p.state k.run k.serially) there end in
+          not_called w.call w.is_call (sym w.ends.thread ∙ t) (sym w.ends.call ∙ n)
+          (k.explains.called w.call w.there w.is_call)
+
+      by_entry : (o : Option Event) → entry_at r.pending c.thread c.call ≡ o →
+          entry_at r.pending c.thread c.call ≡ None
+      by_entry None none = none
+      by_entry (Some x) there =
+          let at = found_at r.pending c.thread c.call x there in
+          let status : p.calls c.thread c.call ≡ as_called x (is_called x.happening) =
+          ap (λ (z : Pair ℕ). z.calls c.thread c.call) (sym is) ∙ ap as_status there in
+          absurd (by_status x (sym at.0) (sym at.1) (is_called x.happening) refl
+          (subst (IsSo g k.run) status (k.says c.thread c.call)))
+
+  goes_before : RunsAreOnce goes 0 → (g : List Event) (q : Pair ℕ) → AreOnce g → Holds goes 0 g q → (h : List Event) →
       ((p : Held) → pair_of p ≡ q → goes_along rows h p ≡ true) → goes_along rows (g ++ h) first_held ≡ true
-  goes_before g q Starts h along = along first_held refl
-  goes_before g q (Calls g' p c held call) h along =
+  goes_before runs g q once Starts h along = along first_held refl
+  goes_before runs g q once (Calls g' p c held call) h along =
       ap (λ l. goes_along rows l first_held) (append_assoc g' (c ∷ []) h)
-      ∙ goes_before g' p held (c ∷ h) (λ r is. by_call r is (is_called c.happening) call)
+      ∙ goes_before runs g' p (once_first g' c once) held (c ∷ h) (λ r is. by_call r is (is_called c.happening) call)
     where
       by_call : (r : Held) → pair_of r ≡ p → (b : Bool) → b ≡ true →
-          list_any (goes_along rows h) (if b
-          then record { state = r.state; pending = begun c r.pending } ∷ []
-          else ends rows (length r.pending) c r) ≡ true
+          list_any (goes_along rows h) (if b then begins c r else ends rows (length r.pending) c r) ≡ true
       by_call r is true same =
-          let new : Held = record { state = r.state; pending = begun c r.pending } in
-          there_any (goes_along rows h) (new ∷ []) new (there_first new [])
-          (along new (begun_pair c r call
+          there_any (goes_along rows h) (begins c r) (begun_held c r)
+          (begins_new c r (none_pending runs g' p c r call once held is))
+          (along (begun_held c r) (begun_pair c r call
           ∙ ap (λ (z : Pair ℕ). record { state = z.state; calls = with_status z.calls c (Open c) }) is))
       by_call r is false same = absurd (not_both same refl)
-  goes_before g q (Ends g' p z e held takes end took_e) h along =
+  goes_before runs g q once (Ends g' p z e held takes end took_e) h along =
       ap (λ l. goes_along rows l first_held) (append_assoc g' (e ∷ []) h)
-      ∙ goes_before g' p held (e ∷ h) (λ r is. by_end r is (is_called e.happening) end)
+      ∙ goes_before runs g' p (once_first g' e once) held (e ∷ h) (λ r is. by_end r is (is_called e.happening) end)
     where
       by_end : (r : Held) → pair_of r ≡ p → (b : Bool) → b ≡ false →
-          list_any (goes_along rows h) (if b
-          then record { state = r.state; pending = begun e r.pending } ∷ []
-          else ends rows (length r.pending) e r) ≡ true
+          list_any (goes_along rows h) (if b then begins e r else ends rows (length r.pending) e r) ≡ true
       by_end r is true no_call = absurd (not_both refl no_call)
       by_end r is false no_call =
           let f = ends_found e p z takes took_e (length r.pending) r (sym is) (opens_few r.pending) in
@@ -348,9 +403,10 @@ module _ (rows : List (Vec Outcome Global))
           (along new (ended_pair e f.pair
           ∙ ap (λ (y : Pair ℕ). record { state = y.state; calls = with_status y.calls e Idle }) f.is))
 
-  pub goes_if_held : (h : List Event) → (goes_along rows h first_held ≡ true) ↔ ((p : Pair ℕ) × Holds goes 0 h p)
-  goes_if_held h = (
+  pub goes_if_held : RunsAreOnce goes 0 → (h : List Event) → AreOnce h →
+      (goes_along rows h first_held ≡ true) ↔ ((p : Pair ℕ) × Holds goes 0 h p)
+  goes_if_held runs h once = (
     λ along. held_after h [] first_held Starts along,
     λ p. ap (λ l. goes_along rows l first_held) (sym (append-nil h))
-        ∙ goes_before h p.0 p.1 [] (λ r is. refl),
+        ∙ goes_before runs h p.0 once p.1 [] (λ r is. refl),
   )

@@ -1,9 +1,9 @@
--- Elements of lists that are put one behind another.
+-- Elements of lists that are put one behind another, and lists that are the same.
 use Rattle.std.proofs.Common.{◌≡◌, ◌⊎◌, inl, inr, ℕ, zero, suc, ◌+◌, ◌<◌, ◌≤◌, List, [], ◌∷◌, ◌++◌, Some, None}
-use Rattle.std.proofs.Common.{Contains, length}
-use Rattle.std.proofs.Common.{slice_get, take, refl, ap, ◌∙◌, subst, arith}
+use Rattle.std.proofs.Common.{Contains, length, slice_get, slice_index_or, take, refl, sym, ap, ◌∙◌, subst, arith}
+use Rattle.std.proofs.lemmas.Bool.{cases_lt}
 use Rattle.ls_linearizable.proofs.There.{there_cases, there_first, there_later, there_not}
-use Rattle.ls_serial.proofs.Lists.{get_contains, contains_get, get_take, take_get, some_is, get_within}
+use Rattle.ls_serial.proofs.Lists.{get_contains, contains_get, get_take, take_get, some_is, get_within, is_get}
 
 module _ {A : Type 0} where
   pub in_first : (xs ys : List A) (x : A) → Contains xs x → Contains (xs ++ ys) x
@@ -118,3 +118,30 @@ module _ {A : Type 0} where
   pub append_assoc : (xs ys zs : List A) → (xs ++ ys) ++ zs ≡ xs ++ (ys ++ zs)
   append_assoc [] ys zs = refl
   append_assoc (x ∷ xs) ys zs = ap (λ l. x ∷ l) (append_assoc xs ys zs)
+
+  -- the first elements are the same, so many
+  abbrev pub AreFirstSame : List A → List A → ℕ → Type 0
+  AreFirstSame xs ys i = (k : ℕ) → k < i → slice_get xs k ≡ slice_get ys k
+
+  pub first_same_more : (xs ys : List A) (i : ℕ) (d d' : A) → AreFirstSame xs ys i → i < length xs → i < length ys →
+      slice_index_or xs i d ≡ slice_index_or ys i d' → AreFirstSame xs ys (i + 1)
+  first_same_more xs ys i d d' before in_xs in_ys same k less = by_place (cases_lt k i)
+    where
+      by_place : (k < i) ⊎ (i ≤ k) → slice_get xs k ≡ slice_get ys k
+      by_place (inl lt) = before k lt
+      by_place (inr past) =
+          let is : k ≡ i = omega (arith, past, less) in
+          ap (slice_get xs) is ∙ is_get xs i d in_xs ∙ ap Some same ∙ sym (is_get ys i d' in_ys)
+          ∙ ap (slice_get ys) (sym is)
+
+  pub first_same_all : (xs ys : List A) (i : ℕ) → length xs ≡ length ys → length xs ≤ i → AreFirstSame xs ys i →
+      xs ≡ ys
+  first_same_all [] [] i long all same = refl
+  first_same_all [] (y ∷ ys) i long all same = absurd (omega (arith, long))
+  first_same_all (x ∷ xs) [] i long all same = absurd (omega (arith, long))
+  first_same_all (x ∷ xs) (y ∷ ys) zero long all same = absurd (omega (arith, all))
+  first_same_all (x ∷ xs) (y ∷ ys) (suc i) long all same =
+      let one : x ≡ y = some_is (same 0 (omega arith)) in
+      let more = first_same_all xs ys i (omega (arith, long)) (omega (arith, all))
+      (λ k less. same (suc k) (omega (arith, less))) in
+      ap (λ z. z ∷ xs) one ∙ ap (λ l. y ∷ l) more

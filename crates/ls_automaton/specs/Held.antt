@@ -1,6 +1,6 @@
 -- The pairs of an observer as lists, event by event.
-use Rattle.std.specs.Prelude.{ℕ, zero, suc, nat_eq, Bool, true, false, not, ◌&&◌, if◌then◌else◌, nat_lt}
-use Rattle.std.specs.Prelude.{List, [], ◌∷◌, ◌++◌, Option, Some, None, Contains, length, map, slice_get}
+use Rattle.std.specs.Prelude.{◌≡◌, ℕ, zero, suc, nat_eq, Bool, true, false, not, ◌&&◌, if◌then◌else◌, nat_lt}
+use Rattle.std.specs.Prelude.{List, [], ◌∷◌, ◌++◌, Option, Some, None, is_none, Contains, length, map, slice_get}
 use Rattle.std.specs.List.{filter, flat_map, list_any}
 use Rattle.std.specs.declared.vec.Vec.{Vec}
 use Rattle.std.specs.declared.alloc.Global.{Global}
@@ -44,6 +44,10 @@ begun c pending =
 abbrev pub begun_held : Event → Held → Held
 begun_held c p = record { state = p.state; pending = begun c p.pending }
 
+-- no call begins while it is pending
+abbrev pub begins : Event → Held → List Held
+begins c p = if is_none (entry_at p.pending c.thread c.call) then begun_held c p ∷ [] else []
+
 -- it has taken effect, with this end
 abbrev pub taken : Event → List Event → List Event
 taken e pending = map (λ x. if is_at e.thread e.call x then e else x) pending
@@ -67,13 +71,21 @@ kept e p = if is_noted e (entry_at p.pending e.thread e.call)
     then record { state = p.state; pending = ended e p.pending } ∷ []
     else []
 
--- a pending call takes effect
+-- whether the outcome is the end of a call that is pending and hasn't taken effect
+abbrev pub may_take : Held → Outcome → Bool
+may_take p o = is_open (entry_at p.pending o.end.thread o.end.call) && not (is_called o.end.happening)
+
+-- the call takes effect
 abbrev pub taking : Held → Outcome → Held
 taking p o = record { state = o.after; pending = taken o.end p.pending }
 
--- the outcome of a call that is pending and hasn't taken effect leads on
+-- so the pair becomes the other
+abbrev pub IsTaking : Held → Outcome → Held → Type 0
+IsTaking p o q = (may_take p o ≡ true) × (taking p o ≡ q)
+
+-- the outcome leads on, if its call may take effect
 abbrev pub further : (Held → List Held) → Held → Outcome → List Held
-further more p o = if is_open (entry_at p.pending o.end.thread o.end.call) then more (taking p o) else []
+further more p o = if may_take p o then more (taking p o) else []
 
 module _ (rows : List (Vec Outcome Global)) where
   -- What a pair becomes with this end: calls take effect, at most so many, up to the one that ends, and no further.
@@ -86,7 +98,7 @@ module _ (rows : List (Vec Outcome Global)) where
   -- what it becomes with this event
   abbrev pub moved : Event → Held → List Held
   moved e p = if is_called e.happening
-      then begun_held e p ∷ []
+      then begins e p
       else ends (length p.pending) e p
 
   -- whether a pair is left after these events
@@ -97,6 +109,22 @@ module _ (rows : List (Vec Outcome Global)) where
   -- whether none is left of these
   abbrev pub leaves_none : List Held → Verdict
   leaves_none pairs h = not (list_any (goes_along h) pairs)
+
+  -- A pair covers what it becomes where a pending call takes effect. A history that goes along from that goes along from
+  -- the pair, too.
+  pub record Covers (p q : Held) : Type 0 where
+    pub outcome : Outcome
+    pub there : Contains (row_of (slice_get rows p.state)) outcome
+    pub is : IsTaking p outcome q
+
+  -- one of the pairs covers it
+  pub record IsCovered (pairs : List Held) (q : Held) : Type 0 where
+    pub pair : Held
+    pub there : Contains pairs pair
+    pub covers : Covers pair q
+
+  abbrev pub NoneIsCovered : List Held → Type 0
+  NoneIsCovered pairs = (q : Held) → Contains pairs q → IsCovered pairs q → ⊥
 
 -- those of pairs in the code
 abbrev pub held_of : Pair → Held

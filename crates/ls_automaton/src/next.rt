@@ -1,8 +1,8 @@
 // Which events may come next. Nothing depends on it but for which of them what is left is tabled.
 
 use crate::outcome::Outcome;
-use crate::pairs::{Pair, row_at, taking_pair};
-use crate::pending::{entry, is_call, is_open};
+use crate::pairs::{Pair, may_take, row_at, taking_pair};
+use crate::pending::{entry, is_call};
 use ls_events::event::{Event, Happening};
 use ls_events::same::is_event;
 use std::alloc::{AllocError, Global};
@@ -56,7 +56,7 @@ fn add_ends(
     }
     let row = row_at(rows, pair.state);
     for i in 0..row.len() {
-        if is_open(entry(pair.pending.as_slice(), &row[i].end)) {
+        if may_take(pair, &row[i]) {
             let after = taking_pair(alloc, pair, &row[i])?;
             add_ends(alloc, rows, &after, left - 1, next)?;
         }

@@ -1,18 +1,20 @@
 // Pairs of a state and of what pending calls have done, event by event.
 
-ghost use Rattle.std.specs.Prelude.{◌≡◌, ◌++◌, Contains, IfOk, IsTrue, List, OnOk, slice_get};
+ghost use Rattle.std.specs.Prelude.{◌≡◌, ◌++◌, ◌⊎◌, Contains, Decides, IfOk, IsTrue, List, OnOk, slice_get};
 ghost use Rattle.std.specs.List.{flat_map};
 ghost use Rattle.std.specs.declared.alloc.Global.{Global};
 ghost use Rattle.std.specs.declared.vec.Vec.{Vec};
 ghost use Rattle.ls_linearizable.specs.Judging.{later};
 ghost use Rattle.ls_automaton.specs.declared.outcome.Outcome.{Outcome};
-ghost use Rattle.ls_automaton.specs.Held.{AreAmong, begun_held, ends, first_held, held_of, helds_of, kept, leaves_none};
-ghost use Rattle.ls_automaton.specs.Held.{moved, row_of, taking};
+ghost use Rattle.ls_automaton.specs.Held.{AreAmong, Covers, Held, IsCovered, IsTaking, NoneIsCovered, begins};
+ghost use Rattle.ls_automaton.specs.Held.{begun_held, ends, first_held, held_of, helds_of, kept, leaves_none};
+ghost use Rattle.ls_automaton.specs.Held.{may_take, moved, row_of, taking};
 
 use crate::event_hashing::hashed_event;
 use crate::outcome::Outcome;
 use crate::pending::{
-    entry, has_taken, is_call, is_noted, is_open, with_call, with_effect, without_call,
+    entry, has_taken, is_call, is_noted, is_open, is_with_effect, with_call, with_effect,
+    without_call,
 };
 use ls_events::event::Event;
 use ls_events::same::are_same_events;
@@ -46,6 +48,29 @@ fn begun_pair(alloc: Global, pair: &Pair, call: &Event) -> Result<Pair, AllocErr
         state: pair.state,
         pending,
     })
+}
+
+/// Adds what a pair becomes where a call begins, if it isn't pending. The only refusal is that memory ran out.
+fn add_begun(
+    alloc: Global,
+    pair: &Pair,
+    call: &Event,
+    found: &mut Vec<Pair>,
+) -> Result<(), AllocError>
+    ensures { OnOk result (helds_of found.new.items ≡ helds_of found.old.items ++ begins call.now (held_of pair.now)) }
+{
+    if entry(pair.pending.as_slice(), call).is_none() {
+        let begun = begun_pair(alloc, pair, call)?;
+        found.push(begun)?;
+    }
+    Ok(())
+}
+
+/// Whether an outcome is the end of a call that is pending and hasn't taken effect.
+pub(crate) fn may_take(pair: &Pair, outcome: &Outcome) -> bool
+    ensures { result ≡ may_take (held_of pair.now) outcome.now }
+{
+    is_open(entry(pair.pending.as_slice(), &outcome.end)) && !is_call(&outcome.end)
 }
 
 /// What a pair becomes where a call takes effect. The only refusal is that memory ran out.
@@ -108,7 +133,7 @@ fn add_ends(
     }
     let row = row_at(rows, pair.state);
     for i in 0..row.len() {
-        if is_open(entry(pair.pending.as_slice(), &row[i].end)) {
+        if may_take(pair, &row[i]) {
             let next = taking_pair(alloc, pair, &row[i])?;
             add_ends(alloc, rows, &next, end, left - 1, found)?;
         }
@@ -128,9 +153,7 @@ fn add_moved(
         helds_of found.old.items ++ moved rows.now event.now (held_of pair.now)) }
 {
     if is_call(event) {
-        let begun = begun_pair(alloc, pair, event)?;
-        found.push(begun)?;
-        return Ok(());
+        return add_begun(alloc, pair, event, found);
     }
     add_ends(alloc, rows, pair, event, pair.pending.len(), found)
 }
@@ -208,19 +231,92 @@ fn each_once(alloc: Global, pairs: Vec<Pair>) -> Result<Vec<Pair>, AllocError>
     Ok(once)
 }
 
-/// What is left of pairs after an event. The only refusal is that memory ran out.
+/// Whether a pair becomes the other where the call of an outcome takes effect.
+fn is_taking(pair: &Pair, outcome: &Outcome, other: &Pair) -> bool
+    ensures { Decides result (IsTaking (held_of pair.now) outcome.now (held_of other.now)) }
+{
+    outcome.after == other.state
+        && may_take(pair, outcome)
+        && is_with_effect(
+            pair.pending.as_slice(),
+            &outcome.end,
+            other.pending.as_slice(),
+        )
+}
+
+/// Whether a pair covers the other.
+fn covers(rows: &[Vec<Outcome>], pair: &Pair, other: &Pair) -> bool
+    ensures { Decides result (Covers rows.now (held_of pair.now) (held_of other.now)) }
+{
+    let row = row_at(rows, pair.state);
+    for i in 0..row.len() {
+        if is_taking(pair, &row[i], other) {
+            return true;
+        }
+    }
+    false
+}
+
+/// Whether one of these pairs covers the other.
+fn is_covered(rows: &[Vec<Outcome>], pairs: &[Pair], other: &Pair) -> bool
+    ensures { Decides result (IsCovered rows.now (helds_of pairs.now) (held_of other.now)) }
+{
+    for i in 0..pairs.len() {
+        if covers(rows, &pairs[i], other) {
+            return true;
+        }
+    }
+    false
+}
+
+/// The pair again. The only refusal is that memory ran out.
+fn copied(alloc: Global, pair: &Pair) -> Result<Pair, AllocError>
+    ensures { IfOk result (λ p. held_of p ≡ held_of pair.now) }
+{
+    let mut pending = Vec::with_capacity(alloc, pair.pending.len())?;
+    for i in 0..pair.pending.len() {
+        pending.push(pair.pending[i])?;
+    }
+    Ok(Pair {
+        state: pair.state,
+        pending,
+    })
+}
+
+/// The pairs that no other one covers. The only refusal is that memory ran out.
+fn uncovered(alloc: Global, rows: &[Vec<Outcome>], pairs: &[Pair]) -> Result<Vec<Pair>, AllocError>
+    ensures none_new { IfOk result (λ v. AreAmong (helds_of v.items) (helds_of pairs.now)) }
+    ensures none_lost { IfOk result (λ v. (q : Held) → Contains (helds_of pairs.now) q →
+        Contains (helds_of v.items) q ⊎ IsCovered rows.now (helds_of pairs.now) q) }
+    ensures none_covered { IfOk result (λ v. (q : Held) → Contains (helds_of v.items) q →
+        IsCovered rows.now (helds_of pairs.now) q → ⊥) }
+{
+    let mut left = Vec::new(alloc);
+    for i in 0..pairs.len() {
+        let pair = &pairs[i];
+        if !is_covered(rows, pairs, pair) {
+            left.push(copied(alloc, pair)?)?;
+        }
+    }
+    Ok(left)
+}
+
+/// What is left of pairs after an event, but for those that another one covers. The only refusal is that memory ran
+/// out.
 pub fn pairs_after(
     alloc: Global,
     rows: &[Vec<Outcome>],
     pairs: &[Pair],
     event: &Event,
 ) -> Result<Vec<Pair>, AllocError>
-    ensures { IfOk result (λ v. leaves_none rows.now (helds_of v.items) ≡
+    ensures left { IfOk result (λ v. leaves_none rows.now (helds_of v.items) ≡
         later (leaves_none rows.now (helds_of pairs.now)) event.now) }
+    ensures none_covered { IfOk result (λ v. NoneIsCovered rows.now (helds_of v.items)) }
 {
     let found = all_moved(alloc, rows, pairs, event)?;
     let once = each_once(alloc, found)?;
-    Ok(once)
+    let left = uncovered(alloc, rows, once.as_slice())?;
+    Ok(left)
 }
 
 /// A number by which a pair is found. Nothing depends on it.

@@ -1,6 +1,6 @@
 // Which calls are pending, and which of them have taken effect.
 
-ghost use Rattle.std.specs.Prelude.{◌≡◌, IfOk, nat_eq, nat_lt, ◌&&◌};
+ghost use Rattle.std.specs.Prelude.{◌≡◌, Decides, IfOk, nat_eq, nat_lt, ◌&&◌, if◌then◌else◌};
 ghost use Rattle.ls_serial.specs.Serial.{is_called};
 ghost use Rattle.ls_automaton.specs.Held.{begun, ended, entry_at, has_taken, is_at, is_noted, is_open, taken};
 
@@ -97,6 +97,17 @@ pub(crate) fn with_call(
     Ok(noted)
 }
 
+/// What is noted in place of an event where a call has taken effect with this end.
+fn noted_then(end: &Event, event: &Event) -> Event
+    ensures { result ≡ (if is_at end.now.thread end.now.call event.now then end.now else event.now) }
+{
+    if is_same_call(end, event) {
+        *end
+    } else {
+        *event
+    }
+}
+
 /// What is noted where a call has taken effect with this end. The only refusal is that memory ran out.
 pub(crate) fn with_effect(
     alloc: Global,
@@ -107,14 +118,24 @@ pub(crate) fn with_effect(
 {
     let mut noted = Vec::with_capacity(alloc, pending.len())?;
     for i in 0..pending.len() {
-        let event = if is_same_call(end, &pending[i]) {
-            *end
-        } else {
-            pending[i]
-        };
-        noted.push(event)?;
+        noted.push(noted_then(end, &pending[i]))?;
     }
     Ok(noted)
+}
+
+/// Whether the others are what is noted where a call has taken effect with this end.
+pub(crate) fn is_with_effect(pending: &[Event], end: &Event, others: &[Event]) -> bool
+    ensures { Decides result (taken end.now pending.now ≡ others.now) }
+{
+    if pending.len() != others.len() {
+        return false;
+    }
+    for i in 0..pending.len() {
+        if !is_event(&noted_then(end, &pending[i]), &others[i]) {
+            return false;
+        }
+    }
+    true
 }
 
 /// What is noted where a call has ended. The only refusal is that memory ran out.

@@ -1,7 +1,7 @@
 -- Why `are_same_outcomes` in src/merging.rt keeps its contract and its loop `i`.
 
 use Rattle.std.proofs.Common.{arith}
-use Rattle.ls_automaton.proofs.Joined.{first_same_all, first_same_more}
+use Rattle.ls_automaton.proofs.Lists.{first_same_all, first_same_more}
 use Rattle.ls_automaton.proofs.merging.are_same_outcomes.Goals as goal
 
 pub loop-i-preserved : goal.loop-i-preserved

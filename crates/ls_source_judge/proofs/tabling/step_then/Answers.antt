@@ -12,4 +12,4 @@ returns-clause-leads c =
     c.in_ok-pairs.pairs.items c.index.result.now c.args.event.now c.requires c.index.ensures c.in_ok-after.ensures
     (subst (λ l. leaves_none c.args.rows.now (helds_of c.in_ok-pairs.pairs.items)
     ≡ later (leaves_none c.args.rows.now (helds_of l)) c.args.event.now) c.as_slice.ensures.value
-    c.in_ok-pairs.ensures)
+    c.in_ok-pairs.ensures.left)
