@@ -1,4 +1,5 @@
 -- Why `close` in src/closing.rt keeps its contract.
+use Rattle.ls_graph.proofs.Founding.{grown_alone}
 use Rattle.ls_graph.proofs.Growing.{first_stands}
 use Rattle.ls_graph.proofs.closing.close.Goals as goal
 
@@ -12,3 +13,8 @@ returns-clause-graph g c =
       led = goes.led;
       told = c.in_ok-halt.ensures.looked;
     }
+
+pub close_all-requires-clause-grown : goal.close_all-requires-clause-grown
+close_all-requires-clause-grown g c =
+    grown_alone (record { found = c.in_ok-found.found; edges = c.new.result; by = c.new-2.result }) c.args.root
+    c.in_ok-found.ensures.alone c.new.ensures.items c.new-2.ensures.items
