@@ -5,7 +5,7 @@ ghost use Rattle.std.specs.Prelude.{slice_get};
 ghost use Rattle.ls_graph.specs.Found.{AreFound, AreFromLooked, HasNone, HasNoneBy, IsGrown, LeavesMore, LeavesMoreBy};
 ghost use Rattle.ls_graph.specs.Grown.{Grows, Keeps};
 ghost use Rattle.ls_graph.specs.Graph.{AreEdges, AreKnown, AreLooked, Goes, IsFull, IsGraph, IsLooked, IsTold, IsWeighed};
-ghost use Rattle.ls_graph.specs.Graph.{IsWhole, states_in};
+ghost use Rattle.ls_graph.specs.Graph.{IsBounded, IsWhole, states_in};
 ghost use Rattle.ls_graph.specs.declared.closing.Halt.TheVariants.{Full};
 
 use crate::costs::Counted;
@@ -134,8 +134,8 @@ fn look<P: Space>(
         slice_get (states_in (P.stands space.now) tables.old graph.old) at ≡ Some s →
         IsTold (P.Rests space.now) (P.Ends space.now) graph.new.edges.items at s actor) }
     ensures full { IfOk result (λ done. done ≡ false → IsFull P.weighs plan.bounds graph.new) }
-    ensures few { OnOk result (length graph.old.found.nodes.items ≤ plan.bounds.limit →
-        length graph.new.found.nodes.items ≤ plan.bounds.limit) }
+    ensures bounded { OnOk result (IsBounded P.weighs plan.bounds graph.old.found →
+        IsBounded P.weighs plan.bounds graph.new.found) }
     ensures grown { OnOk result (IsGrown graph.new) }
     ensures more { OnOk result (LeavesMoreBy graph.old.edges.items graph.new.edges.items at actor) }
 {
@@ -185,8 +185,8 @@ fn expand<P: Space>(
         slice_get (states_in (P.stands space.now) tables.old graph.old) at ≡ Some s →
         (u : ℕ) → u < plan.actors → IsTold (P.Rests space.now) (P.Ends space.now) graph.new.edges.items at s u) }
     ensures full { IfOk result (λ done. done ≡ false → IsFull P.weighs plan.bounds graph.new) }
-    ensures few { OnOk result (length graph.old.found.nodes.items ≤ plan.bounds.limit →
-        length graph.new.found.nodes.items ≤ plan.bounds.limit) }
+    ensures bounded { OnOk result (IsBounded P.weighs plan.bounds graph.old.found →
+        IsBounded P.weighs plan.bounds graph.new.found) }
     ensures grown { OnOk result (IsGrown graph.new) }
     ensures more { OnOk result (LeavesMore graph.old.edges.items graph.new.edges.items at) }
 {
@@ -254,8 +254,8 @@ fn look_at<P: Space>(
         (states_in (P.stands space.now) tables.new closing.new.graph)
         closing.new.graph.edges.items plan.actors closing.new.looked.items) }
     ensures full { IfOk result (λ o. IfSome o (λ h. h ≡ Full → IsFull P.weighs plan.bounds closing.new.graph)) }
-    ensures few { OnOk result (length closing.old.graph.found.nodes.items ≤ plan.bounds.limit →
-        length closing.new.graph.found.nodes.items ≤ plan.bounds.limit) }
+    ensures bounded { OnOk result (IsBounded P.weighs plan.bounds closing.old.graph.found →
+        IsBounded P.weighs plan.bounds closing.new.graph.found) }
     ensures grown { OnOk result (IsGrown closing.new.graph) }
     ensures from { IfOk result (λ o. IfNone o
         (AreFromLooked closing.new.graph.edges.items closing.new.looked.items)) }
@@ -297,8 +297,8 @@ fn close_all<P: Space>(
         (states_in (P.stands space.now) tables.new closing.new.graph)
         closing.new.graph.edges.items plan.actors closing.new.looked.items) }
     ensures full { IfOk result (λ h. h ≡ Full → IsFull P.weighs plan.bounds closing.new.graph) }
-    ensures few { OnOk result (length closing.old.graph.found.nodes.items ≤ plan.bounds.limit →
-        length closing.new.graph.found.nodes.items ≤ plan.bounds.limit) }
+    ensures bounded { OnOk result (IsBounded P.weighs plan.bounds closing.old.graph.found →
+        IsBounded P.weighs plan.bounds closing.new.graph.found) }
     ensures grown { OnOk result (IsGrown closing.new.graph) }
 {
     for _ in 0..usize::MAX {
@@ -331,8 +331,7 @@ pub fn close<P: Space>(
         (P.stands space.now tables.old root) (states_in (P.stands space.now) tables.new c.graph)
         c.graph.edges.items c.looked.items) }
     ensures full { IfOk result (λ c. c.halt ≡ Full → IsFull P.weighs plan.bounds c.graph) }
-    ensures few { IfOk result (λ c. 1 ≤ plan.bounds.limit →
-        length c.graph.found.nodes.items ≤ plan.bounds.limit) }
+    ensures bounded { IfOk result (λ c. 1 ≤ plan.bounds.limit → IsBounded P.weighs plan.bounds c.graph.found) }
     ensures found { IfOk result (λ c. IsGrown c.graph) }
     ensures known { IfOk result (λ c. AreKnown (P.IsKnown space.now) tables.new c.graph.found.nodes.items) }
 {

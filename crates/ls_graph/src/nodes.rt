@@ -2,6 +2,7 @@
 
 ghost use Rattle.std.specs.Prelude.{◌≡◌, ◌≤◌, ◌<◌, ◌⊎◌, ◌∷◌, [], IfOk, IfSome, IfNone, IsTrue, OnOk, length};
 ghost use Rattle.ls_graph.specs.Grown.{IsNodeAt, Pushed, Stands};
+ghost use Rattle.ls_graph.specs.Graph.{IsBounded};
 ghost use Rattle.ls_graph.specs.Weights.{total};
 
 use crate::space::Space;
@@ -91,8 +92,7 @@ pub(crate) fn keep<P: Space>(
     ensures there { IfOk result (λ o. IfSome o (IsNodeAt (P.stands space.now) found.new.nodes.items node)) }
     ensures place { IfOk result (λ o. IfSome o (Stands found.old.nodes.items found.new.nodes.items node)) }
     ensures same { IfOk result (λ o. IfNone o (found.new.nodes.items ≡ found.old.nodes.items)) }
-    ensures few { OnOk result (length found.old.nodes.items ≤ bounds.limit →
-        length found.new.nodes.items ≤ bounds.limit) }
+    ensures bounded { OnOk result (IsBounded P.weighs bounds found.old → IsBounded P.weighs bounds found.new) }
     ensures pushed { OnOk result (Pushed found.old.nodes.items found.new.nodes.items node) }
     ensures weight { OnOk result (found.new.weight ≤ total P.weighs found.new.nodes.items) }
     ensures full { IfOk result (λ o. IfNone o ((bounds.limit ≤ length found.new.nodes.items) ⊎

@@ -7,7 +7,7 @@ loop-init g c = record {
   goes = goes_none _ _ _ _ c.args.tables.now c.args.closing.now.graph c.requires.known c.requires.led
       c.requires.weighed;
   looked = c.requires.looked;
-  few = λ few. few;
+  bounded = λ old. old;
   grown = c.requires.grown;
   from = c.requires.from;
 }
@@ -22,7 +22,7 @@ pub loop-preserved : goal.loop-preserved
 loop-preserved g c = record {
   goes = goes_both _ _ _ _ _ _ c.loop.tables c.loop.closing.graph _ _ c.loop.invariant.goes c.in_ok-halt.ensures.goes;
   looked = c.in_ok-halt.ensures.looked;
-  few = λ few. c.in_ok-halt.ensures.few (c.loop.invariant.few few);
+  bounded = λ old. c.in_ok-halt.ensures.bounded (c.loop.invariant.bounded old);
   grown = c.in_ok-halt.ensures.grown;
   from = none_then c.in_ok-halt.field-0 c.in_default-2.not-Some c.in_ok-halt.ensures.from;
 }

@@ -16,7 +16,7 @@ loop-actor-init g c = record {
   };
   within = c.requires.at;
   told = λ s u here less. absurd (omega (arith, less));
-  few = λ few. few;
+  bounded = λ old. old;
   grown = c.requires.grown;
   before = λ i e here. inl here;
 }
@@ -52,7 +52,7 @@ loop-actor-preserved g c =
       told = λ s u here less.
           told_more (g.P.Space.Rests c.args.space.now) (g.P.Space.Ends c.args.space.now) c.loop-actor.graph.edges.items c.look.new.graph.edges.items c.args.at s c.loop-actor.actor goes.edges
           (λ w k. inv.told s w here k) (c.in_ok-look.ensures.told c.if-not-branch.false s (inv.goes.states c.args.at s here)) u less;
-      few = λ few. c.in_ok-look.ensures.few (inv.few few);
+      bounded = λ old. c.in_ok-look.ensures.bounded (inv.bounded old);
       grown = c.in_ok-look.ensures.grown;
       before = before_more c.args.graph.now.edges.items c.loop-actor.graph.edges.items c.look.new.graph.edges.items
           c.args.at c.loop-actor.actor inv.before c.in_ok-look.ensures.more;

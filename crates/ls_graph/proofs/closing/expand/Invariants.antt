@@ -2,7 +2,7 @@
 use Rattle.std.proofs.Common.{◌≡◌, ◌<◌, ◌≤◌, ℕ, Some, length}
 use Rattle.std.specs.Prelude.{slice_get}
 use Rattle.ls_graph.specs.Found.{IsGrown}
-use Rattle.ls_graph.specs.Graph.{Goes, IsTold, states_in}
+use Rattle.ls_graph.specs.Graph.{IsBounded, Goes, IsTold, states_in}
 use Rattle.ls_graph.proofs.Founding.{LeavesBefore}
 use Rattle.ls_graph.proofs.closing.expand.Given as goal
 
@@ -14,8 +14,7 @@ invariant-loop-actor g l = record {
   told : (s : g.P.Space.State) (u : ℕ) →
       slice_get (states_in (g.P.Space.stands l.space) l.fn.tables l.fn.graph) l.at ≡ Some s → u < l.actor →
       IsTold (g.P.Space.Rests l.space) (g.P.Space.Ends l.space) l.graph.edges.items l.at s u;
-  few : length l.fn.graph.found.nodes.items ≤ l.plan.bounds.limit →
-      length l.graph.found.nodes.items ≤ l.plan.bounds.limit;
+  bounded : IsBounded g.P.Space.weighs l.plan.bounds l.fn.graph.found → IsBounded g.P.Space.weighs l.plan.bounds l.graph.found;
   grown : IsGrown l.graph;
   before : LeavesBefore l.fn.graph.edges.items l.graph.edges.items l.at l.actor;
 }

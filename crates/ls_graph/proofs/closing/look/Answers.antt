@@ -2,6 +2,7 @@
 use Rattle.std.proofs.Common.{◌≡◌, ◌≤◌, List, Some, inl, inr, length, refl, sym, ap, ◌∙◌, subst, arith}
 use Rattle.std.specs.Prelude.{slice_get}
 use Rattle.ls_graph.specs.Found.{HasNoneBy, LeavesMoreBy}
+use Rattle.ls_graph.specs.Graph.{IsBounded}
 use Rattle.ls_graph.specs.Grown.{IsNodeAt, Pushed, Stands}
 use Rattle.ls_graph.specs.Weights.{total}
 use Rattle.ls_graph.specs.declared.closing.Edge.{Edge}
@@ -77,10 +78,10 @@ returns-in_ok-join-in-Some-2-clause-told g c = λ done s here.
       actor_is = refl;
     })
 
-pub returns-in_ok-join-in-Some-2-clause-few : goal.returns-in_ok-join-in-Some-2-clause-few
-returns-in_ok-join-in-Some-2-clause-few g c = λ few.
-    subst (λ (f : Nodes g.row.P-Node.Denot). length f.nodes.items ≤ c.args.plan.bounds.limit) (sym c.join.ensures.nodes)
-    (c.in_ok-keep-in-Some.ensures.few few)
+pub returns-in_ok-join-in-Some-2-clause-bounded : goal.returns-in_ok-join-in-Some-2-clause-bounded
+returns-in_ok-join-in-Some-2-clause-bounded g c = λ old.
+    subst (IsBounded g.P.Space.weighs c.args.plan.bounds) (sym c.join.ensures.nodes)
+    (c.in_ok-keep-in-Some.ensures.bounded old)
 
 pub returns-in_ok-join-in-Some-2-clause-more : goal.returns-in_ok-join-in-Some-2-clause-more
 returns-in_ok-join-in-Some-2-clause-more g c =
