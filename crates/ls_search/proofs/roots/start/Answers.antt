@@ -1,4 +1,4 @@
--- Why `start` in src/answers.rt keeps its clauses `sound` and `root`.
+-- Why `start` in src/roots.rt keeps its clauses `sound` and `root`.
 
 use Rattle.std.proofs.Common.{List, map, refl, sym, ap, ◌∙◌, subst}
 use Rattle.ls_checked.specs.Plain.{plain_file}
@@ -9,7 +9,7 @@ use Rattle.ls_transitions.proofs.Keeping.{below}
 use Rattle.ls_search.specs.declared.places.Node.{Node}
 use Rattle.ls_search.specs.Searched.{IsSound, pairs_at}
 use Rattle.ls_search.proofs.Answering.{root_pair, sound_first}
-use Rattle.ls_search.proofs.answers.start.Goals as goal
+use Rattle.ls_search.proofs.roots.start.Goals as goal
 
 pub returns-clause-sound : goal.returns-clause-sound
 returns-clause-sound g c =
