@@ -8,7 +8,7 @@ use Rattle.ls_graph.specs.declared.costs.Counted.TheVariants as counted
 use Rattle.ls_graph.specs.Costs.{changes, costs}
 use Rattle.ls_graph.proofs.Changes.{costs_changes}
 use Rattle.ls_search.proofs.Covering.{Leaves}
-use Rattle.ls_fewest_switches.specs.Levels.{HaveAtLeast, IsLevel}
+use Rattle.ls_fewest_switches.specs.Levels.{HaveAtLeast, IsLevel, wanted_of}
 use Rattle.ls_fewest_switches.specs.Switches.{EndsSo, HasFewestOf, IsSought, switches}
 use Rattle.ls_fewest_switches.specs.declared.least.Level.{Level}
 use Rattle.ls_fewest_switches.specs.declared.least.Level.TheVariants as levels
@@ -38,6 +38,6 @@ level_map first next is_bad stuck file program c A B f count (levels.Steps steps
 level_map first next is_bad stuck file program c A B f count levels.Cut h = h
 
 pub leaves : (stuck : Bool) (file : File) (program : Program) (s : List ℕ) → EndsSo stuck file program s →
-    Leaves stuck file program s
+    Leaves (wanted_of stuck) file program s
 leaves true file program s h = h
 leaves false file program s h = h

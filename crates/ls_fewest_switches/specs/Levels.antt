@@ -1,5 +1,5 @@
 -- What is found of schedules that cost less than so much.
-use Rattle.std.specs.Prelude.{◌≡◌, ◌<◌, ◌≤◌, ℕ, Bool, List, [], Option, length}
+use Rattle.std.specs.Prelude.{◌≡◌, ◌<◌, ◌≤◌, ℕ, Bool, true, false, List, [], Option, length}
 use Rattle.ls_events.specs.Limits.{most_steps}
 use Rattle.ls_events.specs.declared.event.Event.{Event}
 use Rattle.ls_checked.specs.CheckedTree.{File}
@@ -9,6 +9,8 @@ use Rattle.ls_meaning.specs.Runs.{source_history, step}
 use Rattle.ls_meaning.specs.Still.{IsOver}
 use Rattle.ls_search_laws.specs.Noticing.{Noticed, noticed_of}
 use Rattle.ls_search_laws.specs.Stepping.{ActAll}
+use Rattle.ls_search.specs.declared.space.Wanted.{Wanted}
+use Rattle.ls_search.specs.declared.space.Wanted.TheVariants as wanted
 use Rattle.ls_search.specs.Space.{GoesTo, IsEnd, Rests}
 use Rattle.ls_graph.specs.declared.closing.Edge.{Edge}
 use Rattle.ls_graph.specs.Graph.{IsGraph}
@@ -44,14 +46,19 @@ module _ {S : Type 0} (first : S) (next : S → Event → S) (is_bad : S → Boo
   abbrev pub IsBelow : ℕ → Level → Type 0
   IsBelow count level = IsLevel HaveAtLeast count level
 
+-- which states are looked for
+abbrev pub wanted_of : Bool → Wanted
+wanted_of true = wanted.Stuck
+wanted_of false = wanted.Bad
+
 -- what a graph tells of a program's states, the first of which is that before the first step
 pub record IsFound {S N : Type 0} (first : S) (next : S → Event → S) (is_bad : S → Bool) (stands : N → S)
-    (lost : Option N) (stuck : Bool) (file : File) (program : Program) (edges : List Edge) (count : ℕ)
+    (lost : Option N) (w : Wanted) (file : File) (program : Program) (edges : List Edge) (count : ℕ)
     (looked : List Bool) : Type 0 where
   pub states : List (Noticed S)
   pub many : length states ≡ count
   pub graph : IsGraph (Rests first next file program stands lost) (GoesTo first next file program)
-      (IsEnd stands is_bad stuck file) (length program.threads) (noticed_of first next file program []) states edges
+      (IsEnd stands is_bad w file) (length program.threads) (noticed_of first next file program []) states edges
       looked
 
 -- no thread of a run acts, and one waits

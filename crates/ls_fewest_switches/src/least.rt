@@ -5,7 +5,7 @@ ghost use Rattle.ls_checked.specs.Plain.{plain_file};
 ghost use Rattle.ls_checked.specs.PlainProgram.{plain_program};
 ghost use Rattle.ls_graph.specs.Walks.{IsLeast};
 ghost use Rattle.ls_search.specs.Near.{NeverBad};
-ghost use Rattle.ls_fewest_switches.specs.Levels.{HaveAtLeast, IsBelow, IsFound, IsLevel};
+ghost use Rattle.ls_fewest_switches.specs.Levels.{HaveAtLeast, IsBelow, IsFound, IsLevel, wanted_of};
 
 use crate::checking::is_such;
 use crate::starting::numbered_start;
@@ -19,8 +19,10 @@ use ls_graph::nodes::Bounds;
 use ls_graph::walks::edges_to_last;
 use ls_observers::observer::Observer;
 use ls_search::nameless::Nameless;
+use ls_search::numbering::Numbered;
+use ls_search::roots::Root;
 use ls_search::searching::Ground;
-use ls_search::space::{Beginning, Kept, StateSpace, begin};
+use ls_search::space::{Beginning, Kept, MOST_OBJECTS, StateSpace, Wanted, begin};
 use std::alloc::{AllocError, Global};
 
 /// What is looked for, and how far.
@@ -31,7 +33,7 @@ pub struct Sought<'a, O> {
     pub observer: &'a O,
     /// How many threads there are, the setup with them.
     pub threads: u8,
-    /// The most states. They have 16,777,216 objects together at most, but for the last of them.
+    /// The most states. Their stores have 16,777,216 objects together at most, but for the last of them.
     pub limit: usize,
     pub counted: Counted,
     /// Whether no thread may act at the end, and one must wait.
@@ -51,9 +53,6 @@ pub enum Level {
 
 /// The most steps that are taken at once, where changes of thread are counted.
 const MOST_AT_ONCE: usize = 4096;
-
-/// The most objects that the states that are kept have together, but for the last of them.
-const MOST_OBJECTS: usize = 0x100_0000;
 
 /// The steps along edges, with those at once after each, as far as a schedule may have so many.
 fn steps_along(alloc: Global, path: &[Edge]) -> Result<Vec<u8>, AllocError> {
@@ -136,7 +135,7 @@ fn at_once(counted: Counted) -> usize {
 struct Scope {
     plan: Plan,
     most: usize,
-    stuck: bool,
+    wanted: Wanted,
 }
 
 impl Clone for Scope {
@@ -145,10 +144,17 @@ impl Clone for Scope {
     }
 }
 
+/// Which states are looked for: those that are bad, or of these those at which no thread acts and one waits.
+fn wanted_of(stuck: bool) -> Wanted
+    ensures { result ≡ wanted_of stuck }
+{
+    if stuck { Wanted::Stuck } else { Wanted::Bad }
+}
+
 /// How far the graph is found, and what is looked for.
 fn scope_of<O>(sought: &Sought<'_, O>, count: usize) -> Scope
     ensures actors { result.plan.actors ≡ sought.now.threads }
-    ensures stuck { result.stuck ≡ sought.now.stuck }
+    ensures wanted { result.wanted ≡ wanted_of sought.now.stuck }
 {
     let plan = Plan {
         alloc: sought.alloc,
@@ -163,7 +169,7 @@ fn scope_of<O>(sought: &Sought<'_, O>, count: usize) -> Scope
     Scope {
         plan,
         most: at_once(sought.counted),
-        stuck: sought.stuck,
+        wanted: wanted_of(sought.stuck),
     }
 }
 
@@ -178,7 +184,7 @@ fn closed<O: Observer>(
 ) -> Result<Closing<Kept>, AllocError>
     requires { scope.plan.actors ≡ length program.now.threads.items }
     ensures { IfOk result (λ c. IsFound (O.first observer.now) (O.next observer.now) (O.bad observer.now)
-        (O.stands observer.now) lost scope.stuck (plain_file file.now) (plain_program program.now)
+        (O.stands observer.now) lost scope.wanted (plain_file file.now) (plain_program program.now)
         c.graph.edges.items (length c.graph.found.nodes.items) c.looked.items) }
 {
     let plan = scope.plan;
@@ -192,13 +198,23 @@ fn closed<O: Observer>(
         limit: plan.bounds.limit,
         most: scope.most,
     };
-    let beginning = begin(&ground, numbered)?;
+    let Numbered {
+        transitions,
+        store,
+        works,
+    } = numbered;
+    let root = Root {
+        store,
+        works,
+        noted: observer.start(plan.alloc)?,
+    };
+    let beginning = begin(&ground, transitions, root)?;
     let Beginning { tables, root } = beginning;
     let mut tables = tables;
     let space = StateSpace {
         ground: &ground,
         lost,
-        stuck: scope.stuck,
+        wanted: scope.wanted,
     };
     let closing = close(&space, plan, &mut tables, root)?;
     Ok(closing)

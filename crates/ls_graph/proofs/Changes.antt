@@ -5,6 +5,7 @@ use Rattle.std.proofs.lemmas.Bool.Decides.{eqb_tells}
 use Rattle.ls_graph.specs.declared.costs.Counted.{Counted}
 use Rattle.ls_graph.specs.declared.costs.Counted.TheVariants as counted
 use Rattle.ls_graph.specs.Costs.{change, changes, cost, costs}
+use Rattle.ls_graph.proofs.Lists.{drop_next}
 
 change_tells : (b t : ℕ) → ((change b t ≡ 0) × (t ≡ b)) ⊎ ((change b t ≡ 1) × (t ≢ b))
 change_tells b t = by (eqb_tells t b)
@@ -43,14 +44,6 @@ costs_steps before [] = refl
 costs_steps before (t ∷ ts) = let h = costs_steps t ts in omega (arith, h)
 
 -- ---- a list, item by item
-
-drop_next : {A : Type 0} (xs : List A) (i : ℕ) (x : A) → slice_get xs i ≡ Some x → drop i xs ≡ x ∷ drop (suc i) xs
-drop_next [] i x e = absurd (none_not e)
-  where
-    none_not : slice_get [] i ≡ Some x → ⊥
-    none_not h = cc
-drop_next (y ∷ ys) zero x e = cc
-drop_next (y ∷ ys) (suc i) x e = drop_next ys i x e
 
 one_more : (i : ℕ) → i + 1 ≡ suc i
 one_more i = omega arith

@@ -1,5 +1,5 @@
 -- Graphs that grow.
-use Rattle.std.proofs.Common.{◌≡◌, ◌⊎◌, inl, inr, ℕ, zero, suc, true, ◌<◌, ◌≤◌, ◌+◌, Bool, List, [], ◌∷◌, ◌++◌, length, map, Some, sym, ap, ◌∙◌, subst}
+use Rattle.std.proofs.Common.{◌≡◌, ◌⊎◌, inl, inr, ℕ, zero, suc, true, ◌<◌, ◌≤◌, ◌+◌, Bool, List, [], ◌∷◌, ◌++◌, length, map, Some, refl, sym, ap, ◌∙◌, subst}
 use Rattle.std.proofs.Common.{arith}
 use Rattle.std.specs.Prelude.{IfNone, IfSome, None, Option, slice_get}
 use Rattle.std.proofs.lemmas.Bool.{cases_lt}
@@ -96,6 +96,10 @@ edges_still Leads ss ss' es keeps led i e h = edge_stays Leads ss ss' e keeps (l
 
 pub of_some : {A : Type 0} (P : A → Type 0) (o : Option A) (a : A) → o ≡ Some a → IfSome o P → P a
 of_some P o a is h = subst (λ x. IfSome x P) is h
+
+pub none_then : {A P : Type 0} (o : Option A) → ((a : A) → o ≡ Some a → ⊥) → IfNone o P → P
+none_then None isnt h = h
+none_then (Some a) isnt h = absurd (isnt a refl)
 
 pub of_none : {A : Type 0} (P : Type 0) (o : Option A) → o ≡ None → IfNone o P → P
 of_none P o is h = subst (λ x. IfNone x P) is h

@@ -1,5 +1,5 @@
 -- What stands at places of lists.
-use Rattle.std.proofs.Common.{◌≡◌, ◌⊎◌, inl, inr, ℕ, zero, suc, ◌<◌, List, [], ◌∷◌, ◌++◌, length, map, Some, refl}
+use Rattle.std.proofs.Common.{◌≡◌, ◌⊎◌, inl, inr, ℕ, zero, suc, ◌<◌, List, [], ◌∷◌, ◌++◌, length, map, drop, Some, refl}
 use Rattle.std.proofs.Common.{sym, ap, ◌∙◌, arith}
 use Rattle.std.specs.Prelude.{slice_get, option_map}
 use Rattle.std.proofs.lemmas.List.{length-map}
@@ -29,14 +29,29 @@ pub last_there : {A : Type 0} (xs : List A) (x : A) → slice_get (xs ++ x ∷ [
 last_there [] x = refl
 last_there (y ∷ ys) x = last_there ys x
 
--- what stands in a list with one more item
+-- what stands in a list with one more item, and where
+pub pushed_where : {A : Type 0} (xs : List A) (x : A) (i : ℕ) (y : A) →
+    slice_get (xs ++ x ∷ []) i ≡ Some y →
+    (slice_get xs i ≡ Some y) ⊎ ((i ≡ length xs) × (x ≡ y))
+pushed_where [] x zero y h = inr (refl, some_is h)
+pushed_where [] x (suc i) y h = cc
+pushed_where (z ∷ zs) x zero y h = inl h
+pushed_where (z ∷ zs) x (suc i) y h = by_rest (pushed_where zs x i y h)
+  where
+    by_rest : (slice_get zs i ≡ Some y) ⊎ ((i ≡ length zs) × (x ≡ y)) →
+        (slice_get (z ∷ zs) (suc i) ≡ Some y) ⊎ ((suc i ≡ length (z ∷ zs)) × (x ≡ y))
+    by_rest (inl e) = inl e
+    by_rest (inr (e, same)) = inr (ap suc e, same)
+
+-- the same without its place
 pub pushed_cases : {A : Type 0} (xs : List A) (x : A) (i : ℕ) (y : A) →
     slice_get (xs ++ x ∷ []) i ≡ Some y →
     (slice_get xs i ≡ Some y) ⊎ (x ≡ y)
-pushed_cases [] x zero y h = inr (some_is h)
-pushed_cases [] x (suc i) y h = cc
-pushed_cases (z ∷ zs) x zero y h = inl h
-pushed_cases (z ∷ zs) x (suc i) y h = pushed_cases zs x i y h
+pushed_cases xs x i y h = by_place (pushed_where xs x i y h)
+  where
+    by_place : (slice_get xs i ≡ Some y) ⊎ ((i ≡ length xs) × (x ≡ y)) → (slice_get xs i ≡ Some y) ⊎ (x ≡ y)
+    by_place (inl e) = inl e
+    by_place (inr (e, same)) = inr same
 
 pub map_there : {A B : Type 0} (f : A → B) (xs : List A) (i : ℕ) (x : A) →
     slice_get xs i ≡ Some x →
@@ -59,3 +74,12 @@ pub same_there : {A : Type 0} (xs ys : List A) (at : ℕ) (x : A) → Keeps xs y
 same_there xs ys at x keeps within e =
     let was = there xs at within in
     was.1 ∙ sym (keeps at was.0 was.1) ∙ e
+
+-- what is left of a list from a place on begins with what stands there
+pub drop_next : {A : Type 0} (xs : List A) (i : ℕ) (x : A) → slice_get xs i ≡ Some x → drop i xs ≡ x ∷ drop (suc i) xs
+drop_next [] i x e = absurd (none_not e)
+  where
+    none_not : slice_get [] i ≡ Some x → ⊥
+    none_not h = cc
+drop_next (y ∷ ys) zero x e = cc
+drop_next (y ∷ ys) (suc i) x e = drop_next ys i x e

@@ -1,9 +1,10 @@
 -- What is known of a graph: what its nodes stand for, and where actors lead from those that were looked at.
-use Rattle.std.specs.Prelude.{◌≡◌, ◌⊎◌, ◌<◌, ◌≤◌, ℕ, Bool, true, List, Some, length, map, slice_get}
+use Rattle.std.specs.Prelude.{◌≡◌, ◌⊎◌, ◌<◌, ◌≤◌, ◌+◌, ◌++◌, ◌∷◌, ℕ, Bool, true, List, [], Some, length, map, slice_get}
 use Rattle.ls_graph.specs.Grown.{Keeps}
 use Rattle.ls_graph.specs.declared.closing.Edge.{Edge}
 use Rattle.ls_graph.specs.declared.closing.Graph.{Graph}
 use Rattle.ls_graph.specs.declared.nodes.Bounds.{Bounds}
+use Rattle.ls_graph.specs.declared.nodes.Nodes.{Nodes}
 use Rattle.ls_graph.specs.Weights.{total}
 
 -- what the nodes stand for
@@ -42,6 +43,12 @@ IsWeighed weighs g = g.found.weight ≤ total weighs g.found.nodes.items
 abbrev pub IsFull : {N : Type 0} → (N → ℕ) → Bounds → Graph N → Type 0
 IsFull weighs bounds g =
     (bounds.limit ≤ length g.found.nodes.items) ⊎ (bounds.weight < total weighs g.found.nodes.items)
+
+-- There are no more nodes than there may be. What is counted of their weight is no more than they may weigh and what the
+-- last of them weighs.
+pub record IsBounded {N : Type 0} (weighs : N → ℕ) (bounds : Bounds) (found : Nodes N) : Type 0 where
+  pub few : length found.nodes.items ≤ bounds.limit
+  pub light : (front : List N) (n : N) → found.nodes.items ≡ front ++ n ∷ [] → found.weight ≤ bounds.weight + weighs n
 
 -- What was there stays: nodes are known and stand for what they stood for, and each edge leads as it tells.
 pub record Goes {T N S : Type 0} (IsKnown : T → N → Type 0) (stands : T → N → S) (Leads : S → ℕ → ℕ → S → Type 0)

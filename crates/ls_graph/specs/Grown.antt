@@ -1,5 +1,5 @@
 -- Lists and tables that keep what they have.
-use Rattle.std.specs.Prelude.{◌≡◌, ◌⊎◌, ◌++◌, ◌∷◌, ℕ, List, [], Some, slice_get}
+use Rattle.std.specs.Prelude.{◌≡◌, ◌⊎◌, ◌<◌, ◌++◌, ◌∷◌, ℕ, List, [], Some, length, slice_get}
 
 -- each item stays at its place
 abbrev pub Keeps : {A : Type 0} → List A → List A → Type 0
@@ -8,6 +8,10 @@ Keeps {A} old new = (n : ℕ) (x : A) → slice_get old n ≡ Some x → slice_g
 -- the same, or one more
 abbrev pub Pushed : {A : Type 0} → List A → List A → A → Type 0
 Pushed old new x = (new ≡ old) ⊎ (new ≡ old ++ x ∷ [])
+
+-- the place of an item: it is one of the old ones, or it is new and the last
+abbrev pub Stands : {A : Type 0} → List A → List A → A → ℕ → Type 0
+Stands old new x at = ((new ≡ old) × (at < length old)) ⊎ ((new ≡ old ++ x ∷ []) × (at ≡ length old))
 
 -- what is known stays known, and stands for the same
 abbrev pub Grows : {T N S : Type 0} → (T → N → Type 0) → (T → N → S) → T → T → Type 0

@@ -1,9 +1,11 @@
 // The nodes to which actors lead, one after another, and all that they do there.
 
-ghost use Rattle.std.specs.Prelude.{◌≡◌, ◌<◌, ℕ, IfOk, IfSome, IsTrue, OnOk, Some, false, length, slice_get};
+ghost use Rattle.std.specs.Prelude.{◌≡◌, ◌<◌, ◌≤◌, ◌++◌, ◌∷◌, [], ℕ, IfNone, IfOk, IfSome, IsTrue, OnOk, Some, false, length};
+ghost use Rattle.std.specs.Prelude.{slice_get};
+ghost use Rattle.ls_graph.specs.Found.{AreFound, AreFromLooked, HasNone, HasNoneBy, IsGrown, LeavesMore, LeavesMoreBy};
 ghost use Rattle.ls_graph.specs.Grown.{Grows, Keeps};
 ghost use Rattle.ls_graph.specs.Graph.{AreEdges, AreKnown, AreLooked, Goes, IsFull, IsGraph, IsLooked, IsTold, IsWeighed};
-ghost use Rattle.ls_graph.specs.Graph.{IsWhole, states_in};
+ghost use Rattle.ls_graph.specs.Graph.{IsBounded, IsWhole, states_in};
 ghost use Rattle.ls_graph.specs.declared.closing.Halt.TheVariants.{Full};
 
 use crate::costs::Counted;
@@ -33,6 +35,8 @@ impl Clone for Edge {
 pub struct Graph<N> {
     pub found: Nodes<N>,
     pub edges: Vec<Edge>,
+    /// By which edge each node was found, but the first: that at place `i + 1` by the edge whose place stands at `i`.
+    pub by: Vec<u32>,
 }
 
 /// By what a graph is found.
@@ -91,6 +95,22 @@ fn node_at<N>(nodes: &[N], at: usize) -> &N
     &nodes[at]
 }
 
+/// Adds an edge. Where it leads to a node that stands after the first so many, it found that node.
+fn join<N>(graph: &mut Graph<N>, edge: Edge, count: usize) -> Result<(), AllocError>
+    ensures nodes { graph.new.found ≡ graph.old.found }
+    ensures edges { OnOk result (graph.new.edges.items ≡ graph.old.edges.items ++ edge ∷ []) }
+    ensures known { OnOk result (edge.to < count → graph.new.by.items ≡ graph.old.by.items) }
+    ensures new { OnOk result (count ≤ edge.to →
+        graph.new.by.items ≡ graph.old.by.items ++ length graph.old.edges.items ∷ []) }
+{
+    if edge.to as usize >= count {
+        let place = number_of(graph.edges.len())?;
+        graph.by.push(place)?;
+    }
+    graph.edges.push(edge)?;
+    Ok(())
+}
+
 /// Looks at where an actor leads from the node at a place. Answers false where no more nodes may be kept.
 fn look<P: Space>(
     space: &P,
@@ -105,6 +125,8 @@ fn look<P: Space>(
     requires known { AreKnown (P.IsKnown space.now) tables.old graph.old.found.nodes.items }
     requires led { AreEdges (P.Leads space.now) (states_in (P.stands space.now) tables.old graph.old)
         graph.old.edges.items }
+    requires grown { IsGrown graph.old }
+    requires new { HasNoneBy graph.old.edges.items at actor }
     ensures grows { Grows (P.IsKnown space.now) (P.stands space.now) tables.old tables.new }
     ensures goes { OnOk result (Goes (P.IsKnown space.now) (P.stands space.now) (P.Leads space.now) P.weighs tables.old
         graph.old tables.new graph.new) }
@@ -112,23 +134,29 @@ fn look<P: Space>(
         slice_get (states_in (P.stands space.now) tables.old graph.old) at ≡ Some s →
         IsTold (P.Rests space.now) (P.Ends space.now) graph.new.edges.items at s actor) }
     ensures full { IfOk result (λ done. done ≡ false → IsFull P.weighs plan.bounds graph.new) }
+    ensures bounded { OnOk result (IsBounded P.weighs plan.bounds graph.old.found →
+        IsBounded P.weighs plan.bounds graph.new.found) }
+    ensures grown { OnOk result (IsGrown graph.new) }
+    ensures more { OnOk result (LeavesMoreBy graph.old.edges.items graph.new.edges.items at actor) }
 {
     let node = node_at(&graph.found.nodes, at);
     match space.next(plan.alloc, tables, node, actor)? {
         None => Ok(true),
         Some(step) => {
             let mark = step.mark;
+            let count = graph.found.nodes.len();
             match keep(space, plan.alloc, &mut graph.found, plan.bounds, step.node)? {
                 None => Ok(false),
                 Some(to) => {
                     let from = number_of(at)?;
                     let to = number_of(to)?;
-                    graph.edges.push(Edge {
+                    let edge = Edge {
                         from,
                         to,
                         mark,
                         actor,
-                    })?;
+                    };
+                    join(graph, edge, count)?;
                     Ok(true)
                 }
             }
@@ -149,12 +177,18 @@ fn expand<P: Space>(
     requires known { AreKnown (P.IsKnown space.now) tables.old graph.old.found.nodes.items }
     requires led { AreEdges (P.Leads space.now) (states_in (P.stands space.now) tables.old graph.old)
         graph.old.edges.items }
+    requires grown { IsGrown graph.old }
+    requires none { HasNone graph.old.edges.items at }
     ensures goes { OnOk result (Goes (P.IsKnown space.now) (P.stands space.now) (P.Leads space.now) P.weighs tables.old
         graph.old tables.new graph.new) }
     ensures told { IfOk result (λ done. IsTrue done → (s : P.State) →
         slice_get (states_in (P.stands space.now) tables.old graph.old) at ≡ Some s →
         (u : ℕ) → u < plan.actors → IsTold (P.Rests space.now) (P.Ends space.now) graph.new.edges.items at s u) }
     ensures full { IfOk result (λ done. done ≡ false → IsFull P.weighs plan.bounds graph.new) }
+    ensures bounded { OnOk result (IsBounded P.weighs plan.bounds graph.old.found →
+        IsBounded P.weighs plan.bounds graph.new.found) }
+    ensures grown { OnOk result (IsGrown graph.new) }
+    ensures more { OnOk result (LeavesMore graph.old.edges.items graph.new.edges.items at) }
 {
     for actor in 0..plan.actors {
         if !look(space, plan, tables, graph, at, actor)? {
@@ -212,12 +246,19 @@ fn look_at<P: Space>(
     requires looked { AreLooked (P.Rests space.now) (P.Ends space.now)
         (states_in (P.stands space.now) tables.old closing.old.graph)
         closing.old.graph.edges.items plan.actors closing.old.looked.items }
+    requires grown { IsGrown closing.old.graph }
+    requires from { AreFromLooked closing.old.graph.edges.items closing.old.looked.items }
     ensures goes { OnOk result (Goes (P.IsKnown space.now) (P.stands space.now) (P.Leads space.now) P.weighs tables.old
         closing.old.graph tables.new closing.new.graph) }
     ensures looked { OnOk result (AreLooked (P.Rests space.now) (P.Ends space.now)
         (states_in (P.stands space.now) tables.new closing.new.graph)
         closing.new.graph.edges.items plan.actors closing.new.looked.items) }
     ensures full { IfOk result (λ o. IfSome o (λ h. h ≡ Full → IsFull P.weighs plan.bounds closing.new.graph)) }
+    ensures bounded { OnOk result (IsBounded P.weighs plan.bounds closing.old.graph.found →
+        IsBounded P.weighs plan.bounds closing.new.graph.found) }
+    ensures grown { OnOk result (IsGrown closing.new.graph) }
+    ensures from { IfOk result (λ o. IfNone o
+        (AreFromLooked closing.new.graph.edges.items closing.new.looked.items)) }
 {
     if is_marked(&closing.looked, at) || at >= closing.graph.found.nodes.len() {
         return Ok(None);
@@ -248,12 +289,17 @@ fn close_all<P: Space>(
     requires looked { AreLooked (P.Rests space.now) (P.Ends space.now)
         (states_in (P.stands space.now) tables.old closing.old.graph)
         closing.old.graph.edges.items plan.actors closing.old.looked.items }
+    requires grown { IsGrown closing.old.graph }
+    requires from { AreFromLooked closing.old.graph.edges.items closing.old.looked.items }
     ensures goes { OnOk result (Goes (P.IsKnown space.now) (P.stands space.now) (P.Leads space.now) P.weighs tables.old
         closing.old.graph tables.new closing.new.graph) }
     ensures looked { OnOk result (AreLooked (P.Rests space.now) (P.Ends space.now)
         (states_in (P.stands space.now) tables.new closing.new.graph)
         closing.new.graph.edges.items plan.actors closing.new.looked.items) }
     ensures full { IfOk result (λ h. h ≡ Full → IsFull P.weighs plan.bounds closing.new.graph) }
+    ensures bounded { OnOk result (IsBounded P.weighs plan.bounds closing.old.graph.found →
+        IsBounded P.weighs plan.bounds closing.new.graph.found) }
+    ensures grown { OnOk result (IsGrown closing.new.graph) }
 {
     for _ in 0..usize::MAX {
         let Some(pair) = closing.front.next() else {
@@ -285,12 +331,16 @@ pub fn close<P: Space>(
         (P.stands space.now tables.old root) (states_in (P.stands space.now) tables.new c.graph)
         c.graph.edges.items c.looked.items) }
     ensures full { IfOk result (λ c. c.halt ≡ Full → IsFull P.weighs plan.bounds c.graph) }
+    ensures bounded { IfOk result (λ c. 1 ≤ plan.bounds.limit → IsBounded P.weighs plan.bounds c.graph.found) }
+    ensures found { IfOk result (λ c. IsGrown c.graph) }
+    ensures known { IfOk result (λ c. AreKnown (P.IsKnown space.now) tables.new c.graph.found.nodes.items) }
 {
     let found = alone(space, plan.alloc, root)?;
     let mut closing = Closing {
         graph: Graph {
             found,
             edges: Vec::new(plan.alloc),
+            by: Vec::new(plan.alloc),
         },
         looked: Vec::new(plan.alloc),
         front: Front::new(plan.alloc, plan.actors)?,

@@ -5,7 +5,7 @@ pub mod closing;
 pub mod costs;
 pub mod front;
 pub mod least;
-mod marks;
+pub mod marks;
 pub mod nodes;
 pub mod space;
 pub mod walks;

@@ -1,7 +1,8 @@
 // Nodes that were found, each once.
 
 ghost use Rattle.std.specs.Prelude.{◌≡◌, ◌≤◌, ◌<◌, ◌⊎◌, ◌∷◌, [], IfOk, IfSome, IfNone, IsTrue, OnOk, length};
-ghost use Rattle.ls_graph.specs.Grown.{IsNodeAt, Pushed};
+ghost use Rattle.ls_graph.specs.Grown.{IsNodeAt, Pushed, Stands};
+ghost use Rattle.ls_graph.specs.Graph.{IsBounded};
 ghost use Rattle.ls_graph.specs.Weights.{total};
 
 use crate::space::Space;
@@ -89,6 +90,9 @@ pub(crate) fn keep<P: Space>(
 ) -> Result<Option<usize>, AllocError>
     requires { found.old.weight ≤ total P.weighs found.old.nodes.items }
     ensures there { IfOk result (λ o. IfSome o (IsNodeAt (P.stands space.now) found.new.nodes.items node)) }
+    ensures place { IfOk result (λ o. IfSome o (Stands found.old.nodes.items found.new.nodes.items node)) }
+    ensures same { IfOk result (λ o. IfNone o (found.new.nodes.items ≡ found.old.nodes.items)) }
+    ensures bounded { OnOk result (IsBounded P.weighs bounds found.old → IsBounded P.weighs bounds found.new) }
     ensures pushed { OnOk result (Pushed found.old.nodes.items found.new.nodes.items node) }
     ensures weight { OnOk result (found.new.weight ≤ total P.weighs found.new.nodes.items) }
     ensures full { IfOk result (λ o. IfNone o ((bounds.limit ≤ length found.new.nodes.items) ⊎

@@ -18,6 +18,8 @@ use Rattle.ls_search_laws.proofs.Telling.{long_of_all}
 use Rattle.ls_search.specs.Near.{IsNear, IsNearOrLost, NeverBad, Run, run_after}
 use Rattle.ls_search.specs.Nameless.{nameless_bad, nameless_next}
 use Rattle.ls_search.specs.Space.{EndsAt, GoesTo, IsEnd, IsLost, Rests}
+use Rattle.ls_search.specs.declared.space.Wanted.{Wanted}
+use Rattle.ls_search.specs.declared.space.Wanted.TheVariants as wanted
 use Rattle.ls_search.specs.Verdicts.{LeavesStuck}
 use Rattle.ls_search.proofs.Judging.{nameless_hides, noted_is}
 use Rattle.ls_search.proofs.Likeness.{other_same}
@@ -40,10 +42,11 @@ waits_other names (did.Acted a x) is = cc
 waits_other names did.Waits is = refl
 waits_other names did.Idle is = cc
 
--- it ends as is asked: no thread acts after it and one waits, or whatever threads do
-abbrev pub Leaves : Bool → File → Program → List ℕ → Type 0
-Leaves true file program schedule = LeavesStuck file program schedule
-Leaves false file program schedule = Unit {0}
+-- it ends as is asked: nothing is looked for, or whatever threads do, or no thread acts after it and one waits
+abbrev pub Leaves : Wanted → File → Program → List ℕ → Type 0
+Leaves wanted.Nothing file program schedule = ⊥
+Leaves wanted.Bad file program schedule = Unit {0}
+Leaves wanted.Stuck file program schedule = LeavesStuck file program schedule
 
 module _ (file : File) (program : Program) where
   abbrev pub run_of : List ℕ → Run
@@ -61,13 +64,14 @@ module _ (file : File) (program : Program) where
       ∙ runs_on us (s ++ u ∷ [])
       ∙ ap run_of (append_assoc s (u ∷ []) us)
 
-  -- no thread of a run acts and one waits, if that is asked
-  abbrev EndsRun : Bool → Run → Type 0
-  EndsRun true r = IsOver file program r.state × ((t : ℕ) × ((step file program r.state t).did ≡ did.Waits))
-  EndsRun false r = Unit {0}
+  -- nothing is looked for, or no thread of a run acts and one waits if that is asked
+  abbrev EndsRun : Wanted → Run → Type 0
+  EndsRun wanted.Nothing r = ⊥
+  EndsRun wanted.Bad r = Unit {0}
+  EndsRun wanted.Stuck r = IsOver file program r.state × ((t : ℕ) × ((step file program r.state t).did ≡ did.Waits))
 
   module _ {S N : Type 0} (first : S) (next : S → Event → S) (is_bad : S → Bool) (stands : N → S) (lost : Option N)
-      (stuck : Bool) where
+      (w : Wanted) where
     abbrev Names : N → Option S
     Names n = Some (stands n)
 
@@ -79,7 +83,7 @@ module _ (file : File) (program : Program) where
 
     -- the run's history is bad, and it ends as is asked
     abbrev Bad : Run → Type 0
-    Bad r = (is_bad (fold next first r.history) ≡ true) × EndsRun stuck r
+    Bad r = (is_bad (fold next first r.history) ≡ true) × EndsRun w r
 
     lost_on : (r : Run) (t : ℕ) → NeverBad next is_bad (fold next first r.history) →
         NeverBad next is_bad (fold next first (run_after file program r t).history)
@@ -131,11 +135,12 @@ module _ (file : File) (program : Program) where
           (run_after file program) (length program.threads)
       covers = record { step = covers_step }
 
-      stuck_there : (q : Noticed (Option S)) (r : Run) → IsNear (Some first) Next file program q r → (b : Bool) →
-          EndsRun b r →
-          EndsAt b file q.configuration
-      stuck_there q r near false ends = tt
-      stuck_there q r near true ends =
+      stuck_there : (q : Noticed (Option S)) (r : Run) → IsNear (Some first) Next file program q r → (w : Wanted) →
+          EndsRun w r →
+          EndsAt w file q.configuration
+      stuck_there q r near wanted.Nothing ends = ends
+      stuck_there q r near wanted.Bad ends = tt
+      stuck_there q r near wanted.Stuck ends =
           let ahead = none_ahead (Some first) Next (nameless_hides next) file program q r near ends.0 in
           let told : (t : ℕ) → (step file program r.state t).did ≡
           renamed_did near.names (stride file q.configuration t).did =
@@ -148,7 +153,7 @@ module _ (file : File) (program : Program) where
             waits = waits_other near.names (stride file q.configuration ends.1.0).did (sym (told ends.1.0) ∙ ends.1.1);
           }
 
-      ends : (q : Noticed (Option S)) (r : Run) → Near q r → Bad r → IsEnd Names (nameless_bad is_bad) stuck file q
+      ends : (q : Noticed (Option S)) (r : Run) → Near q r → Bad r → IsEnd Names (nameless_bad is_bad) w file q
       ends q r (inr never) (bad, end) = absurd (no_true (sym bad ∙ never []))
         where
           no_true : true ≡ false → ⊥
@@ -156,7 +161,7 @@ module _ (file : File) (program : Program) where
       ends q r (inl near) (bad, end) = record {
         bad = λ n is.
             ap (nameless_bad is_bad) (sym is) ∙ ap is_bad (lost_there n q.noted r.history is near.noted) ∙ bad;
-        ends = stuck_there q r near stuck end;
+        ends = stuck_there q r near w end;
       }
 
       near_start : IsNear (Some first) Next file program (noticed_of (Some first) Next file program []) (run_of [])
@@ -171,23 +176,24 @@ module _ (file : File) (program : Program) where
         noted = refl;
       }
 
-      ends_run : (b : Bool) (schedule : List ℕ) → Leaves b file program schedule → EndsRun b (run_of schedule)
-      ends_run true schedule left = (left.over, (left.thread, left.waits))
-      ends_run false schedule left = tt
+      ends_run : (w : Wanted) (schedule : List ℕ) → Leaves w file program schedule → EndsRun w (run_of schedule)
+      ends_run wanted.Nothing schedule left = left
+      ends_run wanted.Bad schedule left = tt
+      ends_run wanted.Stuck schedule left = (left.over, (left.thread, left.waits))
 
       -- each schedule whose history is bad, and that ends as is asked, costs as much as the least walk to a node that
       -- wasn't looked at
       pub all_cost : (states : List (Noticed (Option S))) (edges : List Edge) (looked : List Bool) (counted : Counted)
           (least : ℕ) →
           IsGraph (Rests (Some first) Next file program Names lost) (GoesTo (Some first) Next file program)
-          (IsEnd Names (nameless_bad is_bad) stuck file) (length program.threads)
+          (IsEnd Names (nameless_bad is_bad) w file) (length program.threads)
           (noticed_of (Some first) Next file program []) states edges looked →
           IsLeast counted edges (length states) looked least →
           (schedule : List ℕ) → is_bad (fold next first (source_history file program schedule)) ≡ true →
-          Leaves stuck file program schedule →
+          Leaves w file program schedule →
           least ≤ costs counted 0 schedule
       all_cost states edges looked counted least graph is schedule bad left =
           at_least _ _ _ Near (run_after file program) Bad (length program.threads) covers ends
           (noticed_of (Some first) Next file program []) states edges looked graph counted least (run_of [])
           (inl near_start) is schedule
-          (subst Bad (sym (runs_on schedule [])) (bad, ends_run stuck schedule left))
+          (subst Bad (sym (runs_on schedule [])) (bad, ends_run w schedule left))

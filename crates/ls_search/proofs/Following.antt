@@ -1,100 +1,46 @@
--- The path to a state that was found, from its end.
-use Rattle.std.proofs.Common.{◌≡◌, ℕ, zero, suc, ◌+◌, ◌<◌, ◌≤◌, List, [], ◌∷◌, ◌++◌, length, Some, refl, sym, ap}
-use Rattle.std.proofs.Common.{◌∙◌, subst, arith, replicate, reverse}
+-- Where walks of a graph of states lead.
+use Rattle.std.proofs.Common.{◌≡◌, ℕ, ◌+◌, List, [], ◌∷◌, Some, sym, ap, ◌∙◌, subst, replicate}
 use Rattle.std.specs.Prelude.{slice_get}
 use Rattle.std.specs.List.{fold}
-use Rattle.std.proofs.lemmas.List.{reverse-append}
 use Rattle.std.proofs.lemmas.List.Sums.{fold-append}
 use Rattle.ls_events.specs.declared.event.Event.{Event}
 use Rattle.ls_checked.specs.CheckedTree.{File}
 use Rattle.ls_checked.specs.CheckedProgram.{Program}
+use Rattle.ls_graph.specs.declared.closing.Edge.{Edge}
+use Rattle.ls_graph.specs.Graph.{AreEdges, IsEdge}
+use Rattle.ls_graph.specs.Walks.{Walks}
+use Rattle.ls_graph.proofs.Lists.{some_is}
 use Rattle.ls_search_laws.specs.Noticing.{Noticed, noticed_after}
-use Rattle.ls_transitions.specs.Tables.{Table}
-use Rattle.ls_transitions.proofs.Keeping.{below}
-use Rattle.ls_search.specs.declared.paths.Link.{Link}
-use Rattle.ls_search.specs.declared.places.Node.{Node}
-use Rattle.ls_search.specs.Found.{IsLinkOf}
-use Rattle.ls_search.specs.Searched.{IsAfter, IsLike, IsSound, noticed_at, pairs_at}
-use Rattle.ls_search.proofs.Likeness.{like_both, like_fold}
-use Rattle.ls_search.proofs.Pairs.{map_there}
-use Rattle.ls_search_laws.proofs.Acting.{replicate_last}
+use Rattle.ls_search.specs.Graphs.{steps_along}
+use Rattle.ls_search.specs.Searched.{HidesNames, IsLike}
+use Rattle.ls_search.specs.Space.{GoesTo}
+use Rattle.ls_search.proofs.Likeness.{like_both, like_fold, like_same}
+use Rattle.ls_search.proofs.Reaching.{reaches_fold}
 
-some_is : {A : Type 0} {x y : A} → Some x ≡ Some y → x ≡ y
-some_is h = cc
-
--- so often the same, the other way round
-reverse_same : {A : Type 0} (n : ℕ) (x : A) → reverse (replicate n x) ≡ replicate n x
-reverse_same zero x = refl
-reverse_same (suc n) x =
-    reverse-append (x ∷ []) (replicate n x)
-    ∙ ap (λ l. l ++ x ∷ []) (reverse_same n x)
-    ∙ sym (replicate_last n x)
-    ∙ ap (λ k. replicate k x) one_more
+module _ {S : Type 0} (first : S) (next : S → Event → S) (file : File) (program : Program) (hides : HidesNames next)
+    (states : List (Noticed S)) (edges : List Edge) (led : AreEdges (GoesTo first next file program) states edges)
   where
-    one_more : n + 1 ≡ suc n
-    one_more = omega arith
+    abbrev After : Noticed S → List ℕ → Noticed S
+    After p ts = fold (noticed_after first next file program) p ts
 
-module _ {S : Type 0} (first : S) (next : S → Event → S) (file : File) (program : Program) where
-  -- the threads so far, the last first, lead from one pair to the other
-  abbrev pub Follows : Noticed S → List ℕ → Noticed S → Type 0
-  Follows q threads p = IsLike p (fold (noticed_after first next file program) q (reverse threads))
+    -- an edge's steps
+    pub edge_like : (e : Edge) (is : IsEdge (GoesTo first next file program) states e) →
+        IsLike is.other (After is.one (replicate (e.mark + 1) e.actor))
+    edge_like e is = reaches_fold first next file program is.one is.other e.actor e.mark is.leads.reaches
 
-  module _ (threads : ℕ) (t : Table) (states : List S) (nodes : List Node)
-      (sound : IsSound first next file program threads t states nodes) where
-    pub link_within : (place : ℕ) (l : Link) → IsLinkOf nodes place l → l.before < length nodes
-    link_within place l is = let b = below nodes place is.node is.here in omega (arith, b, is.earlier, is.before)
-
-    pub follows_more : (place : ℕ) (l : Link) (path more : List ℕ) (p : Noticed S) → IsLinkOf nodes place l →
-        ((q : Noticed S) → slice_get (pairs_at first t states nodes) place ≡ Some q → Follows q path p) →
-        more ≡ path ++ replicate l.steps l.thread →
-        (q : Noticed S) → slice_get (pairs_at first t states nodes) l.before ≡ Some q → Follows q more p
-    follows_more place l path more p is leads with_more q here =
-        let pair : Noticed S = noticed_at first t states is.node.place in
-        let pair_here : slice_get (pairs_at first t states nodes) place ≡ Some (noticed_at first t states
-        is.node.place) =
-        map_there (λ (m : Node). noticed_at first t states m.place) nodes place is.node is.here in
-        let after : IsAfter first next file program (pairs_at first t states nodes) is.node
-        (noticed_at first t states is.node.place) =
-        (sound.linked place is.node (noticed_at first t states is.node.place) is.here pair_here).later is.earlier in
-        let same : after.earlier ≡ q =
-        some_is (sym after.there ∙ ap (slice_get (pairs_at first t states nodes)) (sym is.before) ∙ here) in
-        let steps : replicate l.steps l.thread ≡ replicate is.node.steps is.node.thread =
-        λ i. replicate (is.steps i) (is.thread i) in
-        let turned : reverse more ≡ replicate is.node.steps is.node.thread ++ reverse path =
-        ap reverse with_more
-        ∙ reverse-append path (replicate l.steps l.thread)
-        ∙ ap (λ ts. ts ++ reverse path) (reverse_same l.steps l.thread ∙ steps) in
-        let all_from : fold (noticed_after first next file program) q (reverse more) ≡
-        fold (noticed_after first next file program)
-        (fold (noticed_after first next file program) after.earlier (replicate is.node.steps is.node.thread))
-        (reverse path) =
-        ap (fold (noticed_after first next file program) q) turned
-        ∙ fold-append (noticed_after first next file program) q (replicate is.node.steps is.node.thread) (reverse path)
-        ∙ ap (λ (r : Noticed S). fold (noticed_after first next file program)
-        (fold (noticed_after first next file program) r (replicate is.node.steps is.node.thread)) (reverse path))
-        (sym same) in
-        subst (IsLike p) (sym all_from)
-        (like_both p (fold (noticed_after first next file program) (noticed_at first t states is.node.place)
-        (reverse path))
-        (fold (noticed_after first next file program)
-        (fold (noticed_after first next file program) after.earlier (replicate is.node.steps is.node.thread))
-        (reverse path))
-        (leads (noticed_at first t states is.node.place) pair_here)
-        (like_fold first next file program sound.hides (noticed_at first t states is.node.place)
-        (fold (noticed_after first next file program) after.earlier (replicate is.node.steps is.node.thread)) after.is
-        (reverse path)))
-
-    -- at the first
-    pub follows_all : (place : ℕ) (path all : List ℕ) (r p : Noticed S) →
-        ((n : Node) × (slice_get nodes place ≡ Some n) × (place ≤ n.before)) →
-        ((q : Noticed S) → slice_get (pairs_at first t states nodes) place ≡ Some q → Follows q path p) →
-        all ≡ reverse path →
-        slice_get (pairs_at first t states nodes) 0 ≡ Some r →
-        IsLike p (fold (noticed_after first next file program) r all)
-    follows_all place path all r p end leads turned here =
-        let pair_here : slice_get (pairs_at first t states nodes) place ≡ Some (noticed_at first t states end.0.place) =
-        map_there (λ (m : Node). noticed_at first t states m.place) nodes place end.0 end.1 in
-        let is_first : place ≡ 0 =
-        (sound.linked place end.0 (noticed_at first t states end.0.place) end.1 pair_here).is_first end.2 in
-        subst (IsLike p) (sym (ap (fold (noticed_after first next file program) r) turned))
-        (leads r (ap (slice_get (pairs_at first t states nodes)) is_first ∙ here))
+    -- and a walk's
+    pub walk_like : (path : List Edge) (at to : ℕ) (p q : Noticed S) → slice_get states at ≡ Some p →
+        slice_get states to ≡ Some q →
+        Walks edges at path to →
+        IsLike q (After p (steps_along path))
+    walk_like [] at to p q here there walks = like_same q p (some_is (sym here ∙ ap (slice_get states) walks ∙ there))
+    walk_like (e ∷ path) at to p q here there walks =
+        let is : IsEdge (GoesTo first next file program) states e = led walks.0.0 e walks.0.1 in
+        let one : is.one ≡ p = some_is (sym is.here ∙ ap (slice_get states) walks.1 ∙ here) in
+        let reps : List ℕ = replicate (e.mark + 1) e.actor in
+        let after : IsLike is.other (After p (replicate (e.mark + 1) e.actor)) =
+        subst (λ (x : Noticed S). IsLike is.other (After x (replicate (e.mark + 1) e.actor))) one (edge_like e is) in
+        subst (IsLike q) (sym (fold-append (noticed_after first next file program) p reps (steps_along path)))
+        (like_both q (After is.other (steps_along path)) (After (After p reps) (steps_along path))
+        (walk_like path e.to to is.other q is.there there walks.2)
+        (like_fold first next file program hides is.other (After p reps) after (steps_along path)))

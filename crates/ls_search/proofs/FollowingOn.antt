@@ -6,6 +6,7 @@ use Rattle.std.proofs.lemmas.Option.{get_or_from_slice_get, slice_get_past}
 use Rattle.ls_meaning.specs.declared.step.Did.{Did}
 use Rattle.ls_search.specs.declared.places.Looked.{Looked}
 use Rattle.ls_search.specs.declared.places.Looked.TheVariants as looked
+use Rattle.ls_search.specs.declared.space.Wanted.{Wanted}
 use Rattle.ls_search.specs.Answers.{IsStuck}
 use Rattle.ls_search.specs.Searched.{acts_of, waits_of}
 use Rattle.ls_search.specs.Space.{IsEnd, IsSeenAs}
@@ -109,19 +110,20 @@ placed_still file threads first t t' states states' grows keeps n is = (
     file_is = grows.file ∙ is.file_is;
     constants = is.constants;
     node = node_stays first t t' states states' grows keeps threads n.place is.node;
-    weight = is.weight ∙ ap weight_of (sym (stays t t' n.place.store n.place.works.items grows is.node.numbers));
+    weight = subst (λ (c : Configuration). n.weight ≤ weight_of c)
+        (sym (stays t t' n.place.store n.place.works.items grows is.node.numbers)) is.weight;
   },
   pair_stays first t t' states states' grows keeps threads n.place is.node,
 )
 
 -- where what is noted isn't bad, the state isn't looked for
-pub no_end : {S N : Type 0} (first : S) (stands : N → S) (is_bad : S → Bool) (stuck : Bool) (file : File) (t : Table)
+pub no_end : {S N : Type 0} (first : S) (stands : N → S) (is_bad : S → Bool) (w : Wanted) (file : File) (t : Table)
     (values : List N) (n : NumberedState) →
     n.noted < length (map stands values) →
     is_bad (slice_index_or (map stands values) n.noted first) ≡ false →
-    IsEnd stands is_bad stuck file (noticed_at first t (map stands values) n) →
+    IsEnd stands is_bad w file (noticed_at first t (map stands values) n) →
     ⊥
-no_end {S} first stands is_bad stuck file t values n within good end =
+no_end {S} first stands is_bad w file t values n within good end =
     let m = there (map stands values) n.noted within in
     let v = map_from stands values n.noted m.0 m.1 in
     no_both good (end.bad v.0 (v.2 ∙ sym (get_or_from_slice_get (map stands values) n.noted m.0 first m.1)))
@@ -182,6 +184,64 @@ module _ (file : File) (t : Table) (n : NumberedState) (threads : ℕ) (width : 
           (sym (ap (λ (s : Stride). s.did) (missing_stride file t n.store n.works.items stuck.thread
           (slice_get_past n.works.items stuck.thread past))) ∙ stuck.waits)
 
+-- a thread that doesn't act is still
+still_seen : (l : Looked) (d : Did) → IsSeenAs l d → acts_of l ≡ false → IsStill d
+still_seen looked.Idle d is off = subst IsStill (sym is) tt
+still_seen looked.Waits d is off = subst IsStill (sym is) tt
+still_seen looked.Acts d is off = cc
+
+waits_seen : (l : Looked) (d : Did) → IsSeenAs l d → waits_of l ≡ true → d ≡ did.Waits
+waits_seen looked.Idle d is on = cc
+waits_seen looked.Waits d is on = is
+waits_seen looked.Acts d is on = cc
+
+or_on : (a b : Bool) → (a || b) ≡ true → (a ≡ true) ⊎ (b ≡ true)
+or_on true b h = inl refl
+or_on false b h = inr h
+
+module _ (file : File) (t : Table) (n : NumberedState) (threads : ℕ) (width : length n.works.items ≡ threads) where
+  -- what a thread does there
+  abbrev pub did_of : ℕ → Did
+  did_of u = (stride file (configuration_of t n) u).did
+
+  -- one more thread that doesn't act
+  pub still_more : (thread : ℕ) (l : Looked) → ((u : ℕ) → u < thread → IsStill (did_of u)) →
+      IsSeenAs l (did_of thread) →
+      acts_of l ≡ false →
+      (u : ℕ) → u < thread + 1 → IsStill (did_of u)
+  still_more thread l before seen off u less = by_place (cases_lt u thread)
+    where
+      by_place : (u < thread) ⊎ (thread ≤ u) → IsStill (did_of u)
+      by_place (inl h) = before u h
+      by_place (inr h) =
+          let same : thread ≡ u = omega (arith, h, less) in
+          subst (λ v. IsStill (did_of v)) same (still_seen l (did_of thread) seen off)
+
+  -- and that waits, or one before it does
+  pub waits_more : (thread : ℕ) (l : Looked) (waits : Bool) →
+      (waits ≡ true → (u : ℕ) × (did_of u ≡ did.Waits)) →
+      IsSeenAs l (did_of thread) →
+      (waits || waits_of l) ≡ true →
+      (u : ℕ) × (did_of u ≡ did.Waits)
+  waits_more thread l waits before seen on = by_one (or_on waits (waits_of l) on)
+    where
+      by_one : (waits ≡ true) ⊎ (waits_of l ≡ true) → (u : ℕ) × (did_of u ≡ did.Waits)
+      by_one (inl h) = before h
+      by_one (inr h) = (thread, waits_seen l (did_of thread) seen h)
+
+  -- where none of them acts and one waits, the state is stuck
+  pub all_still : ((u : ℕ) → u < threads → IsStill (did_of u)) → (u : ℕ) × (did_of u ≡ did.Waits) →
+      IsStuck file (configuration_of t n)
+  all_still still one = record { still = λ u. by_place u (cases_lt u threads); thread = one.0; waits = one.1 }
+    where
+      by_place : (u : ℕ) → (u < threads) ⊎ (threads ≤ u) → IsStill (did_of u)
+      by_place u (inl h) = still u h
+      by_place u (inr h) =
+          let past : length n.works.items ≤ u = omega (arith, h, width) in
+          subst IsStill
+          (sym (ap (λ (s : Stride). s.did) (missing_stride file t n.store n.works.items u
+          (slice_get_past n.works.items u past)))) tt
+
 -- what is seen while tables grow was so before
 pub seen_before : (t t' : Table) (n : NumberedState) → Grows t t' → IsThere t n → (u : ℕ) (l : Looked) →
     IsSeenAs l (stride t'.file (configuration_of t' n) u).did →
@@ -189,3 +249,18 @@ pub seen_before : (t t' : Table) (n : NumberedState) → Grows t t' → IsThere 
 seen_before t t' n grows is u l seen =
     subst (λ (f : File). IsSeenAs l (stride f (configuration_of t n) u).did) grows.file
     (subst (λ (k : Configuration). IsSeenAs l (stride t'.file k u).did) (stays t t' n.store n.works.items grows is) seen)
+
+-- what is stuck before tables grow is so after that, and the other way round
+pub stuck_later : (t t' : Table) (n : NumberedState) → Grows t t' → IsThere t n →
+    IsStuck t.file (configuration_of t n) →
+    IsStuck t'.file (configuration_of t' n)
+stuck_later t t' n grows is stuck =
+    subst (λ (f : File). IsStuck f (configuration_of t' n)) (sym grows.file)
+    (subst (IsStuck t.file) (sym (stays t t' n.store n.works.items grows is)) stuck)
+
+pub stuck_before : (t t' : Table) (n : NumberedState) → Grows t t' → IsThere t n →
+    IsStuck t'.file (configuration_of t' n) →
+    IsStuck t.file (configuration_of t n)
+stuck_before t t' n grows is stuck =
+    subst (λ (f : File). IsStuck f (configuration_of t n)) grows.file
+    (subst (IsStuck t'.file) (stays t t' n.store n.works.items grows is) stuck)

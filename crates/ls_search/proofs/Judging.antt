@@ -13,7 +13,7 @@ use Rattle.ls_checked.specs.CheckedProgram.{Program}
 use Rattle.ls_meaning.specs.Renamings.{IsRenaming}
 use Rattle.ls_meaning.specs.Runs.{State, source_history, source_run, step}
 use Rattle.ls_meaning.specs.Still.{IsActing, IsStill}
-use Rattle.ls_search_laws.specs.Configuration.{configuration_of, stride}
+use Rattle.ls_search_laws.specs.Configuration.{Configuration, configuration_of, stride}
 use Rattle.ls_search_laws.specs.Noticing.{IsAlikeUnder, Noticed, StaysBad, noticed_after, noticed_of}
 use Rattle.ls_search_laws.specs.Noticing.{renamed_event}
 use Rattle.ls_search_laws.specs.Search.{IsEndFound, IsSearch}
@@ -25,7 +25,8 @@ use Rattle.ls_search_laws.proofs.Search.{finds_ends, finds_none_bad}
 use Rattle.ls_search_laws.proofs.Telling.{long_of_all, tells_truth}
 use Rattle.ls_search.specs.Answers.{ClosesAll, IsStuck}
 use Rattle.ls_search.specs.Strides.{at_once}
-use Rattle.ls_search.specs.Searched.{HidesNames}
+use Rattle.ls_search.specs.Graphs.{HaveObjects}
+use Rattle.ls_search.specs.Searched.{HidesNames, IsOther}
 use Rattle.ls_search.proofs.Unrenamed.{own, unrenamed}
 use Rattle.ls_search.specs.Nameless.{is_nameless, nameless_bad, nameless_next}
 use Rattle.ls_search.specs.Verdicts.{ActsAfter, AllGood, LeavesStuck, NeverStuck}
@@ -234,3 +235,23 @@ module _ {S : Type 0} (first : S) (next : S → Event → S) (file : File) (prog
       subst IsActing
       (sym (step_stride file program (source_run file program (replicate k 0 ++ path))
       (long_of_all file program (replicate k 0 ++ path)) u).0) at
+
+  -- what a state's configuration is like is what that of a schedule's is like
+  pub other_of : (c : Configuration) →
+      IsOther c (fold (noticed_after first next file program) (noticed_of first next file program (replicate k 0))
+      path).configuration →
+      IsOther c (configuration_of file program (source_run file program (replicate k 0 ++ path)))
+  other_of c is =
+      subst (λ (p : Noticed S). IsOther c p.configuration) (tells_truth first next file program (replicate k 0) path) is
+
+-- the same states, by what leads to them
+pub objects_if : (P Q : List ℕ → Configuration → Type 0) (states most : ℕ) →
+    ((path : List ℕ) (c : Configuration) → P path c → Q path c) →
+    HaveObjects P states most →
+    HaveObjects Q states most
+objects_if P Q states most so h = record {
+  list = h.list;
+  many = h.many;
+  reached = λ c is. let r = h.reached c is in (r.0, so r.0 c r.1);
+  more = h.more;
+}

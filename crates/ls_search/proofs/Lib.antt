@@ -7,6 +7,8 @@ pub mod Looking
 pub mod Sights
 pub mod Expanding
 pub mod Following
+pub mod Walking
+pub mod Told
 pub mod Answering
 pub mod Unrenamed
 pub mod Telling
@@ -17,7 +19,6 @@ pub mod Lists
 pub mod Tracks
 pub mod Apart
 pub mod Stepping
-pub mod Growing
 pub mod Trying
 pub mod Judging
 pub mod Progressing

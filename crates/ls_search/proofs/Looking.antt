@@ -1,5 +1,5 @@
 -- A state that is reached from one of those that were found.
-use Rattle.std.proofs.Common.{◌≡◌, inl, inr, ℕ, ◌+◌, ◌<◌, List, length, Some, sym, ap}
+use Rattle.std.proofs.Common.{◌≡◌, ℕ, ◌+◌, ◌<◌, List, length, Some, sym, ap}
 use Rattle.std.proofs.Common.{◌∙◌, subst, arith}
 use Rattle.std.specs.Prelude.{slice_get}
 use Rattle.ls_events.specs.declared.event.Event.{Event}
@@ -14,7 +14,6 @@ use Rattle.ls_transitions.proofs.Keeping.{below}
 use Rattle.ls_search.specs.declared.places.Node.{Node}
 use Rattle.ls_search.specs.declared.places.NumberedState.{NumberedState}
 use Rattle.ls_search.specs.Found.{HasPlace, Pushed}
-use Rattle.ls_search.specs.Grown.{GrownBy}
 use Rattle.ls_search.specs.Places.{configuration_of}
 use Rattle.ls_search.specs.Strides.{ActsBy}
 use Rattle.ls_search.specs.Searched.{ActsIn, IsAfter, IsNode, IsSound, Reaches, noticed_at, pairs_at}
@@ -79,27 +78,3 @@ module _ {S : Type 0} (first : S) (next : S → Event → S) (file : File) (prog
       subst (λ (r : Noticed S). ActsIn first next file program (pairs_at first t' states' nodes') r u) same
       (acts_in first next file program t' states' nodes' (noticed_at first t states n.place) u q k reached_so did_act
       (subst (HasPlace nodes') place_is there))
-
-  -- one state more at most
-  pub grown_reached : GrownBy file (pairs_at first t states nodes) nodes nodes' at u
-  grown_reached = by_pushed pushed
-    where
-      acting : (p : Noticed S) → slice_get (pairs_at first t states nodes) at ≡ Some p →
-          IsActing (stride file p.configuration u).did
-      acting p p_here =
-          let same : noticed_at first t states n.place ≡ p = some_is (sym pair_here ∙ p_here) in
-          subst (λ (r : Noticed S). IsActing (stride file r.configuration u).did) same
-          (subst (λ (f : File). IsActing (stride f (configuration_of t n.place) u).did) sound.file_is
-          (acting_is first next file program (stride t.file (configuration_of t n.place) u).did step.action step.answer
-          (ap (λ (s : Stride). s.did) acts.is)))
-
-      by_pushed : Pushed nodes nodes' node → GrownBy file (pairs_at first t states nodes) nodes nodes' at u
-      by_pushed (inl same) = inl same
-      by_pushed (inr more) = inr (record {
-        node = node;
-        is = more;
-        before = before_is;
-        by = thread_is;
-        steps = omega (arith, steps_is);
-        acts = acting;
-      })

@@ -1,7 +1,7 @@
 -- What is known of how states were found stays while others are found.
-use Rattle.std.proofs.Common.{◌≡◌, ◌⊎◌, inl, inr, ℕ, ◌+◌, ◌<◌, List, [], length, Option, None, Some, refl, sym, ap}
+use Rattle.std.proofs.Common.{◌≡◌, ◌⊎◌, inl, inr, ℕ, ◌+◌, ◌<◌, List, [], length, Some, sym, ap}
 use Rattle.std.proofs.Common.{◌∙◌, subst, arith, get_or}
-use Rattle.std.specs.Prelude.{IfNone, IfSome, slice_get}
+use Rattle.std.specs.Prelude.{slice_get}
 use Rattle.ls_events.specs.declared.event.Event.{Event}
 use Rattle.ls_checked.specs.CheckedTree.{File}
 use Rattle.ls_checked.specs.CheckedProgram.{Program}
@@ -85,15 +85,6 @@ module _ (nodes nodes' : List Node) (at thread : ℕ) (within : at < length node
   distinct_looked most looked.Idle found = distinct_stay found
   distinct_looked most looked.Waits found = distinct_stay found
   distinct_looked most looked.Acts found = distinct_found most found
-
--- ---- answers
-
-pub of_some : {A : Type 0} (P : A → Type 0) (o : Option A) (a : A) → o ≡ Some a → IfSome o P → P a
-of_some P o a is h = subst (λ x. IfSome x P) is h
-
-pub none_then : {A P : Type 0} (o : Option A) → ((a : A) → o ≡ Some a → ⊥) → IfNone o P → P
-none_then None isnt h = h
-none_then (Some a) isnt h = absurd (isnt a refl)
 
 -- one state alone
 pub steps_first : {S : Type 0} (file : File) (pairs : List (Noticed S)) (nodes : List Node) → length nodes ≡ 1 →

@@ -1,31 +1,27 @@
--- What a search that has closed tells.
-use Rattle.std.proofs.Common.{◌≡◌, ◌⊎◌, inl, inr, ℕ, ◌<◌, ◌≤◌, Bool, true, false, List, length, Option, None, Some}
-use Rattle.std.proofs.Common.{sym, ap, ◌∙◌, subst, arith}
+-- What a graph of states that has closed tells.
+use Rattle.std.proofs.Common.{◌≡◌, inl, inr, ℕ, ◌<◌, Bool, true, false, List, length, Option, None, Some}
+use Rattle.std.proofs.Common.{sym, ap, ◌∙◌, subst}
 use Rattle.std.specs.Prelude.{Contains, IfNone, IfSome, replicate, slice_get}
-use Rattle.std.proofs.lemmas.Bool.{cases_lt, cases_Bool}
-use Rattle.std.proofs.lemmas.Option.{get_or_from_slice_get, slice_get-get_or, slice_get_past}
+use Rattle.std.proofs.lemmas.Option.{get_or_from_slice_get, slice_get-get_or}
 use Rattle.ls_events.specs.declared.event.Event.{Event}
 use Rattle.ls_checked.specs.CheckedTree.{File}
 use Rattle.ls_checked.specs.CheckedProgram.{Program}
+use Rattle.ls_graph.specs.declared.closing.Edge.{Edge}
+use Rattle.ls_graph.specs.Found.{HasAny}
+use Rattle.ls_graph.specs.Graph.{IsEdge, IsGraph, IsTold, IsWhole}
+use Rattle.ls_graph.proofs.Lists.{below, some_is}
 use Rattle.ls_meaning.specs.declared.step.Did.{Did}
 use Rattle.ls_meaning.specs.declared.step.Did.TheVariants as did
 use Rattle.ls_meaning.specs.Renamings.{IsRenaming}
 use Rattle.ls_meaning.specs.Still.{IsActing, IsStill}
-use Rattle.ls_search_laws.specs.Configuration.{Stride, stride}
+use Rattle.ls_search_laws.specs.Configuration.{stride}
 use Rattle.ls_search_laws.specs.Noticing.{Noticed, noticed_after}
 use Rattle.ls_search_laws.specs.Search.{IsFound}
-use Rattle.ls_transitions.specs.Tables.{Table}
-use Rattle.ls_transitions.proofs.Keeping.{below, there}
-use Rattle.ls_search.specs.declared.places.Node.{Node}
-use Rattle.ls_search.specs.declared.places.Seen.{Seen}
 use Rattle.ls_search.specs.Answers.{ClosesAll, IsStuck}
-use Rattle.ls_search.specs.Searched.{AreExpanded, IsExpanded, IsIn, IsSound, noticed_at, pairs_at}
+use Rattle.ls_search.specs.Space.{GoesTo, Rests}
 use Rattle.ls_search.specs.Strides.{at_once}
-use Rattle.ls_search.proofs.Expanding.{pairs_length}
-use Rattle.ls_search.proofs.Pairs.{map_from}
-use Rattle.ls_search.proofs.Strides.{missing_stride}
 
-none_map : {A : Type 0} (P Q : Type 0) (o : Option A) → (P → Q) → IfNone o P → IfNone o Q
+pub none_map : {A : Type 0} (P Q : Type 0) (o : Option A) → (P → Q) → IfNone o P → IfNone o Q
 none_map P Q None f h = f h
 none_map P Q (Some x) f h = tt
 
@@ -45,115 +41,89 @@ acting_still (did.Acted action answer) acts still = still
 acting_still did.Waits acts still = acts
 acting_still did.Idle acts still = acts
 
-idle_still : (d : Did) → d ≡ did.Idle → IsStill d
-idle_still d e = subst IsStill (sym e) tt
+module _ {N S : Type 0} (stands : N → S) (first : S) (next : S → Event → S) (file : File) (program : Program)
+    (threads : ℕ) (Ends : Noticed S → Type 0) (root : Noticed S) (states : List (Noticed S)) (edges : List Edge)
+    (looked : List Bool)
+    (graph : IsGraph (Rests first next file program stands None) (GoesTo first next file program) Ends threads root
+    states edges looked) where
+  -- where the thread leads from there
+  pub record IsReached (p : Noticed S) (u : ℕ) : Type 0 where
+    pub place : ℕ
+    pub other : Noticed S
+    pub there : slice_get states place ≡ Some other
+    pub steps : ℕ
+    pub goes : GoesTo first next file program p u steps other
 
-idle_not_waits : (d : Did) → d ≡ did.Idle → d ≡ did.Waits → ⊥
-idle_not_waits d e f = cc
+  -- an edge leads to a state
+  edge_goes : (e : Edge) → IsEdge (GoesTo first next file program) states e → (at : ℕ) (p : Noticed S) → e.from ≡ at →
+      slice_get states at ≡ Some p →
+      IsReached p e.actor
+  edge_goes e is at p from here =
+      let one : is.one ≡ p = some_is (sym is.here ∙ ap (slice_get states) from ∙ here) in
+      record {
+        place = e.to;
+        other = is.other;
+        there = is.there;
+        steps = e.mark;
+        goes = subst (λ (x : Noticed S). GoesTo first next file program x e.actor e.mark is.other) one is.leads;
+      }
 
-module _ {S : Type 0} (first : S) (next : S → Event → S) (file : File) (program : Program) (threads : ℕ) (t : Table)
-    (states : List S) (nodes : List Node) (sound : IsSound first next file program threads t states nodes) where
-  -- a thread that isn't there is idle
-  beyond : (at : ℕ) (p : Noticed S) → slice_get (pairs_at first t states nodes) at ≡ Some p → (u : ℕ) → threads ≤ u →
-      (stride file p.configuration u).did ≡ did.Idle
-  beyond at p here u past =
-      let n = map_from (λ (m : Node). noticed_at first t states m.place) nodes at p here in
-      let many : length n.0.place.works.items ≤ u = omega (arith, past, (sound.are at n.0 n.1).width) in
-      ap (λ (q : Noticed S). (stride file q.configuration u).did) (sym n.2)
-      ∙ ap (λ (s : Stride). s.did) (missing_stride file t n.0.place.store n.0.place.works.items u
-      (slice_get_past n.0.place.works.items u many))
-
-  pub stuck_there : (at : ℕ) (p : Noticed S) (s : Seen) → slice_get (pairs_at first t states nodes) at ≡ Some p →
-      IsExpanded first next file program (pairs_at first t states nodes) threads p s →
-      s.acts ≡ false →
-      s.waits ≡ true →
-      IsStuck file p.configuration
-  stuck_there at p s here h acts waits =
-      let w = h.waiting waits in
-      record { still = λ u. by_thread u (cases_lt u threads); thread = w.0; waits = w.2 }
+  -- a thread that acts at a state that was looked at leads to a state
+  pub leads_on : (at : ℕ) (p : Noticed S) → slice_get states at ≡ Some p → slice_get looked at ≡ Some true → (u : ℕ) →
+      u < threads →
+      IsActing (stride file p.configuration u).did →
+      IsReached p u
+  leads_on at p here done u within acts = by_told (((graph.told at done).1 p here).told u within)
     where
-      by_thread : (u : ℕ) → (u < threads) ⊎ (threads ≤ u) → IsStill (stride file p.configuration u).did
-      by_thread u (inl less) = h.still acts u less
-      by_thread u (inr past) = idle_still (stride file p.configuration u).did (beyond at p here u past)
+      by_told : IsTold (Rests first next file program stands None) Ends edges at p u → IsReached p u
+      by_told (inl (inl still)) = absurd (acting_still (stride file p.configuration u).did acts still)
+      by_told (inl (inr lost)) = absurd lost
+      by_told (inr has) =
+          subst (IsReached p) has.actor_is
+          (edge_goes has.edge (graph.led has.place has.edge has.here) at p has.from_is here)
 
-  found : (p : Noticed S) → IsIn file (pairs_at first t states nodes) p →
-      IsFound at_once IsRenaming (λ m n. m ≡ n) file (pairs_at first t states nodes) p
-  found p h = record {
-    pair = h.pair;
-    there = at_there (pairs_at first t states nodes) h.place h.pair h.here;
-    threads = replicate h.steps h.thread;
-    last = h.reaches.last;
-    leads = h.reaches.leads;
-    names = h.reaches.other.names;
-    allowed = h.reaches.other.renaming;
-    same = h.reaches.other.same;
-    alike = h.reaches.noted_still;
+  -- where an edge leads from a state, it isn't stuck
+  pub not_stuck : (at : ℕ) (p : Noticed S) → slice_get states at ≡ Some p → HasAny edges at →
+      IsStuck file p.configuration →
+      ⊥
+  not_stuck at p here any stuck =
+      let e : Edge = any.1 in
+      let goes = (edge_goes any.1 (graph.led any.0 any.1 any.2) at p any.3 here).goes in
+      acting_still (stride file p.configuration e.actor).did goes.acts (stuck.still e.actor)
+
+  found : (p : Noticed S) (u : ℕ) → IsReached p u →
+      IsFound at_once IsRenaming (λ m n. m ≡ n) file states (noticed_after first next file program p u)
+  found p u h = record {
+    pair = h.other;
+    there = at_there states h.place h.other h.there;
+    threads = replicate h.steps u;
+    last = h.goes.reaches.last;
+    leads = h.goes.reaches.leads;
+    names = h.goes.reaches.other.names;
+    allowed = h.goes.reaches.other.renaming;
+    same = h.goes.reaches.other.same;
+    alike = h.goes.reaches.noted_still;
   }
 
-  module _ (seen : List Seen) (expanded : AreExpanded first next file program (pairs_at first t states nodes) threads
-      seen)
-      (all : length seen ≡ length nodes) where
-    -- what is known of one of them
-    pub known : (at : ℕ) (p : Noticed S) → slice_get (pairs_at first t states nodes) at ≡ Some p →
-        (s : Seen) × (slice_get seen at ≡ Some s)
-        × IsExpanded first next file program (pairs_at first t states nodes) threads p s
-    known at p here =
-        let within : at < length seen =
-        let b = below (pairs_at first t states nodes) at p here in
-        omega (arith, b, all, pairs_length first t states nodes) in
-        let s = there seen at within in
-        (s.0, s.1, expanded at p s.0 here s.1)
-
-    none_stuck : ((at : ℕ) (s : Seen) → slice_get seen at ≡ Some s → s.acts ≡ false → s.waits ≡ false) →
-        (p : Noticed S) → Contains (pairs_at first t states nodes) p → IsStuck file p.configuration → ⊥
-    none_stuck none p there stuck = by_acts (cases_Bool k.0.acts)
-      where
-        here : slice_get (pairs_at first t states nodes) there.0 ≡ Some p
-        here = there_at (pairs_at first t states nodes) p there
-
-        k : (s : Seen) × (slice_get seen there.0 ≡ Some s)
-            × IsExpanded first next file program (pairs_at first t states nodes) threads p s
-        k = known there.0 p (there_at (pairs_at first t states nodes) p there)
-
-        by_thread : k.0.acts ≡ false → (stuck.thread < threads) ⊎ (threads ≤ stuck.thread) → ⊥
-        by_thread acts (inl less) = k.2.free (none there.0 k.0 k.1 acts) stuck.thread less stuck.waits
-        by_thread acts (inr past) =
-            idle_not_waits (stride file p.configuration stuck.thread).did (beyond there.0 p here stuck.thread past)
-            stuck.waits
-
-        by_acts : (k.0.acts ≡ true) ⊎ (k.0.acts ≡ false) → ⊥
-        by_acts (inl acts) =
-            let u = k.2.acting acts in acting_still (stride file p.configuration u.0).did u.2 (stuck.still u.0)
-        by_acts (inr acts) = by_thread acts (cases_lt stuck.thread threads)
-
-    pub closes_all : {N P : Type 0} (stands : N → S) (is_bad : S → Bool) (root : Noticed S) (bad stuck : Option P) →
-        ((k : ℕ) (s : S) → slice_get states k ≡ Some s → (n : N) × (stands n ≡ s)) →
-        slice_get (pairs_at first t states nodes) 0 ≡ Some root →
-        IfNone bad ((at : ℕ) (p : Noticed S) → slice_get (pairs_at first t states nodes) at ≡ Some p →
-        is_bad p.noted ≡ false) →
-        IfNone stuck ((at : ℕ) (s : Seen) → slice_get seen at ≡ Some s → s.acts ≡ false → s.waits ≡ false) →
-        ClosesAll stands first next is_bad file program threads root bad stuck
-    closes_all {N} {P} stands is_bad root bad stuck stood begins good free = record {
-      pairs = pairs_at first t states nodes;
-      begins = begins;
-      more = λ p u there within acts.
-          let k = known there.0 p (there_at (pairs_at first t states nodes) p there) in
-          found (noticed_after first next file program p u) (k.2.leads u within acts);
-      noted = λ p there. stood_for p there.0 (there_at (pairs_at first t states nodes) p there);
-      good = none_map _ _ bad
-          (λ (h : (at : ℕ) (p : Noticed S) → slice_get (pairs_at first t states nodes) at ≡ Some p →
-          is_bad p.noted ≡ false). λ p there. h there.0 p (there_at (pairs_at first t states nodes) p there)) good;
-      free = none_map _ _ stuck none_stuck free;
-    }
-      where
-        stood_for : (p : Noticed S) (at : ℕ) → slice_get (pairs_at first t states nodes) at ≡ Some p →
-            (n : N) × (stands n ≡ p.noted)
-        stood_for p at here =
-            let m = map_from (λ (k : Node). noticed_at first t states k.place) nodes at p here in
-            let s = there states m.0.place.noted (sound.are at m.0 m.1).noted_there in
-            let n = stood m.0.place.noted s.0 s.1 in (
-              n.0,
-              n.1
-                  ∙ sym (get_or_from_slice_get states m.0.place.noted s.0 first s.1)
-                  ∙ ap (λ (q : Noticed S). q.noted) m.2,
-            )
+  pub closes_all : {P : Type 0} (is_bad : S → Bool) (bad stuck : Option P) → IsWhole (length states) looked →
+      ((at : ℕ) (p : Noticed S) → slice_get states at ≡ Some p → (n : N) × (stands n ≡ p.noted)) →
+      IfNone bad ((at : ℕ) (p : Noticed S) → slice_get states at ≡ Some p → is_bad p.noted ≡ false) →
+      IfNone stuck ((at : ℕ) (p : Noticed S) → slice_get states at ≡ Some p → slice_get looked at ≡ Some true →
+      IsStuck file p.configuration → ⊥) →
+      ClosesAll stands first next is_bad file program threads root bad stuck
+  closes_all is_bad bad stuck whole noted good free = record {
+    pairs = states;
+    begins = graph.begins;
+    more = λ p u there within acts. found p u (leads_on there.0 p (there_at states p there) (done p there) u within acts);
+    noted = λ p there. noted there.0 p (there_at states p there);
+    good = none_map _ _ bad
+        (λ (h : (at : ℕ) (p : Noticed S) → slice_get states at ≡ Some p → is_bad p.noted ≡ false) (p : Noticed S)
+        (there : Contains states p). h there.0 p (there_at states p there)) good;
+    free = none_map _ _ stuck
+        (λ (h : (at : ℕ) (p : Noticed S) → slice_get states at ≡ Some p → slice_get looked at ≡ Some true →
+        IsStuck file p.configuration → ⊥) (p : Noticed S) (there : Contains states p).
+        h there.0 p (there_at states p there) (done p there)) free;
+  }
+    where
+      done : (p : Noticed S) (there : Contains states p) → slice_get looked there.0 ≡ Some true
+      done p there = whole there.0 (below states there.0 p (there_at states p there))

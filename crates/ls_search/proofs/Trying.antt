@@ -1,9 +1,8 @@
 -- Schedules that lead to the states that were found.
-use Rattle.std.proofs.Common.{◌≡◌, ◌⊎◌, inl, inr, ℕ, zero, suc, ◌+◌, ◌-◌, ◌<◌, ◌≤◌, List, [], ◌∷◌, ◌++◌, length, Some}
+use Rattle.std.proofs.Common.{◌≡◌, ◌⊎◌, inl, inr, ℕ, zero, suc, ◌+◌, ◌<◌, ◌≤◌, List, [], ◌∷◌, ◌++◌, length, Some}
 use Rattle.std.proofs.Common.{refl, sym, ap, ◌∙◌, subst, arith, replicate, length-append}
 use Rattle.std.specs.Prelude.{slice_get}
 use Rattle.std.specs.List.{fold}
-use Rattle.std.proofs.lemmas.Bool.{cases_lt}
 use Rattle.std.proofs.lemmas.List.Sums.{fold-append}
 use Rattle.ls_events.specs.declared.event.Event.{Event}
 use Rattle.ls_checked.specs.CheckedTree.{File}
@@ -11,17 +10,16 @@ use Rattle.ls_checked.specs.CheckedProgram.{Program}
 use Rattle.ls_meaning.specs.Still.{IsActing}
 use Rattle.ls_search_laws.specs.Configuration.{stride}
 use Rattle.ls_search_laws.specs.Noticing.{Noticed, noticed_after}
-use Rattle.ls_transitions.specs.Tables.{Table, Keeps}
-use Rattle.ls_transitions.proofs.Keeping.{there}
-use Rattle.ls_search.specs.declared.places.Node.{Node}
-use Rattle.ls_search.specs.Grown.{AreGrown, IsFoundBy}
-use Rattle.ls_search.specs.Searched.{IsAfter, IsLike, IsSound, noticed_at, pairs_at}
+use Rattle.ls_graph.specs.declared.closing.Edge.{Edge}
+use Rattle.ls_graph.specs.Found.{AreFound, AreOnce, IsFoundBy}
+use Rattle.ls_graph.specs.Graph.{AreEdges, IsEdge}
+use Rattle.ls_graph.specs.Grown.{Keeps}
+use Rattle.ls_graph.proofs.Lists.{keeps_pushed, pushed_where, some_is, there}
+use Rattle.ls_search.specs.Searched.{HidesNames, IsLike}
+use Rattle.ls_search.specs.Space.{GoesTo}
 use Rattle.ls_search.specs.Tried.{GoesOn, HasTried, Tried}
+use Rattle.ls_search.proofs.Following.{edge_like}
 use Rattle.ls_search.proofs.Likeness.{acting_other, like_both, like_fold, like_same}
-use Rattle.ls_search.proofs.Pairs.{keeps_pushed, map_there, pushed_where}
-
-some_is : {A : Type 0} {x y : A} → Some x ≡ Some y → x ≡ y
-some_is h = cc
 
 -- ---- by what a thread acts
 
@@ -56,23 +54,32 @@ nothing at t here = cc
 
 -- ---- the schedules
 
-module _ {S : Type 0} (first : S) (next : S → Event → S) (file : File) (program : Program) (threads : ℕ) (t : Table)
-    (states : List S) (nodes : List Node) (sound : IsSound first next file program threads t states nodes) (i : ℕ)
-    (grown : AreGrown file (pairs_at first t states nodes) nodes i 0) (root : Noticed S)
-    (begins : slice_get (pairs_at first t states nodes) 0 ≡ Some root) where
+module _ {S : Type 0} (first : S) (next : S → Event → S) (file : File) (program : Program) (hides : HidesNames next)
+    (root : Noticed S) (states : List (Noticed S)) (edges : List Edge) (places : List ℕ)
+    (led : AreEdges (GoesTo first next file program) states edges) (begins : slice_get states 0 ≡ Some root)
+    (found : AreFound edges (length states) places) (once : AreOnce edges) where
+  abbrev After : Noticed S → List ℕ → Noticed S
+  After p ts = fold (noticed_after first next file program) p ts
+
   abbrev Acts : List ℕ → ℕ → Type 0
-  Acts path u =
-      IsActing (stride file (fold (noticed_after first next file program) root path).configuration u).did
+  Acts path u = IsActing (stride file (After root path).configuration u).did
+
+  -- it goes on by the edge that found the state
+  record IsBy (at : ℕ) (s : Tried) : Type 0 where
+    place : ℕ
+    edge : Edge
+    here : slice_get edges place ≡ Some edge
+    to : edge.to ≡ at
+    before : s.before ≡ edge.from
+    by : s.thread ≡ edge.actor
 
   -- the one at a place leads to the state there
   record Leads (tried : List Tried) (at : ℕ) (s : Tried) : Type 0 where
-    node : Node
-    here : slice_get nodes at ≡ Some node
-    before : s.before ≡ node.before
-    by : s.thread ≡ node.thread
-    like : IsLike (noticed_at first t states node.place)
-        (fold (noticed_after first next file program) root s.path)
+    state : Noticed S
+    here : slice_get states at ≡ Some state
+    like : IsLike state (After root s.path)
     none : at ≡ 0 → s.path ≡ []
+    by : 0 < at → IsBy at s
     on : 0 < at → GoesOn Acts tried at s
 
   record Lead (count : ℕ) : Type 0 where
@@ -93,18 +100,13 @@ module _ {S : Type 0} (first : S) (next : S → Event → S) (file : File) (prog
 
   leads_stay : (tried more : List Tried) (at : ℕ) (s : Tried) → Keeps tried more → Leads tried at s → Leads more at s
   leads_stay tried more at s keeps h = record {
-    node = h.node;
+    state = h.state;
     here = h.here;
-    before = h.before;
-    by = h.by;
     like = h.like;
     none = h.none;
+    by = h.by;
     on = λ past. on_stays tried more at s keeps (h.on past);
   }
-
-  pair_of : (at : ℕ) (n : Node) → slice_get nodes at ≡ Some n →
-      slice_get (pairs_at first t states nodes) at ≡ Some (noticed_at first t states n.place)
-  pair_of at n here = map_there (λ (m : Node). noticed_at first t states m.place) nodes at n here
 
   -- one more schedule
   lead_more : (count : ℕ) (l : Lead count) (s : Tried) → Leads (l.tried ++ s ∷ []) count s → Lead (suc count)
@@ -124,135 +126,116 @@ module _ {S : Type 0} (first : S) (next : S → Event → S) (file : File) (prog
           (subst (λ (k : ℕ). Leads (l.tried ++ s ∷ []) k s) is h)
 
   -- the first
-  first_lead : (l : Lead 0) → (n : Node) → slice_get nodes 0 ≡ Some n → Lead 1
-  first_lead l n here = lead_more 0 l (record { before = n.before; thread = n.thread; path = [] }) (record {
-    node = n;
-    here = here;
-    before = refl;
-    by = refl;
-    like = like_same (noticed_at first t states n.place) root (some_is (sym begins ∙ pair_of 0 n here));
+  first_lead : Lead 0 → Lead 1
+  first_lead l = lead_more 0 l (record { before = 0; thread = 0; path = [] }) (record {
+    state = root;
+    here = begins;
+    like = like_same root root refl;
     none = λ e. refl;
-    on = λ past. absurd (omega arith);
+    by = λ past. absurd (omega (arith, past));
+    on = λ past. absurd (omega (arith, past));
   })
 
   -- one that goes on from an earlier one
-  module _ (count : ℕ) (past : 0 < count) (l : Lead count) (n : Node) (here : slice_get nodes count ≡ Some n) where
-    earlier : n.before < count
-    earlier = by_place (cases_lt n.before count)
-      where
-        by_place : (n.before < count) ⊎ (count ≤ n.before) → n.before < count
-        by_place (inl less) = less
-        by_place (inr late) =
-            let none : count ≡ 0 =
-            (sound.linked count n (noticed_at first t states n.place) here (pair_of count n here)).is_first late in
-            absurd (omega arith)
+  module _ (k : ℕ) (within : suc k < length states) (l : Lead (suc k)) where
+    found_at : (place : ℕ) × (slice_get places k ≡ Some place)
+    found_at = there places k (omega (arith, found.many, within))
 
-    old : (r : Tried) × (slice_get l.tried n.before ≡ Some r)
-    old = there l.tried n.before (omega (arith, earlier, l.many))
+    is_by : IsFoundBy edges (k + 1) found_at.0
+    is_by = found.each k found_at.0 found_at.1
 
-    old_leads : Leads l.tried n.before old.0
-    old_leads = l.are n.before old.0 old.1
+    e : Edge
+    e = is_by.edge
 
-    old_pair : slice_get (pairs_at first t states nodes) n.before ≡
-        Some (noticed_at first t states old_leads.node.place)
-    old_pair = pair_of n.before old_leads.node old_leads.here
+    goes : IsEdge (GoesTo first next file program) states is_by.edge
+    goes = led found_at.0 is_by.edge is_by.here
 
-    is_after : IsAfter first next file program (pairs_at first t states nodes) n (noticed_at first t states n.place)
-    is_after =
-        (sound.linked count n (noticed_at first t states n.place) here (pair_of count n here)).later earlier
+    earlier : is_by.edge.from < suc k
+    earlier = omega (arith, is_by.earlier)
 
-    found : IsFoundBy file (pairs_at first t states nodes) n
-    found = grown.by count n here past
+    to_is : is_by.edge.to ≡ suc k
+    to_is = omega (arith, is_by.to_is)
+
+    old : (r : Tried) × (slice_get l.tried is_by.edge.from ≡ Some r)
+    old = there l.tried is_by.edge.from (omega (arith, earlier, l.many))
+
+    old_leads : Leads l.tried is_by.edge.from old.0
+    old_leads = l.are is_by.edge.from old.0 old.1
+
+    old_is : goes.one ≡ old_leads.state
+    old_is = some_is (sym goes.here ∙ old_leads.here)
 
     reps : List ℕ
-    reps = replicate n.steps n.thread
+    reps = replicate (is_by.edge.mark + 1) is_by.edge.actor
 
-    like : IsLike (noticed_at first t states n.place)
-        (fold (noticed_after first next file program) root (old.0.path ++ replicate n.steps n.thread))
+    like : IsLike goes.other (After root (old.0.path ++ replicate (is_by.edge.mark + 1) is_by.edge.actor))
     like =
-        let same : is_after.earlier ≡ noticed_at first t states old_leads.node.place =
-        some_is (sym is_after.there ∙ old_pair) in
-        let one : IsLike (noticed_at first t states n.place)
-        (fold (noticed_after first next file program) (noticed_at first t states old_leads.node.place)
-        (replicate n.steps n.thread)) =
-        subst (λ (q : Noticed S). IsLike (noticed_at first t states n.place)
-        (fold (noticed_after first next file program) q (replicate n.steps n.thread))) same is_after.is in
-        subst (IsLike (noticed_at first t states n.place))
-        (sym (fold-append (noticed_after first next file program) root old.0.path (replicate n.steps n.thread)))
-        (like_both (noticed_at first t states n.place)
-        (fold (noticed_after first next file program) (noticed_at first t states old_leads.node.place)
-        (replicate n.steps n.thread))
-        (fold (noticed_after first next file program)
-        (fold (noticed_after first next file program) root old.0.path) (replicate n.steps n.thread)) one
-        (like_fold first next file program sound.hides (noticed_at first t states old_leads.node.place)
-        (fold (noticed_after first next file program) root old.0.path) old_leads.like (replicate n.steps n.thread)))
+        let along : List ℕ = replicate (is_by.edge.mark + 1) is_by.edge.actor in
+        let one : IsLike goes.other (After old_leads.state (replicate (is_by.edge.mark + 1) is_by.edge.actor)) =
+        subst (λ (x : Noticed S). IsLike goes.other (After x (replicate (is_by.edge.mark + 1) is_by.edge.actor))) old_is
+        (edge_like first next file program hides states edges led is_by.edge goes) in
+        subst (IsLike goes.other) (sym (fold-append (noticed_after first next file program) root old.0.path along))
+        (like_both goes.other (After old_leads.state along) (After (After root old.0.path) along) one
+        (like_fold first next file program hides old_leads.state (After root old.0.path) old_leads.like along))
 
-    acting : Acts old.0.path n.thread
+    acting : Acts old.0.path is_by.edge.actor
     acting =
-        let same : found.earlier ≡ noticed_at first t states old_leads.node.place =
-        some_is (sym found.there ∙ old_pair) in
-        acting_other file (noticed_at first t states old_leads.node.place).configuration
-        (fold (noticed_after first next file program) root old.0.path).configuration old_leads.like.other n.thread
-        (subst (λ (q : Noticed S). IsActing (stride file q.configuration n.thread).did) same found.acts)
+        acting_other file old_leads.state.configuration (After root old.0.path).configuration old_leads.like.other
+        is_by.edge.actor
+        (subst (λ (x : Noticed S). IsActing (stride file x.configuration is_by.edge.actor).did) old_is goes.leads.acts)
 
-    one_more : Tried
-    one_more = record { before = n.before; thread = n.thread; path = old.0.path ++ replicate n.steps n.thread }
-
-    on : (s : Tried) → s.before ≡ n.before → s.thread ≡ n.thread →
-        s.path ≡ old.0.path ++ replicate n.steps n.thread →
-        GoesOn Acts (l.tried ++ s ∷ []) count s
-    on s before by path =
-        let steps_are : n.steps ≡ (n.steps - 1) + 1 = omega (arith, found.steps) in
-        record {
-          earlier = old.0;
-          there = keeps_pushed l.tried s s.before old.0 (ap (slice_get l.tried) before ∙ old.1);
-          before = omega (arith, before, earlier);
-          acting = subst (Acts old.0.path) (sym by) acting;
-          more = n.steps - 1;
-          is = path ∙ (λ j. old.0.path ++ replicate (steps_are j) (sym by j));
-        }
-
-    next_lead : Lead (suc count)
+    next_lead : Lead (suc (suc k))
     next_lead =
-        lead_more count l (record {
-          before = n.before;
-          thread = n.thread;
-          path = old.0.path ++ replicate n.steps n.thread;
+        lead_more (suc k) l (record {
+          before = is_by.edge.from;
+          thread = is_by.edge.actor;
+          path = old.0.path ++ replicate (is_by.edge.mark + 1) is_by.edge.actor;
         }) (record {
-          node = n;
-          here = here;
-          before = refl;
-          by = refl;
+          state = goes.other;
+          here = ap (slice_get states) (sym to_is) ∙ goes.there;
           like = like;
-          none = λ e. absurd (omega (arith, past, e));
-          on = λ later. on (record {
-            before = n.before;
-            thread = n.thread;
-            path = old.0.path ++ replicate n.steps n.thread;
-          }) refl refl refl;
+          none = λ e. absurd (omega (arith, e));
+          by = λ past. record {
+            place = found_at.0;
+            edge = is_by.edge;
+            here = is_by.here;
+            to = to_is;
+            before = refl;
+            by = refl;
+          };
+          on = λ past. record {
+            earlier = old.0;
+            there = keeps_pushed l.tried _ is_by.edge.from old.0 old.1;
+            before = earlier;
+            acting = acting;
+            more = is_by.edge.mark;
+            is = refl;
+          };
         })
 
-  leads : (count : ℕ) → count ≤ length nodes → Lead count
+  leads : (count : ℕ) → count ≤ length states → Lead count
   leads zero few = record { tried = []; many = refl; are = λ at s here. absurd (nothing at s here) }
-  leads (suc zero) few = let n = there nodes 0 (omega arith) in first_lead (leads zero (omega arith)) n.0 n.1
-  leads (suc (suc k)) few =
-      let n = there nodes (suc k) (omega arith) in
-      next_lead (suc k) (omega arith) (leads (suc k) (omega arith)) n.0 n.1
+  leads (suc zero) few = first_lead (leads zero (omega arith))
+  leads (suc (suc k)) few = next_lead k (omega (arith, few)) (leads (suc k) (omega (arith, few)))
 
-  all : Lead (length nodes)
-  all = leads (length nodes) (omega arith)
+  all : Lead (length states)
+  all = leads (length states) (omega arith)
 
-  pub has_tried : HasTried Acts (length nodes)
+  pub has_tried : HasTried Acts (length states)
   has_tried = record {
     tried = all.tried;
     many = all.many;
     are = record {
       first = λ s here. (all.are 0 s here).none refl;
       on = λ at s here past. (all.are at s here).on past;
-      once = λ j k r s at here past later before by.
-          let m = all.are j r at in
-          let n = all.are k s here in
-          grown.once j k m.node n.node m.here n.here past later (sym m.before ∙ before ∙ n.before)
-          (sym m.by ∙ by ∙ n.by);
+      once = λ j k r s at here past later before thread.
+          let m = (all.are j r at).by past in
+          let n = (all.are k s here).by later in
+          let same : m.place ≡ n.place =
+          once m.place n.place m.edge n.edge m.here n.here (sym m.before ∙ before ∙ n.before)
+          (sym m.by ∙ thread ∙ n.by) in
+          sym m.to
+          ∙ ap (λ (x : Edge). x.to) (some_is (sym m.here ∙ ap (slice_get edges) same ∙ n.here))
+          ∙ n.to;
     };
   }

@@ -10,7 +10,7 @@ use Rattle.ls_search_laws.specs.Configuration.{Configuration, stride}
 use Rattle.ls_search_laws.specs.Noticing.{AreAllGood, Noticed, noticed_after}
 use Rattle.ls_search_laws.specs.Search.{IsFound}
 use Rattle.ls_transitions.specs.Tables.{Table}
-use Rattle.ls_search.specs.declared.answers.Root.{Root}
+use Rattle.ls_search.specs.declared.roots.Root.{Root}
 use Rattle.ls_search.specs.Places.{configuration_at}
 use Rattle.ls_search.specs.Strides.{at_once}
 

@@ -1,6 +1,5 @@
 -- States that were found.
-use Rattle.std.specs.Prelude.{◌≡◌, ℕ, ◌<◌, ◌⊎◌, ◌++◌, ◌∷◌, [], List, Some, slice_get}
-use Rattle.ls_search.specs.declared.paths.Link.{Link}
+use Rattle.std.specs.Prelude.{◌≡◌, ℕ, ◌⊎◌, ◌++◌, ◌∷◌, [], List, Some, slice_get}
 use Rattle.ls_search.specs.declared.places.Node.{Node}
 use Rattle.ls_search.specs.declared.places.NumberedState.{NumberedState}
 
@@ -16,12 +15,3 @@ pub record HasPlace (nodes : List Node) (p : NumberedState) : Type 0 where
 -- the same, or one more
 abbrev pub Pushed : List Node → List Node → Node → Type 0
 Pushed old new node = (new ≡ old) ⊎ (new ≡ old ++ node ∷ [])
-
--- how the state at a place was found: after an earlier one
-pub record IsLinkOf (nodes : List Node) (at : ℕ) (l : Link) : Type 0 where
-  pub node : Node
-  pub here : slice_get nodes at ≡ Some node
-  pub before : l.before ≡ node.before
-  pub thread : l.thread ≡ node.thread
-  pub steps : l.steps ≡ node.steps
-  pub earlier : node.before < at

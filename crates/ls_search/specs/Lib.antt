@@ -6,11 +6,11 @@ pub mod SeenSearch
 pub mod Answers
 pub mod Listed
 pub mod Watching
-pub mod Grown
 pub mod Tried
 pub mod Closed
 pub mod Verdicts
 pub mod Nameless
 pub mod Runs
 pub mod Space
+pub mod Graphs
 pub mod Near

@@ -1,5 +1,5 @@
 -- The states of a program with what is noted, as nodes of a graph.
-use Rattle.std.specs.Prelude.{◌≡◌, ◌⊎◌, ℕ, Bool, true, false, List, length, None, Option, Some}
+use Rattle.std.specs.Prelude.{◌≡◌, ◌⊎◌, ◌≤◌, ℕ, Bool, true, List, length, None, Option, Some}
 use Rattle.ls_events.specs.declared.event.Event.{Event}
 use Rattle.ls_checked.specs.CheckedTree.{File}
 use Rattle.ls_checked.specs.CheckedProgram.{Program}
@@ -13,6 +13,8 @@ use Rattle.ls_transitions.specs.Tables.{Table}
 use Rattle.ls_search.specs.declared.places.Looked.{Looked}
 use Rattle.ls_search.specs.declared.places.Looked.TheVariants as looked
 use Rattle.ls_search.specs.declared.space.Kept.{Kept}
+use Rattle.ls_search.specs.declared.space.Wanted.{Wanted}
+use Rattle.ls_search.specs.declared.space.Wanted.TheVariants as wanted
 use Rattle.ls_search.specs.Answers.{IsStuck}
 use Rattle.ls_search.specs.Places.{configuration_of}
 use Rattle.ls_search.specs.Searched.{IsNode, Reaches}
@@ -21,12 +23,12 @@ use Rattle.ls_search.specs.Searched.{IsNode, Reaches}
 abbrev pub weight_of : Configuration → ℕ
 weight_of c = length c.store.things
 
--- the numbers stand for a state of a program of this file
+-- the numbers stand for a state of a program of this file, for which no more objects are counted than it has
 pub record IsPlaced {S : Type 0} (file : File) (threads : ℕ) (t : Table) (states : List S) (n : Kept) : Type 0 where
   pub file_is : t.file ≡ file
   pub constants : FileHasConstants file
   pub node : IsNode t states threads n.place
-  pub weight : n.weight ≡ weight_of (configuration_of t n.place)
+  pub weight : n.weight ≤ weight_of (configuration_of t n.place)
 
 -- what is seen of a step
 abbrev pub IsSeenAs : Looked → Did → Type 0
@@ -50,13 +52,14 @@ module _ {S : Type 0} (first : S) (next : S → Event → S) (file : File) (prog
     pub acts : IsActing (stride file p.configuration u).did
     pub reaches : Reaches file (noticed_after first next file program p u) q u steps
 
--- no thread acts and one waits, if that is asked
-abbrev pub EndsAt : Bool → File → Configuration → Type 0
-EndsAt true file c = IsStuck file c
-EndsAt false file c = Unit {0}
+-- nothing is looked for, or no thread acts and one waits if that is asked
+abbrev pub EndsAt : Wanted → File → Configuration → Type 0
+EndsAt wanted.Nothing file c = ⊥
+EndsAt wanted.Bad file c = Unit {0}
+EndsAt wanted.Stuck file c = IsStuck file c
 
 -- whatever stands for what is noted there, it is bad, and the state ends as is asked
-pub record IsEnd {N S : Type 0} (stands : N → S) (is_bad : S → Bool) (stuck : Bool) (file : File) (p : Noticed S) :
+pub record IsEnd {N S : Type 0} (stands : N → S) (is_bad : S → Bool) (w : Wanted) (file : File) (p : Noticed S) :
     Type 0 where
   pub bad : (n : N) → stands n ≡ p.noted → is_bad p.noted ≡ true
-  pub ends : EndsAt stuck file p.configuration
+  pub ends : EndsAt w file p.configuration

@@ -1,5 +1,5 @@
 -- What is told of all schedules of a program.
-use Rattle.std.specs.Prelude.{◌≡◌, ℕ, ◌++◌, Bool, false, List, length, replicate}
+use Rattle.std.specs.Prelude.{◌≡◌, ◌⊎◌, ℕ, ◌++◌, Bool, false, List, length, replicate}
 use Rattle.std.specs.List.{fold}
 use Rattle.ls_events.specs.declared.event.Event.{Event}
 use Rattle.ls_checked.specs.CheckedTree.{File}
@@ -9,6 +9,8 @@ use Rattle.ls_meaning.specs.Runs.{source_history, source_run, step}
 use Rattle.ls_meaning.specs.Still.{IsActing, IsOver}
 use Rattle.ls_search_laws.specs.Configuration.{configuration_of}
 use Rattle.ls_search.specs.Closed.{HasClosed}
+use Rattle.ls_search.specs.Graphs.{HaveObjects, most_objects}
+use Rattle.ls_search.specs.Searched.{IsOther}
 use Rattle.ls_search.specs.Tried.{HasTried}
 
 -- no schedule, of any length, has a bad history
@@ -42,3 +44,14 @@ abbrev pub AreAll : File → Program → ℕ → ℕ → Type 0
 AreAll file program setup states =
     HasClosed file (length program.threads)
     (configuration_of file program (source_run file program (replicate setup 0))) states
+
+-- So many states, to each of which a schedule leads after these steps of the setup but for names of objects, have more
+-- than 16,777,216 objects together.
+abbrev pub HaveManyObjects : File → Program → ℕ → ℕ → Type 0
+HaveManyObjects file program setup states =
+    HaveObjects (λ path c. IsOther c (configuration_of file program (source_run file program (replicate setup 0 ++ path))))
+    states most_objects
+
+-- if not all states are kept, there are as many as may be kept, or they have too many objects
+abbrev pub IsCut : File → Program → ℕ → ℕ → ℕ → Type 0
+IsCut file program limit setup states = (states ≡ limit) ⊎ HaveManyObjects file program setup states

@@ -3,8 +3,7 @@
 #![tactic(auto)]
 
 pub mod advancing;
-pub mod answers;
-mod closing;
+pub mod graphs;
 pub mod keeping;
 pub mod listing;
 pub mod moving;
@@ -12,8 +11,8 @@ pub mod nameless;
 pub mod noting;
 pub mod numbering;
 pub mod observing;
-pub mod paths;
 pub mod places;
+pub mod roots;
 pub mod run_listing;
 pub mod running;
 pub mod searching;

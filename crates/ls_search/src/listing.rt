@@ -13,7 +13,7 @@ ghost use Rattle.ls_search.specs.Searched.{AreExpanded, HidesNames};
 ghost use Rattle.ls_search.specs.SeenSearch.{IsSoundSearch, pairs_of};
 ghost use Rattle.ls_search.specs.Watching.{GoesOn};
 
-use crate::answers::{Root, start};
+use crate::roots::{Root, start};
 use crate::moving::has_setup_ended;
 use crate::places::{Node, Seen};
 use crate::searching::{Ground, Search, look, place_at, seen_with};

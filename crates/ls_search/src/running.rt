@@ -1,6 +1,6 @@
 // The search from where the setup leads to.
 
-ghost use Rattle.std.specs.Prelude.{◌≡◌, ◌≤◌, IfOk, IfSome, IsTrue, true, false, length, replicate};
+ghost use Rattle.std.specs.Prelude.{◌≡◌, ◌⊎◌, ◌≤◌, IfOk, IfSome, IsTrue, true, false, length, replicate};
 ghost use Rattle.std.specs.List.{fold};
 ghost use Rattle.ls_checked.specs.Plain.{plain_file};
 ghost use Rattle.ls_checked.specs.PlainProgram.{plain_program};
@@ -10,20 +10,21 @@ ghost use Rattle.ls_search_laws.specs.Noticing.{noticed_after, noticed_of};
 ghost use Rattle.ls_search_laws.specs.Stepping.{SetsUp};
 ghost use Rattle.ls_transitions.specs.Seen.{table_of};
 ghost use Rattle.ls_search.specs.Answers.{ClosesAll, IsStuck, root_of};
+ghost use Rattle.ls_search.specs.Graphs.{HaveObjects, most_objects};
 ghost use Rattle.ls_search.specs.Places.{AreThere};
-ghost use Rattle.ls_search.specs.Searched.{HidesNames};
+ghost use Rattle.ls_search.specs.Searched.{HidesNames, IsOther};
 ghost use Rattle.ls_search.specs.Tried.{HasTried};
 ghost use Rattle.ls_search.specs.Verdicts.{AreAll};
 
-use crate::answers::{Found, Root, search_from};
+use crate::graphs::{Found, search_from};
 use crate::numbering::{Numbered, number};
 use crate::observing::noted_of;
+use crate::roots::Root;
 use crate::searching::Ground;
 use crate::setting_up::{SetUp, set_up};
 use ls_checked::program::Program;
 use ls_checked::tree::File;
 use ls_observers::observer::Observer;
-use ls_renaming::constants::file_has_constants;
 use ls_transitions::transitions::Transitions;
 use std::alloc::{AllocError, Global};
 
@@ -109,7 +110,12 @@ pub fn search_run<O: Observer>(
         (plain_program program.now))
         (noticed_of (O.first observer.now) (O.next observer.now) (plain_file file.now) (plain_program program.now)
         (replicate r.setup 0)) path.items).configuration)) }
-    ensures cut { IfOk result (λ r. r.found.complete ≡ false → r.found.states ≡ limit) }
+    ensures cut { IfOk result (λ r. r.found.complete ≡ false → (r.found.states ≡ limit) ⊎
+        HaveObjects (λ path c. IsOther c
+        (fold (noticed_after (O.first observer.now) (O.next observer.now) (plain_file file.now)
+        (plain_program program.now))
+        (noticed_of (O.first observer.now) (O.next observer.now) (plain_file file.now) (plain_program program.now)
+        (replicate r.setup 0)) path).configuration) r.found.states most_objects) }
     ensures few { IfOk result (λ r. r.found.states ≤ limit) }
     ensures tried { IfOk result (λ r. HasTried (λ path u. IsActing (stride (plain_file file.now)
         (fold (noticed_after (O.first observer.now) (O.next observer.now) (plain_file file.now)
@@ -117,9 +123,6 @@ pub fn search_run<O: Observer>(
         (noticed_of (O.first observer.now) (O.next observer.now) (plain_file file.now) (plain_program program.now)
         (replicate r.setup 0)) path).configuration u).did) r.found.states) }
 {
-    if !file_has_constants(file) {
-        return Err(AllocError);
-    }
     let Prepared {
         steps,
         transitions,

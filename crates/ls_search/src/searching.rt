@@ -16,7 +16,6 @@ ghost use Rattle.ls_transitions.specs.Seen.{table_of};
 ghost use Rattle.ls_search.specs.declared.places.Node.{Node as NodeValue};
 ghost use Rattle.ls_search.specs.Listed.{FoundAs, FoundBy};
 ghost use Rattle.ls_search.specs.Places.{IsThere, configuration_of};
-ghost use Rattle.ls_search.specs.Grown.{GrownBy};
 ghost use Rattle.ls_search.specs.Strides.{ActsBy, HasStarted, IsStrideBy};
 ghost use Rattle.ls_search.specs.Searched.{ActsIn, IsLooked, IsNode, IsOther, Reaches, noticed_at};
 ghost use Rattle.ls_search.specs.Searched.{seen_with};
@@ -247,9 +246,6 @@ fn reach<O: Observer>(
     ensures few { OnOk result (length search.old.found.nodes.items ≤ ground.now.limit →
         length search.new.found.nodes.items ≤ ground.now.limit) }
     ensures seen { search.new.seen.items ≡ search.old.seen.items }
-    ensures grown { OnOk result (GrownBy (plain_file ground.now.file.now)
-        (pairs_of (O.first ground.now.observer.now) (O.stands ground.now.observer.now) search.old)
-        search.old.found.nodes.items search.new.found.nodes.items at thread) }
 {
     let place = place_at(&search.found.nodes, at);
     let after = go_on(
@@ -311,9 +307,6 @@ pub(crate) fn look<O: Observer>(
     ensures few { OnOk result (length search.old.found.nodes.items ≤ ground.now.limit →
         length search.new.found.nodes.items ≤ ground.now.limit) }
     ensures seen { search.new.seen.items ≡ search.old.seen.items }
-    ensures grown { OnOk result (GrownBy (plain_file ground.now.file.now)
-        (pairs_of (O.first ground.now.observer.now) (O.stands ground.now.observer.now) search.old)
-        search.old.found.nodes.items search.new.found.nodes.items at thread) }
 {
     let place = place_at(&search.found.nodes, at);
     let made = step_from(

@@ -1,6 +1,6 @@
 // The states of a program with what an observer notes, as a space of a graph.
 
-ghost use Rattle.std.specs.Prelude.{◌≡◌, ◌||◌, ◌<◌, IfNone, IfOk, IfSome, IsTrue, false, length, map, slice_index_or};
+ghost use Rattle.std.specs.Prelude.{◌≡◌, ◌||◌, ◌<◌, ◌≤◌, IfNone, IfOk, IfSome, IsTrue, false, length, map, slice_index_or};
 ghost use Rattle.std.specs.List.{fold};
 ghost use Rattle.ls_checked.specs.Plain.{plain_file};
 ghost use Rattle.ls_checked.specs.PlainProgram.{plain_program};
@@ -13,20 +13,20 @@ ghost use Rattle.ls_transitions.specs.Tables.{Grows, Keeps};
 ghost use Rattle.ls_transitions.specs.Seen.{table_of};
 ghost use Rattle.ls_transitions.specs.declared.moves.Step.{Step as StepValue};
 ghost use Rattle.ls_transitions.specs.declared.moves.Move.TheVariants.{Acts};
-ghost use Rattle.ls_search.specs.Answers.{IsStuck};
-ghost use Rattle.ls_search.specs.Places.{AreThere, IsThere, configuration_at, configuration_of};
+ghost use Rattle.ls_search.specs.Answers.{IsStuck, root_of};
+ghost use Rattle.ls_search.specs.Places.{AreThere, IsThere, configuration_of};
 ghost use Rattle.ls_search.specs.Searched.{IsNode, Reaches, acts_of, noticed_at, waits_of};
 ghost use Rattle.ls_search.specs.Space.{GoesTo, IsEnd, IsLost, IsPlaced, IsSeenAs, Rests, weight_of};
 ghost use Rattle.ls_search.specs.Strides.{ActsBy, HasStarted, IsStrideBy};
 
-use crate::answers::is_bad_at;
+use crate::roots::{Root, is_bad_at};
 use crate::keeping::{hash_of, is_same_place};
 use crate::moving::has_setup_ended;
 use crate::noting::{Pool, keep_noted, note};
-use crate::numbering::Numbered;
 use crate::places::{Looked, NumberedState};
 use crate::searching::{Ground, go_on, step_from};
 use ls_graph::closing::number_of;
+use ls_graph::marks::{is_marked, mark};
 use ls_graph::space::{Space, Step as Leading};
 use ls_observers::observer::Observer;
 use ls_renaming::constants::file_has_constants;
@@ -41,23 +41,45 @@ pub struct Tables<'a, N> {
     pub transitions: Transitions<'a>,
     pub renumbering: Renumbering,
     pub pool: Pool<N>,
+    /// By the number of a store: whether its objects are counted for a state.
+    pub counted: Vec<bool>,
 }
 
-/// A state that is kept, and how many objects it has.
+/// A state that is kept, and how many objects are counted for it: those of its store, or none where they are counted for
+/// another state.
 #[derive(Drop)]
 pub struct Kept {
     pub place: NumberedState,
     pub weight: usize,
 }
 
-/// The states of a program, with what an observer notes. Those are looked for that are bad.
+/// The most objects that the states that are kept have together, but for the last of them.
+pub const MOST_OBJECTS: usize = 0x100_0000;
+
+/// Which states are looked for.
+#[derive(Copy)]
+pub enum Wanted {
+    /// None.
+    Nothing,
+    /// Those that are bad.
+    Bad,
+    /// Of these, those at which no thread acts and one waits.
+    Stuck,
+}
+
+impl Clone for Wanted {
+    fn clone(&self) -> Result<Wanted, AllocError> {
+        Ok(*self)
+    }
+}
+
+/// The states of a program, with what an observer notes.
 #[derive(Drop)]
 pub struct StateSpace<'a, 'b, O, N> {
     pub ground: &'b Ground<'a, O>,
     /// What is noted of histories that are left out, if there is such a value.
     pub lost: Option<N>,
-    /// Whether no thread may act at a state that is looked for, and one must wait.
-    pub stuck: bool,
+    pub wanted: Wanted,
 }
 
 /// What a thread's next step does at a state.
@@ -81,12 +103,20 @@ fn move_from<'a>(
     Ok(made)
 }
 
-/// How many objects a state has.
-fn weight_at<'a>(transitions: &Transitions<'a>, place: &NumberedState) -> usize
+/// How many objects are counted for a state.
+fn weigh<'a>(
+    transitions: &Transitions<'a>,
+    counted: &mut Vec<bool>,
+    place: &NumberedState,
+) -> Result<usize, AllocError>
     requires { IsThere (table_of transitions.now) place.now }
-    ensures { result ≡ weight_of (configuration_of (table_of transitions.now) place.now) }
+    ensures { IfOk result (λ w. w ≤ weight_of (configuration_of (table_of transitions.now) place.now)) }
 {
-    transitions.store_at(place.store).things.len()
+    if is_marked(counted, place.store) {
+        return Ok(0);
+    }
+    mark(counted, place.store)?;
+    Ok(transitions.store_at(place.store).things.len())
 }
 
 /// Whether what is noted after a step is what is left out. True only where it is.
@@ -153,7 +183,7 @@ fn follow<'a, O: Observer>(
         (map (O.stands space.now.ground.now.observer.now) tables.new.pool.values.items) (length place.now.works.items)
         s.node.place)) }
     ensures weight { IfOk result (λ o. IfSome o (λ s.
-        s.node.weight ≡ weight_of (configuration_of (table_of tables.new.transitions) s.node.place))) }
+        s.node.weight ≤ weight_of (configuration_of (table_of tables.new.transitions) s.node.place))) }
     ensures reaches { IfOk result (λ o. IfSome o (λ s. Reaches (table_of tables.old.transitions).file
         (noticed_after (O.first space.now.ground.now.observer.now) (O.next space.now.ground.now.observer.now)
         (table_of tables.old.transitions).file (table_of tables.old.transitions).program
@@ -176,7 +206,7 @@ fn follow<'a, O: Observer>(
         step,
     )?;
     let mark = number_of(after.steps)?;
-    let weight = weight_at(&tables.transitions, &after.place);
+    let weight = weigh(&tables.transitions, &mut tables.counted, &after.place)?;
     let node = Kept {
         place: after.place,
         weight,
@@ -268,8 +298,8 @@ fn waits_with(waits: bool, looked: Looked) -> bool
     }
 }
 
-/// Whether no thread acts at a state, and one waits. False only where it isn't so.
-fn is_stuck_at<'a>(
+/// Whether no thread acts at a state, and one waits.
+pub(crate) fn is_stuck_at<'a>(
     alloc: Global,
     threads: u8,
     transitions: &mut Transitions<'a>,
@@ -277,6 +307,8 @@ fn is_stuck_at<'a>(
 ) -> Result<bool, AllocError>
     requires there { IsThere (table_of transitions.old) place.now }
     requires width { length place.now.works.items ≡ threads }
+    ensures some { IfOk result (λ b. IsTrue b → IsStuck (table_of transitions.old).file
+        (configuration_of (table_of transitions.old) place.now)) }
     ensures none { IfOk result (λ b. b ≡ false → IsStuck (table_of transitions.old).file
         (configuration_of (table_of transitions.old) place.now) → ⊥) }
     ensures grows { Grows (table_of transitions.old) (table_of transitions.new) }
@@ -305,24 +337,27 @@ fn is_end_at<'a, O: Observer>(
     ensures keeps { Keeps (map (O.stands space.now.ground.now.observer.now) tables.old.pool.values.items)
         (map (O.stands space.now.ground.now.observer.now) tables.new.pool.values.items) }
     ensures none { IfOk result (λ b. b ≡ false → IsEnd (O.stands space.now.ground.now.observer.now)
-        (O.bad space.now.ground.now.observer.now) space.now.stuck (plain_file space.now.ground.now.file.now)
+        (O.bad space.now.ground.now.observer.now) space.now.wanted (plain_file space.now.ground.now.file.now)
         (noticed_at (O.first space.now.ground.now.observer.now) (table_of tables.old.transitions)
         (map (O.stands space.now.ground.now.observer.now) tables.old.pool.values.items) node.now.place) → ⊥) }
 {
     let ground = space.ground;
-    if !is_bad_at(ground.observer, &tables.pool, &node.place) {
-        return Ok(false);
+    match space.wanted {
+        Wanted::Nothing => Ok(false),
+        Wanted::Bad => Ok(is_bad_at(ground.observer, &tables.pool, &node.place)),
+        Wanted::Stuck => {
+            if !is_bad_at(ground.observer, &tables.pool, &node.place) {
+                return Ok(false);
+            }
+            let stuck = is_stuck_at(
+                ground.alloc,
+                ground.threads,
+                &mut tables.transitions,
+                &node.place,
+            )?;
+            Ok(stuck)
+        }
     }
-    if !space.stuck {
-        return Ok(true);
-    }
-    let stuck = is_stuck_at(
-        ground.alloc,
-        ground.threads,
-        &mut tables.transitions,
-        &node.place,
-    )?;
-    Ok(stuck)
 }
 
 impl<'a, 'b, O: Observer> Space for StateSpace<'a, 'b, O, O::Noted> {
@@ -335,7 +370,7 @@ impl<'a, 'b, O: Observer> Space for StateSpace<'a, 'b, O, O::Noted> {
     ghost Leads = { λ s. GoesTo (O.first s.ground.now.observer.now) (O.next s.ground.now.observer.now)
         (plain_file s.ground.now.file.now) (plain_program s.ground.now.program.now) };
 
-    ghost Ends = { λ s. IsEnd (O.stands s.ground.now.observer.now) (O.bad s.ground.now.observer.now) s.stuck
+    ghost Ends = { λ s. IsEnd (O.stands s.ground.now.observer.now) (O.bad s.ground.now.observer.now) s.wanted
         (plain_file s.ground.now.file.now) };
 
     type Tables = Tables<'a, O::Noted>;
@@ -388,48 +423,46 @@ pub struct Beginning<'a, N> {
     pub root: Kept,
 }
 
-/// The state with these numbers, where nothing has been noted yet. It is refused too if a constant of the file names an
-/// object, which none does of a file that was read.
+/// The state where a search begins. It is refused too if a constant of the file names an object, which none does of a file
+/// that was read.
 pub fn begin<'a, O: Observer>(
     ground: &Ground<'_, O>,
-    numbered: Numbered<'a>,
+    transitions: Transitions<'a>,
+    root: Root<O::Noted>,
 ) -> Result<Beginning<'a, O::Noted>, AllocError>
-    requires there { AreThere (table_of numbered.transitions) numbered.store numbered.works.items }
-    requires file { (table_of numbered.transitions).file ≡ plain_file ground.now.file.now }
-    requires width { length numbered.works.items ≡ ground.now.threads }
-    ensures placed { IfOk result (λ b. IsPlaced (plain_file ground.now.file.now) ground.now.threads (table_of b.tables.transitions)
-        (map (O.stands ground.now.observer.now) b.tables.pool.values.items) b.root) }
+    requires there { AreThere (table_of transitions) root.store root.works.items }
+    requires file { (table_of transitions).file ≡ plain_file ground.now.file.now }
+    requires width { length root.works.items ≡ ground.now.threads }
+    ensures placed { IfOk result (λ b. IsPlaced (plain_file ground.now.file.now) ground.now.threads
+        (table_of b.tables.transitions) (map (O.stands ground.now.observer.now) b.tables.pool.values.items) b.root) }
     ensures stands { IfOk result (λ b. noticed_at (O.first ground.now.observer.now) (table_of b.tables.transitions)
         (map (O.stands ground.now.observer.now) b.tables.pool.values.items) b.root.place ≡
-        record {
-          configuration = configuration_at (table_of numbered.entry.transitions) numbered.entry.store
-              numbered.entry.works.items;
-          noted = O.first ground.now.observer.now;
-        }) }
+        root_of (O.stands ground.now.observer.now) (table_of transitions.entry) root) }
 {
     if !file_has_constants(ground.file) {
         return Err(AllocError);
     }
-    let Numbered {
-        transitions,
+    let Root {
         store,
         works,
-    } = numbered;
+        noted,
+    } = root;
     let mut pool = Pool::new(ground.alloc);
-    let first = ground.observer.start(ground.alloc)?;
-    let noted = keep_noted(ground.alloc, ground.observer, &mut pool, first)?;
+    let noted = keep_noted(ground.alloc, ground.observer, &mut pool, noted)?;
     let place = NumberedState {
         store,
         works,
         noted,
     };
-    let weight = weight_at(&transitions, &place);
+    let mut counted = Vec::new(ground.alloc);
+    let weight = weigh(&transitions, &mut counted, &place)?;
     let root = Kept { place, weight };
     Ok(Beginning {
         tables: Tables {
             transitions,
             renumbering: Renumbering::new(ground.alloc),
             pool,
+            counted,
         },
         root,
     })

@@ -7,9 +7,9 @@ ghost use Rattle.ls_checked.specs.PlainProgram.{plain_program};
 ghost use Rattle.ls_meaning.specs.Runs.{source_history};
 ghost use Rattle.ls_search_laws.specs.Noticing.{StaysBad};
 ghost use Rattle.ls_search_laws.specs.Stepping.{SetsUp};
-ghost use Rattle.ls_search.specs.Verdicts.{AllGood, AreAll, AreReached, LeavesStuck, NeverStuck};
+ghost use Rattle.ls_search.specs.Verdicts.{AllGood, AreAll, AreReached, IsCut, LeavesStuck, NeverStuck};
 
-use crate::answers::Found;
+use crate::graphs::Found;
 use crate::nameless::Nameless;
 use crate::running::search_run;
 use ls_checked::program::Program;
@@ -18,8 +18,7 @@ use ls_observers::observer::Observer;
 use std::alloc::{AllocError, Global};
 
 /// What is told of all schedules of a program. First how many steps of the setup act, how many states were found, and
-/// whether these are all. Then a path to a bad history, and one to a state in which no thread acts and one waits. A
-/// path
+/// whether these are all. Then a path to a bad history, and one to a state in which no thread acts and one waits. A path
 /// is of steps after those of the setup.
 #[derive(Drop)]
 pub struct Finding {
@@ -31,7 +30,7 @@ pub struct Finding {
 }
 
 /// Has an observer look at the histories of all schedules of a program, by the states that threads lead to. At most so
-/// many states are kept. A refusal is that memory ran out, or that a store, a work or a state has no number left. A
+/// many states are kept, and no more where their stores have over 16,777,216 objects together. A refusal is that memory ran out, or that a store, a work or a state has no number left. A
 /// call that answers an object is refused too: the calls of a program that was read answer none.
 pub fn verdict<O: Observer>(
     alloc: Global,
@@ -55,7 +54,8 @@ pub fn verdict<O: Observer>(
         LeavesStuck (plain_file file.now) (plain_program program.now) (replicate f.setup 0 ++ path.items))) }
     ensures all { IfOk result (λ f. IsTrue f.complete →
         AreAll (plain_file file.now) (plain_program program.now) f.setup f.states) }
-    ensures cut { IfOk result (λ f. f.complete ≡ false → f.states ≡ limit) }
+    ensures cut { IfOk result (λ f. f.complete ≡ false →
+        IsCut (plain_file file.now) (plain_program program.now) limit f.setup f.states) }
     ensures few { IfOk result (λ f. f.states ≤ limit) }
     ensures reached { IfOk result (λ f.
         AreReached (plain_file file.now) (plain_program program.now) f.setup f.states) }

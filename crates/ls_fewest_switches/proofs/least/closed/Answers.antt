@@ -30,12 +30,13 @@ returns g c =
     let states : List (Noticed g.O.Observer.State) = map state_of nodes in
     let Is : ℕ → Noticed g.O.Observer.State → Type 0 = λ n r.
     IsGraph (Rests first next file program stands c.args.lost) (GoesTo first next file program)
-    (IsEnd stands (g.O.Observer.bad o) c.args.scope.stuck file) n r states closing.graph.edges.items
+    (IsEnd stands (g.O.Observer.bad o) c.args.scope.wanted file) n r states closing.graph.edges.items
     closing.looked.items in
     let root : noticed_at first (table_of c.in_ok-beginning.beginning.tables.transitions)
     (map stands c.in_ok-beginning.beginning.tables.pool.values.items) c.in_ok-beginning.beginning.root.place ≡ noticed_of first next file program [] =
     c.in_ok-beginning.ensures.stands
-    ∙ ap (λ (k : Configuration). record { configuration = k; noted = first }) c.in_ok-numbered.ensures.start in
+    ∙ ap (λ (k : Configuration). record { configuration = k; noted = stands c.in_ok-start.field-0 }) c.in_ok-numbered.ensures.start
+    ∙ ap (λ (m : g.O.Observer.State). record { configuration = configuration_of file program (start program); noted = m }) c.in_ok-start.ensures in
     let actors : c.args.scope.plan.actors ≡ length program.threads =
     c.requires ∙ sym (length-map c.args.program.now.threads.items plain_thread) in
     record {

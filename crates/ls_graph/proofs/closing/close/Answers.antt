@@ -1,5 +1,7 @@
 -- Why `close` in src/closing.rt keeps its contract.
+use Rattle.ls_graph.proofs.Founding.{grown_alone}
 use Rattle.ls_graph.proofs.Growing.{first_stands}
+use Rattle.ls_graph.proofs.Weighing.{bounded_alone}
 use Rattle.ls_graph.proofs.closing.close.Goals as goal
 
 pub returns-clause-graph : goal.returns-clause-graph
@@ -12,3 +14,13 @@ returns-clause-graph g c =
       led = goes.led;
       told = c.in_ok-halt.ensures.looked;
     }
+
+pub close_all-requires-clause-grown : goal.close_all-requires-clause-grown
+close_all-requires-clause-grown g c =
+    grown_alone (record { found = c.in_ok-found.found; edges = c.new.result; by = c.new-2.result }) c.args.root
+    c.in_ok-found.ensures.alone c.new.ensures.items c.new-2.ensures.items
+
+pub returns-clause-bounded : goal.returns-clause-bounded
+returns-clause-bounded g c = λ room.
+    c.in_ok-halt.ensures.bounded (bounded_alone g.P.Space.weighs c.args.plan.bounds c.in_ok-found.found c.args.root
+    c.in_ok-found.ensures.alone c.in_ok-found.ensures.weight room)

@@ -22,7 +22,8 @@ use Rattle.ls_search.proofs.Expanding.{expanded_cut, expanded_end, here_more, lo
 use Rattle.ls_search.proofs.Pairs.{keeps_both}
 use Rattle.ls_search.proofs.Sights.{keeps_then, pair_here, sound_then}
 use Rattle.ls_search.proofs.Sounding.{expanded_none}
-use Rattle.ls_search.proofs.Stepping.{distinct_looked, none_then, of_some, steps_looked, steps_stay}
+use Rattle.ls_graph.proofs.Growing.{none_then, of_some}
+use Rattle.ls_search.proofs.Stepping.{distinct_looked, steps_looked, steps_stay}
 use Rattle.ls_search.proofs.Apart.{distinct_path}
 use Rattle.ls_search.proofs.listing.expand.Goals as goal
 

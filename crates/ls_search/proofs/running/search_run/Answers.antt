@@ -1,6 +1,6 @@
--- Why `search_run` in src/running.rt keeps its clauses `closes`, `bad`, `stuck` and `tried`.
+-- Why `search_run` in src/running.rt keeps its clauses `closes`, `all`, `bad`, `stuck`, `tried` and `cut`.
 
-use Rattle.std.proofs.Common.{rules, ◌≡◌, true, ℕ, Vec, Global, length, sym, ◌∙◌, subst, replicate}
+use Rattle.std.proofs.Common.{rules, ◌≡◌, ◌⊎◌, true, false, ℕ, Vec, Global, length, sym, ◌∙◌, subst, replicate}
 use Rattle.std.specs.Prelude.{IfSome}
 use Rattle.std.specs.List.{fold}
 use Rattle.std.proofs.lemmas.List.{length-map}
@@ -13,6 +13,8 @@ use Rattle.ls_search_laws.specs.Configuration.{stride}
 use Rattle.ls_search_laws.specs.Noticing.{Noticed, noticed_after, noticed_of}
 use Rattle.ls_search.specs.Answers.{ClosesAll, IsStuck}
 use Rattle.ls_search.specs.Closed.{HasClosed}
+use Rattle.ls_search.specs.Graphs.{HaveObjects, most_objects}
+use Rattle.ls_search.specs.Searched.{IsOther}
 use Rattle.ls_search.specs.Tried.{HasTried}
 use Rattle.ls_search.proofs.running.search_run.Goals as goal
 
@@ -75,3 +77,14 @@ returns-clause-tried g c =
     subst (λ (r : Noticed g.O.Observer.State). HasTried (λ path u. IsActing (stride file
     (fold (noticed_after first next file program) r path).configuration u).did) c.in_ok-found.found.states)
     c.in_ok-steps.ensures.root c.in_ok-found.ensures.tried
+
+pub returns-clause-cut : goal.returns-clause-cut
+returns-clause-cut g c =
+    let file : File = plain_file c.args.file.now in
+    let program : Program = plain_program c.args.program.now in
+    let first = g.O.Observer.first c.args.observer.now in
+    let next = g.O.Observer.next c.args.observer.now in
+    let found = c.in_ok-found.found in
+    subst (λ (r : Noticed g.O.Observer.State). found.complete ≡ false → (found.states ≡ c.args.limit) ⊎
+    HaveObjects (λ path d. IsOther d (fold (noticed_after first next file program) r path).configuration) found.states
+    most_objects) c.in_ok-steps.ensures.root c.in_ok-found.ensures.cut

@@ -6,7 +6,6 @@ use Rattle.ls_checked.specs.Plain.{plain_file}
 use Rattle.ls_checked.specs.PlainProgram.{plain_program}
 use Rattle.ls_meaning.specs.Runs.{has_ended}
 use Rattle.ls_search_laws.specs.Configuration.{stride}
-use Rattle.ls_search_laws.specs.Noticing.{Noticed}
 use Rattle.ls_transitions.specs.declared.moves.Move.{Move}
 use Rattle.ls_transitions.specs.declared.moves.Move.TheVariants as moves
 use Rattle.ls_transitions.specs.Tables.{Table}
@@ -15,9 +14,8 @@ use Rattle.ls_search.specs.declared.places.Node.{Node}
 use Rattle.ls_search.specs.declared.places.NumberedState.{NumberedState}
 use Rattle.ls_search.specs.Places.{configuration_of}
 use Rattle.ls_search.specs.Strides.{HasStarted, IsStrideBy}
-use Rattle.ls_search.specs.Searched.{noticed_at, pairs_at}
+use Rattle.ls_search.specs.Searched.{noticed_at}
 use Rattle.ls_search.specs.SeenSearch.{pairs_of}
-use Rattle.ls_search.proofs.Growing.{grown_since}
 use Rattle.ls_search.proofs.Pairs.{map_there}
 use Rattle.ls_search.proofs.Sights.{acts_then, here_then, idle_then, keeps_since, keeps_then, sound_then}
 use Rattle.ls_search.proofs.Sights.{started_then, waits_then}
@@ -114,26 +112,6 @@ returns-then-not-kept-clause-keeps g c =
     (pairs_of first (g.O.Observer.stands c.args.ground.now.observer.now) c.reach.new.search)
     c.in_ok-kept-in-Acts.ensures.keeps
 
-pub returns-then-not-kept-clause-grown : goal.returns-then-not-kept-clause-grown
-returns-then-not-kept-clause-grown g c =
-    let t : Table = table_of c.args.search.now.transitions in
-    let first = g.O.Observer.first c.args.ground.now.observer.now in
-    let next = g.O.Observer.next c.args.ground.now.observer.now in
-    let states : List g.O.Observer.State =
-    map (g.O.Observer.stands c.args.ground.now.observer.now) c.args.search.now.pool.values.items in
-    let nodes : List Node = c.args.search.now.found.nodes.items in
-    let n : Node = c.place_at-place.ensures.0 in
-    let here : slice_get nodes c.args.at ≡ Some n =
-    ap (λ l. slice_get l c.args.at) (sym c.deref.ensures.value) ∙ c.place_at-place.ensures.1 in
-    let t' : Table = table_of c.step_from.new.transitions in
-    let old : List (Noticed g.O.Observer.State) = pairs_at first t states nodes in
-    let mid : List (Noticed g.O.Observer.State) = pairs_at first t' states nodes in
-    grown_since (plain_file c.args.ground.now.file.now) old mid nodes c.reach.new.search.found.nodes.items c.args.at
-    c.args.thread
-    (here_then first next (plain_file c.args.ground.now.file.now) (plain_program c.args.ground.now.program.now)
-    c.args.ground.now.threads t t' states nodes c.requires.sound c.step_from.ensures.grows c.args.at)
-    c.in_ok-kept-in-Acts.ensures.grown
-
 pub returns-else-not-kept-clause-keeps : goal.returns-else-not-kept-clause-keeps
 returns-else-not-kept-clause-keeps g c =
     let t : Table = table_of c.args.search.now.transitions in
@@ -150,26 +128,6 @@ returns-else-not-kept-clause-keeps g c =
     c.args.ground.now.threads t t' states nodes c.requires.sound c.step_from.ensures.grows
     (pairs_of first (g.O.Observer.stands c.args.ground.now.observer.now) c.reach.new.search)
     c.in_ok-kept-in-Acts.ensures.keeps
-
-pub returns-else-not-kept-clause-grown : goal.returns-else-not-kept-clause-grown
-returns-else-not-kept-clause-grown g c =
-    let t : Table = table_of c.args.search.now.transitions in
-    let first = g.O.Observer.first c.args.ground.now.observer.now in
-    let next = g.O.Observer.next c.args.ground.now.observer.now in
-    let states : List g.O.Observer.State =
-    map (g.O.Observer.stands c.args.ground.now.observer.now) c.args.search.now.pool.values.items in
-    let nodes : List Node = c.args.search.now.found.nodes.items in
-    let n : Node = c.place_at-place.ensures.0 in
-    let here : slice_get nodes c.args.at ≡ Some n =
-    ap (λ l. slice_get l c.args.at) (sym c.deref.ensures.value) ∙ c.place_at-place.ensures.1 in
-    let t' : Table = table_of c.step_from.new.transitions in
-    let old : List (Noticed g.O.Observer.State) = pairs_at first t states nodes in
-    let mid : List (Noticed g.O.Observer.State) = pairs_at first t' states nodes in
-    grown_since (plain_file c.args.ground.now.file.now) old mid nodes c.reach.new.search.found.nodes.items c.args.at
-    c.args.thread
-    (here_then first next (plain_file c.args.ground.now.file.now) (plain_program c.args.ground.now.program.now)
-    c.args.ground.now.threads t t' states nodes c.requires.sound c.step_from.ensures.grows c.args.at)
-    c.in_ok-kept-in-Acts.ensures.grown
 
 pub returns-else-not-kept-clause-looked : goal.returns-else-not-kept-clause-looked
 returns-else-not-kept-clause-looked g c = λ p p_here.

@@ -16,7 +16,7 @@ use Rattle.ls_search.specs.Listed.{FoundBy}
 use Rattle.ls_search.specs.Places.{configuration_of}
 use Rattle.ls_search.specs.Strides.{ActsBy}
 use Rattle.ls_search.specs.Searched.{Reaches, noticed_at}
-use Rattle.ls_search.proofs.Looking.{acts_reached, grown_reached, keeps_reached, sound_reached}
+use Rattle.ls_search.proofs.Looking.{acts_reached, keeps_reached, sound_reached}
 use Rattle.ls_search.proofs.searching.reach.Goals as goal
 
 pub go_on-requires-clause-acts : goal.go_on-requires-clause-acts
@@ -80,37 +80,6 @@ returns-clause-keeps g c =
     (noticed_at first t' states' q) c.args.thread c.in_ok-after.after.steps) c.place_at-place.ensures.2
     c.in_ok-after.ensures.reaches in
     keeps_reached first next (plain_file c.args.ground.now.file.now) (plain_program c.args.ground.now.program.now)
-    c.args.ground.now.threads t t' states states' c.args.search.now.found.nodes.items c.keep.new.self.nodes.items
-    c.requires.sound c.go_on.ensures.grows c.go_on.ensures.keeps c.args.at n here c.args.thread c.args.step.now
-    (c.requires.acts n here) q c.in_ok-after.after.steps t.program reaches
-    (length c.place_at-place.result.now.works.items)
-    (ap (λ (p : NumberedState). length p.works.items) c.place_at-place.ensures.2) c.in_ok-after.ensures.node (record {
-      place =
-          q;
-      before = c.args.at;
-      thread = c.args.thread;
-      steps = c.in_ok-after.after.steps + 1;
-    })
-    c.in_ok-kept.ensures.pushed refl refl refl refl
-
-pub returns-clause-grown : goal.returns-clause-grown
-returns-clause-grown g c =
-    let t : Table = table_of c.args.search.now.transitions in
-    let t' : Table = table_of c.go_on.new.transitions in
-    let first = g.O.Observer.first c.args.ground.now.observer.now in
-    let next = g.O.Observer.next c.args.ground.now.observer.now in
-    let stands = g.O.Observer.stands c.args.ground.now.observer.now in
-    let states : List g.O.Observer.State = map stands c.args.search.now.pool.values.items in
-    let states' : List g.O.Observer.State = map stands c.go_on.new.pool.values.items in
-    let n : Node = c.place_at-place.ensures.0 in
-    let here : slice_get c.args.search.now.found.nodes.items c.args.at ≡ Some n =
-    ap (λ l. slice_get l c.args.at) (sym c.deref.ensures.value) ∙ c.place_at-place.ensures.1 in
-    let q : NumberedState = c.in_ok-after.after.place in
-    let reaches = subst (λ (p : NumberedState). Reaches t.file
-    (noticed_after first next t.file t.program (noticed_at first t states p) c.args.thread)
-    (noticed_at first t' states' q) c.args.thread c.in_ok-after.after.steps) c.place_at-place.ensures.2
-    c.in_ok-after.ensures.reaches in
-    grown_reached first next (plain_file c.args.ground.now.file.now) (plain_program c.args.ground.now.program.now)
     c.args.ground.now.threads t t' states states' c.args.search.now.found.nodes.items c.keep.new.self.nodes.items
     c.requires.sound c.go_on.ensures.grows c.go_on.ensures.keeps c.args.at n here c.args.thread c.args.step.now
     (c.requires.acts n here) q c.in_ok-after.after.steps t.program reaches

@@ -1,5 +1,5 @@
 -- Why `begin` in src/space.rt keeps its contract.
-use Rattle.std.proofs.Common.{List, map, refl, ap, ◌∙◌}
+use Rattle.std.proofs.Common.{List, map, refl, ap}
 use Rattle.std.proofs.lemmas.Option.{get_or_from_slice_get}
 use Rattle.ls_transitions.specs.Seen.{table_of}
 use Rattle.ls_transitions.proofs.Keeping.{below}
@@ -18,7 +18,7 @@ returns-clause-placed g c =
         noted_there = below states c.in_ok-noted.noted _ c.in_ok-noted.ensures.number;
         width = c.requires.width;
       };
-      weight = c.weight_at-weight.ensures;
+      weight = c.in_ok-weight.ensures;
     }
 
 pub returns-clause-stands : goal.returns-clause-stands
@@ -26,10 +26,8 @@ returns-clause-stands g c =
     let states : List g.O.Observer.State =
     map (g.O.Observer.stands c.args.ground.now.observer.now) c.keep_noted.new.pool.values.items in
     ap (λ (m : g.O.Observer.State). record {
-      configuration = configuration_at (table_of c.args.numbered.transitions) c.args.numbered.store
-          c.args.numbered.works.items;
+      configuration = configuration_at (table_of c.args.transitions) c.args.root.store c.args.root.works.items;
       noted = m;
     })
     (get_or_from_slice_get states c.in_ok-noted.noted _ (g.O.Observer.first c.args.ground.now.observer.now)
-    c.in_ok-noted.ensures.number
-    ∙ c.in_ok-first.ensures)
+    c.in_ok-noted.ensures.number)

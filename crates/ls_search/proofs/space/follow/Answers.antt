@@ -12,6 +12,9 @@ use Rattle.ls_search.proofs.space.follow.Goals as goal
 pub returns-in_err-mark-clause-keeps : goal.returns-in_err-mark-clause-keeps
 returns-in_err-mark-clause-keeps g c = λ n x e. c.go_on.ensures.keeps n x (c.is_lost_after.ensures.keeps n x e)
 
+pub returns-in_err-weight-clause-keeps : goal.returns-in_err-weight-clause-keeps
+returns-in_err-weight-clause-keeps g c = λ n x e. c.go_on.ensures.keeps n x (c.is_lost_after.ensures.keeps n x e)
+
 pub returns-clause-keeps : goal.returns-clause-keeps
 returns-clause-keeps g c = λ n x e. c.go_on.ensures.keeps n x (c.is_lost_after.ensures.keeps n x e)
 

@@ -1,6 +1,6 @@
 -- Why `verdict` in src/verdict.rt keeps its contract and what it calls with.
 
-use Rattle.std.proofs.Common.{◌≡◌, ◌++◌, Some, true, ℕ, Vec, Global, replicate}
+use Rattle.std.proofs.Common.{◌≡◌, ◌⊎◌, inl, inr, ◌++◌, Some, true, ℕ, Vec, Global, replicate}
 use Rattle.std.specs.List.{fold}
 use Rattle.ls_checked.specs.CheckedTree.{File}
 use Rattle.ls_checked.specs.CheckedProgram.{Program}
@@ -13,10 +13,12 @@ use Rattle.ls_search_laws.specs.Noticing.{noticed_after, noticed_of}
 use Rattle.ls_search.specs.Answers.{IsStuck}
 use Rattle.ls_search.proofs.Telling.{some_map}
 use Rattle.ls_search.proofs.Trying.{tried_if}
+use Rattle.ls_search.specs.Graphs.{HaveObjects, most_objects}
+use Rattle.ls_search.specs.Searched.{IsOther}
 use Rattle.ls_search.specs.Nameless.{nameless_bad, nameless_next}
-use Rattle.ls_search.specs.Verdicts.{ActsAfter, LeavesStuck}
+use Rattle.ls_search.specs.Verdicts.{ActsAfter, IsCut, LeavesStuck}
 use Rattle.ls_search.proofs.Judging.{acts_of, all_good, bad_of, nameless_hides, never_stuck}
-use Rattle.ls_search.proofs.Judging.{stuck_of}
+use Rattle.ls_search.proofs.Judging.{objects_if, other_of, stuck_of}
 use Rattle.ls_search.proofs.verdict.verdict.Goals as goal
 
 pub search_run-requires-clause-hides : goal.search_run-requires-clause-hides
@@ -89,3 +91,20 @@ returns-clause-reached g c =
     (noticed_of (Some first) (nameless_next next) file program (replicate k 0)) path).configuration u).did)
     (ActsAfter file program k) c.in_ok-told.told.found.states
     (λ path u acts. acts_of (Some first) (nameless_next next) file program k path u acts) c.in_ok-told.ensures.tried
+
+pub returns-clause-cut : goal.returns-clause-cut
+returns-clause-cut g c = λ isnt.
+    let first = g.O.Observer.first c.args.observer.now in
+    let next = g.O.Observer.next c.args.observer.now in
+    let file : File = plain_file c.args.file.now in
+    let program : Program = plain_program c.args.program.now in
+    let told = c.in_ok-told.told in
+    let by_case : (told.found.states ≡ c.args.limit) ⊎
+    HaveObjects (λ path d. IsOther d (fold (noticed_after (Some first) (nameless_next next) file program)
+    (noticed_of (Some first) (nameless_next next) file program (replicate told.setup 0)) path).configuration)
+    told.found.states most_objects → IsCut file program c.args.limit told.setup told.found.states = elim [
+      | inl full ↦ inl full
+      | inr more ↦ inr (objects_if _ _ told.found.states most_objects
+          (λ path d. other_of (Some first) (nameless_next next) file program told.setup path d) more)
+    ] in
+    by_case (c.in_ok-told.ensures.cut isnt)
