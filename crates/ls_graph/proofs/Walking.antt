@@ -75,9 +75,10 @@ walk_within edges count by found (suc fuel) (suc k) less within =
     let place = there by k (omega (arith, found.many, within)) in
     let is : IsFoundBy edges (k + 1) place.0 = found.each k place.0 place.1 in
     let before =
-    walk_within edges count by found fuel is.edge.from (omega (arith, is.earlier, less)) (omega (arith, is.earlier, within)) in
-    (before.0 ++ is.edge ∷ [],
-    walks_end edges 0 before.0 is.edge (suc k) before.1 (place.0, is.here) (omega (arith, is.to_is)))
+    walk_within edges count by found fuel is.edge.from (omega (arith, is.earlier, less)) (omega (arith, is.earlier, within)) in (
+      before.0 ++ is.edge ∷ [],
+      walks_end edges 0 before.0 is.edge (suc k) before.1 (place.0, is.here) (omega (arith, is.to_is)),
+    )
 
 pub walk_to : (edges : List Edge) (count : ℕ) (by : List ℕ) → AreFound edges count by → (at : ℕ) → at < count →
     (path : List Edge) × Walks edges 0 path at

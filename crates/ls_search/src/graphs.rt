@@ -25,9 +25,9 @@ ghost use Rattle.ls_search.specs.Places.{AreThere, IsThere, configuration_of};
 ghost use Rattle.ls_search.specs.Searched.{HidesNames, IsOther};
 ghost use Rattle.ls_search.specs.Tried.{HasTried};
 
-use crate::roots::{Root, is_bad_at};
 use crate::noting::Pool;
 use crate::places::NumberedState;
+use crate::roots::{Root, is_bad_at};
 use crate::searching::Ground;
 use crate::space::{Beginning, Kept, MOST_OBJECTS, StateSpace, Tables, Wanted, begin, is_stuck_at};
 use ls_graph::closing::{Closing, Edge, Graph, Halt, Plan, close, is_whole};

@@ -13,9 +13,9 @@ ghost use Rattle.ls_search.specs.Searched.{AreExpanded, HidesNames};
 ghost use Rattle.ls_search.specs.SeenSearch.{IsSoundSearch, pairs_of};
 ghost use Rattle.ls_search.specs.Watching.{GoesOn};
 
-use crate::roots::{Root, start};
 use crate::moving::has_setup_ended;
 use crate::places::{Node, Seen};
+use crate::roots::{Root, start};
 use crate::searching::{Ground, Search, look, place_at, seen_with};
 use crate::steps::count_steps;
 use crate::watching::Watch;

@@ -19,11 +19,11 @@ ghost use Rattle.ls_search.specs.Searched.{IsNode, Reaches, acts_of, noticed_at,
 ghost use Rattle.ls_search.specs.Space.{GoesTo, IsEnd, IsLost, IsPlaced, IsSeenAs, Rests, weight_of};
 ghost use Rattle.ls_search.specs.Strides.{ActsBy, HasStarted, IsStrideBy};
 
-use crate::roots::{Root, is_bad_at};
 use crate::keeping::{hash_of, is_same_place};
 use crate::moving::has_setup_ended;
 use crate::noting::{Pool, keep_noted, note};
 use crate::places::{Looked, NumberedState};
+use crate::roots::{Root, is_bad_at};
 use crate::searching::{Ground, go_on, step_from};
 use ls_graph::closing::number_of;
 use ls_graph::marks::{is_marked, mark};

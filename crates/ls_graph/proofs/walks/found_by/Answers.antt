@@ -18,9 +18,11 @@ index-requires g c =
 pub returns-clause-one : goal.returns-clause-one
 returns-clause-one g c =
     let graph = c.args.graph.now in
-    let place = c.index-place.result.now in
-    (place, edge_here graph.edges.items (length graph.found.nodes.items) graph.by.items c.requires.found c.args.at
-    (omega (arith, c.if-at-eq0.false)) c.requires.within place c.index.result.now c.index-place.ensures c.index.ensures)
+    let place = c.index-place.result.now in (
+      place,
+      edge_here graph.edges.items (length graph.found.nodes.items) graph.by.items c.requires.found c.args.at
+          (omega (arith, c.if-at-eq0.false)) c.requires.within place c.index.result.now c.index-place.ensures c.index.ensures,
+    )
 
 pub returns-clause-to : goal.returns-clause-to
 returns-clause-to g c =
