@@ -6,7 +6,8 @@ use Rattle.ls_checked.specs.CheckedProgram.{Program}
 use Rattle.ls_checked.specs.Plain.{plain_file}
 use Rattle.ls_checked.specs.PlainProgram.{plain_program, plain_thread}
 use Rattle.ls_graph.specs.Graph.{IsGraph}
-use Rattle.ls_search_laws.specs.Configuration.{Configuration}
+use Rattle.ls_meaning.specs.Runs.{start}
+use Rattle.ls_search_laws.specs.Configuration.{Configuration, configuration_of}
 use Rattle.ls_search_laws.specs.Noticing.{Noticed, noticed_of}
 use Rattle.ls_transitions.specs.Seen.{table_of}
 use Rattle.ls_search.specs.declared.space.Kept.{Kept}
