@@ -54,6 +54,7 @@ fn cut_short(
         IsStuckRun (plain_file file.now) (plain_program program.now) s.items))) }
     ensures cut { IfOk result (λ some. IfSome some (λ j. (j.complete ≡ false) ×
         IsCut (plain_file file.now) (plain_program program.now) limit j.setup j.states)) }
+    ensures few { IfOk result (λ some. IfSome some (λ j. j.states ≤ limit)) }
     ensures reached { IfOk result (λ some. IfSome some (λ j.
         AreReached (plain_file file.now) (plain_program program.now) j.setup j.states)) }
 {
