@@ -5,7 +5,7 @@ ghost use Rattle.ls_serial_search.specs.Told.{IsDoubt, usual};
 ghost use Rattle.ls_checked.specs.Plain.{plain_file};
 ghost use Rattle.ls_checked.specs.PlainProgram.{plain_program};
 ghost use Rattle.ls_search_laws.specs.Stepping.{SetsUp};
-ghost use Rattle.ls_search.specs.Verdicts.{AreAll, AreReached, NeverStuck};
+ghost use Rattle.ls_search.specs.Verdicts.{AreAll, AreReached, IsCut, NeverStuck};
 ghost use Rattle.ls_source_judge.specs.Laws.{BadAreNotJudged, BadAreNotLinearizable, GoodAreLinearizable};
 ghost use Rattle.ls_source_judge.specs.Judged.{AllLinearizable, IsBadRun, IsStuckRun, IsUnjudged};
 
@@ -52,7 +52,9 @@ fn cut_short(
     ensures none { IfOk result (λ some. IfSome some (λ j. (j.bad ≡ None) × (j.doubt ≡ None))) }
     ensures stuck { IfOk result (λ some. IfSome some (λ j. IfSome j.stuck (λ s.
         IsStuckRun (plain_file file.now) (plain_program program.now) s.items))) }
-    ensures cut { IfOk result (λ some. IfSome some (λ j. (j.complete ≡ false) × (j.states ≡ limit))) }
+    ensures cut { IfOk result (λ some. IfSome some (λ j. (j.complete ≡ false) ×
+        IsCut (plain_file file.now) (plain_program program.now) limit j.setup j.states)) }
+    ensures few { IfOk result (λ some. IfSome some (λ j. j.states ≤ limit)) }
     ensures reached { IfOk result (λ some. IfSome some (λ j.
         AreReached (plain_file file.now) (plain_program program.now) j.setup j.states)) }
 {
@@ -107,7 +109,8 @@ fn judged_by(
         IsStuckRun (plain_file file.now) (plain_program program.now) s.items)) }
     ensures all { IfOk result (λ j. IsTrue j.complete →
         AreAll (plain_file file.now) (plain_program program.now) j.setup j.states) }
-    ensures cut { IfOk result (λ j. j.complete ≡ false → j.states ≡ limit) }
+    ensures cut { IfOk result (λ j. j.complete ≡ false →
+        IsCut (plain_file file.now) (plain_program program.now) limit j.setup j.states) }
     ensures few { IfOk result (λ j. j.states ≤ limit) }
     ensures reached { IfOk result (λ j.
         AreReached (plain_file file.now) (plain_program program.now) j.setup j.states) }
@@ -133,7 +136,7 @@ fn judged_by(
 }
 
 /// Judges the histories of all schedules of a program by its serial histories, and where threads come to wait. At most
-/// so many states are kept. Each step of a schedule that is told acts. A refusal is that memory ran out, or that a store,
+/// so many states are kept, and no more where their stores have over 16,777,216 objects together. Each step of a schedule that is told acts. A refusal is that memory ran out, or that a store,
 /// a work or a state has no number left.
 pub fn judge_schedules(
     alloc: Global,
@@ -155,7 +158,8 @@ pub fn judge_schedules(
         IsStuckRun (plain_file file.now) (plain_program program.now) s.items)) }
     ensures all { IfOk result (λ j. IsTrue j.complete →
         AreAll (plain_file file.now) (plain_program program.now) j.setup j.states) }
-    ensures cut { IfOk result (λ j. j.complete ≡ false → j.states ≡ limit) }
+    ensures cut { IfOk result (λ j. j.complete ≡ false →
+        IsCut (plain_file file.now) (plain_program program.now) limit j.setup j.states) }
     ensures few { IfOk result (λ j. j.states ≤ limit) }
     ensures reached { IfOk result (λ j.
         AreReached (plain_file file.now) (plain_program program.now) j.setup j.states) }
