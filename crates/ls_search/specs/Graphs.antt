@@ -1,16 +1,15 @@
 -- The states of a program as nodes of a graph, and what is told of them.
-use Rattle.std.specs.Prelude.{◌≡◌, ◌<◌, ◌+◌, ℕ, List, [], ◌∷◌, ◌++◌, Some, Contains, length, map, replicate, slice_get}
+use Rattle.std.specs.Prelude.{◌≡◌, ◌<◌, ◌+◌, ℕ, List, [], ◌∷◌, ◌++◌, Some, length, map, replicate, slice_get}
 use Rattle.ls_graph.specs.declared.closing.Edge.{Edge}
 use Rattle.ls_graph.specs.Walks.{Walks}
-use Rattle.ls_graph.specs.Weights.{total}
 use Rattle.ls_checked.specs.CheckedTree.{File}
-use Rattle.ls_search_laws.specs.Configuration.{Configuration}
 use Rattle.ls_search_laws.specs.Noticing.{Noticed}
 use Rattle.ls_transitions.specs.Tables.{Table}
 use Rattle.ls_search.specs.declared.space.Kept.{Kept}
+pub use Rattle.ls_search.specs.Objects.{HaveObjects, most_objects}
 use Rattle.ls_search.specs.Places.{IsThere}
 use Rattle.ls_search.specs.Searched.{noticed_at}
-use Rattle.ls_search.specs.Space.{IsPlaced, weight_of}
+use Rattle.ls_search.specs.Space.{IsPlaced}
 
 -- ---- walks
 
@@ -44,16 +43,3 @@ AreNoted count nodes = (at : ℕ) (n : Kept) → slice_get nodes at ≡ Some n �
 abbrev pub AreWide : Table → ℕ → List Kept → Type 0
 AreWide t threads nodes =
     (at : ℕ) (n : Kept) → slice_get nodes at ≡ Some n → IsThere t n.place × (length n.place.works.items ≡ threads)
-
--- ---- how many objects they have
-
--- the most objects that states have together before no more are kept
-abbrev pub most_objects : ℕ
-most_objects = 16777216
-
--- So many states, to each of which a path leads, have more than so many objects together.
-pub record HaveObjects (Leads : List ℕ → Configuration → Type 0) (states most : ℕ) : Type 0 where
-  pub list : List Configuration
-  pub many : length list ≡ states
-  pub reached : (c : Configuration) → Contains list c → (path : List ℕ) × Leads path c
-  pub more : most < total weight_of list

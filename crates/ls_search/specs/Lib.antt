@@ -1,3 +1,4 @@
+pub mod Objects
 pub mod Places
 pub mod Strides
 pub mod Found

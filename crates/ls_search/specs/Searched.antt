@@ -9,7 +9,7 @@ use Rattle.ls_meaning.specs.declared.step.Did.TheVariants as did
 use Rattle.ls_meaning.specs.Still.{IsActing, IsStill}
 use Rattle.ls_meaning.specs.Constants.{FileHasConstants}
 use Rattle.ls_meaning.specs.Renamings.{IsRenaming}
-use Rattle.ls_search_laws.specs.Configuration.{Configuration, IsRenamed, stride}
+use Rattle.ls_search_laws.specs.Configuration.{Configuration, stride}
 use Rattle.ls_search_laws.specs.Noticing.{Noticed, noticed_after, renamed_event}
 use Rattle.ls_search_laws.specs.Search.{LeadsTo}
 use Rattle.ls_transitions.specs.Tables.{Table}
@@ -18,6 +18,7 @@ use Rattle.ls_search.specs.declared.places.Looked.TheVariants as looked
 use Rattle.ls_search.specs.declared.places.Node.{Node}
 use Rattle.ls_search.specs.declared.places.NumberedState.{NumberedState}
 use Rattle.ls_search.specs.declared.places.Seen.{Seen}
+pub use Rattle.ls_search.specs.Objects.{IsOther}
 use Rattle.ls_search.specs.Places.{IsThere, configuration_of}
 use Rattle.ls_search.specs.Strides.{at_once}
 
@@ -26,12 +27,6 @@ pub record IsNode {S : Type 0} (t : Table) (states : List S) (threads : ℕ) (p 
   pub numbers : IsThere t p
   pub noted_there : p.noted < length states
   pub width : length p.works.items ≡ threads
-
--- the second configuration is the first with other names of objects
-pub record IsOther (c d : Configuration) : Type 0 where
-  pub names : ℕ → ℕ
-  pub renaming : IsRenaming names
-  pub same : IsRenamed names c d
 
 -- so it is of states, and the same is noted
 pub record IsLike {S : Type 0} (p q : Noticed S) : Type 0 where

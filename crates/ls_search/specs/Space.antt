@@ -1,5 +1,5 @@
 -- The states of a program with what is noted, as nodes of a graph.
-use Rattle.std.specs.Prelude.{◌≡◌, ◌⊎◌, ◌≤◌, ℕ, Bool, true, List, length, None, Option, Some}
+use Rattle.std.specs.Prelude.{◌≡◌, ◌⊎◌, ◌≤◌, ℕ, Bool, true, List, None, Option, Some}
 use Rattle.ls_events.specs.declared.event.Event.{Event}
 use Rattle.ls_checked.specs.CheckedTree.{File}
 use Rattle.ls_checked.specs.CheckedProgram.{Program}
@@ -16,12 +16,9 @@ use Rattle.ls_search.specs.declared.space.Kept.{Kept}
 use Rattle.ls_search.specs.declared.space.Wanted.{Wanted}
 use Rattle.ls_search.specs.declared.space.Wanted.TheVariants as wanted
 use Rattle.ls_search.specs.Answers.{IsStuck}
+pub use Rattle.ls_search.specs.Objects.{weight_of}
 use Rattle.ls_search.specs.Places.{configuration_of}
 use Rattle.ls_search.specs.Searched.{IsNode, Reaches}
-
--- how many objects a state has
-abbrev pub weight_of : Configuration → ℕ
-weight_of c = length c.store.things
 
 -- the numbers stand for a state of a program of this file, for which no more objects are counted than it has
 pub record IsPlaced {S : Type 0} (file : File) (threads : ℕ) (t : Table) (states : List S) (n : Kept) : Type 0 where

@@ -9,8 +9,7 @@ use Rattle.ls_meaning.specs.Runs.{source_history, source_run, step}
 use Rattle.ls_meaning.specs.Still.{IsActing, IsOver}
 use Rattle.ls_search_laws.specs.Configuration.{configuration_of}
 use Rattle.ls_search.specs.Closed.{HasClosed}
-use Rattle.ls_search.specs.Graphs.{HaveObjects, most_objects}
-use Rattle.ls_search.specs.Searched.{IsOther}
+use Rattle.ls_search.specs.Objects.{HaveObjects, IsOther, most_objects}
 use Rattle.ls_search.specs.Tried.{HasTried}
 
 -- no schedule, of any length, has a bad history
