@@ -256,7 +256,8 @@ fn graph_from<'a, O: Observer>(
 /// Looks for all that the root leads to, but for names of objects. Each thread acts in turn at each state that was
 /// found, and turns and enterings after that are taken at once. At most so many states are kept, and no more where their
 /// stores have over 16,777,216 objects together. A refusal is that memory ran out, that a store, a work or a state has
-/// no number left, or that a constant of the file names an object, which none does of a file that was read.
+/// no number left, or that a constant of the file names an object, which none does of a file that was read. A graph that
+/// isn't whole though there is room is refused too. That none is so isn't proved.
 pub fn search_from<'a, O: Observer>(
     ground: &Ground<'a, O>,
     transitions: Transitions<'a>,
