@@ -18,4 +18,7 @@ pub mod Judged
 pub mod Reaching
 pub mod Filled
 pub mod Ending
+pub mod Covering
+pub mod Dropped
+pub mod Deciding
 pub mod Joined

@@ -6,4 +6,3 @@ pub mod Meant
 pub mod Limits
 pub mod Written
 pub mod Entries
-pub mod Placing

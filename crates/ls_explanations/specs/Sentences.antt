@@ -49,7 +49,7 @@ rule_sentence rules.MissingReturn classes at =
     codes "missing `return`: this method can end without a value. Only `while (true)` is known to go on\n"
 rule_sentence rules.ReservedClass classes at = codes "a class of the library has this name: use another\n"
 rule_sentence rules.Limit classes at =
-    codes "too many classes, fields, methods or locals: docs/FAULTS.md has the limits\n"
+    codes "too many classes, fields, methods or locals: docs/LANGUAGE.md has the limits\n"
 
 abbrev pub check_sentence : CheckFault → Bytes → Bytes
 check_sentence check.Memory classes = []
@@ -96,8 +96,4 @@ sentence (faults.Tally (tally.BadTally at)) classes = codes
 sentence faults.BadOptions classes = codes "these options don't go together, or not with so many parts\n"
 sentence (faults.BadEntry at) classes =
     codes "expected calls of the class without the object, as `lock(#); unlock(#)`: `#` is the thread's number\n"
-sentence (faults.UnlikeSpecification at) classes =
-    codes "the reference has no such call, or it answers another type there: name a class text with the same methods\n"
-sentence (faults.LacksMethod span) classes =
-    codes "the class lacks this method of the reference, or takes or answers other types there\n"
 sentence f classes = limit_sentence f

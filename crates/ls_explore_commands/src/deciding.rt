@@ -1,16 +1,11 @@
 // What `explore --verdict` says.
 
 ghost use Rattle.std.specs.Prelude.{◌↔◌, ◌≡◌, ℕ, IfNone, IfOk, IfSome, IsTrue};
-ghost use Rattle.ls_checked.specs.CheckedTree.{File as FileValue};
-ghost use Rattle.ls_checked.specs.CheckedProgram.{Program as ProgramValue};
 ghost use Rattle.ls_explore.specs.Faults.{AreBadStates};
 ghost use Rattle.ls_faults.specs.Given.{GivesText};
 ghost use Rattle.ls_explore_commands.specs.Readable.{AreReadBack};
-ghost use Rattle.ls_commands.specs.Likeness.{AnswersLike};
-ghost use Rattle.ls_explore_commands.specs.Likeness.{VerdictsLike};
 ghost use Rattle.ls_explore_commands.specs.Verdicts.{Decided, IsExtent, VerdictsTo};
-ghost use Rattle.ls_source_judge.specs.Judged.{AllLike, IsStuckRun, IsUnjudgedRun, IsUnlikeRun};
-ghost use Rattle.ls_specification.specs.Specification.{spec_file, spec_program};
+ghost use Rattle.ls_source_judge.specs.Judged.{AllLinearizable, IsBadRun, IsStuckRun, IsUnjudged};
 ghost use Rattle.ls_spinning.specs.Told.{IsTurning};
 ghost use Rattle.ls_spinning.specs.Turning.{NeverTurns, TurnsForEver};
 ghost use Rattle.ls_search.specs.Verdicts.{NeverStuck};
@@ -30,8 +25,6 @@ use ls_faults::fault::ToolFault;
 use ls_image::image::Image;
 use ls_serial_search::telling::Doubt;
 use ls_source_judge::{Judged, judge_schedules};
-use ls_specification::Specification;
-use ls_specified::specified;
 use ls_spinning::{Turning, find_turning};
 use std::alloc::{AllocError, Global};
 
@@ -56,7 +49,6 @@ fn extent_of(judged: &Judged) -> Extent
 /// The text of a schedule whose history isn't linearizable.
 fn bad_answer(
     alloc: Global,
-    specification: Specification<'_>,
     image: &Image,
     judged: &Judged,
     steps: &[u8],
@@ -64,11 +56,10 @@ fn bad_answer(
     requires { AreReadBack image.now }
     ensures { (limit : ℕ) → ¬ AreBadStates limit →
         IsExtent (file_of image.now) (program_of image.now) limit judged.now.states judged.now.complete →
-        IsUnlikeRun (spec_file specification.entry) (spec_program specification.entry)
-        (file_of image.now) (program_of image.now) steps.now →
-        GivesText (Decided (spec_file specification.entry) (spec_program specification.entry) image.now limit) result }
+        IsBadRun (file_of image.now) (program_of image.now) steps.now →
+        GivesText (Decided image.now limit) result }
 {
-    let run = bad_run(alloc, specification, image, steps)?;
+    let run = bad_run(alloc, image, steps)?;
     let text = print_bad(alloc, names_in(image), &run, extent_of(judged))?;
     Ok(text)
 }
@@ -82,11 +73,11 @@ fn doubtful_answer(
     steps: &[u8],
 ) -> Result<String, ToolFault>
     requires { AreReadBack image.now }
-    ensures { (sfile : FileValue) (sprogram : ProgramValue) (limit : ℕ) → ¬ AreBadStates limit →
+    ensures { (limit : ℕ) → ¬ AreBadStates limit →
         IsExtent (file_of image.now) (program_of image.now) limit judged.now.states judged.now.complete →
-        IsUnjudgedRun sfile sprogram (file_of image.now) (program_of image.now) doubt steps.now →
+        IsUnjudged (file_of image.now) (program_of image.now) doubt steps.now →
         (IsTrue judged.now.complete → NeverStuck (file_of image.now) (program_of image.now)) →
-        GivesText (Decided sfile sprogram image.now limit) result }
+        GivesText (Decided image.now limit) result }
 {
     let run = run_along(alloc, image, steps)?;
     let text = print_doubtful(alloc, names_in(image), doubt, &run, extent_of(judged))?;
@@ -103,11 +94,11 @@ fn stuck_and_doubtful_answer(
     steps: &[u8],
 ) -> Result<String, ToolFault>
     requires { AreReadBack image.now }
-    ensures { (sfile : FileValue) (sprogram : ProgramValue) (limit : ℕ) → ¬ AreBadStates limit →
+    ensures { (limit : ℕ) → ¬ AreBadStates limit →
         IsExtent (file_of image.now) (program_of image.now) limit judged.now.states judged.now.complete →
         IsStuckRun (file_of image.now) (program_of image.now) stuck.now →
-        IsUnjudgedRun sfile sprogram (file_of image.now) (program_of image.now) doubt steps.now →
-        GivesText (Decided sfile sprogram image.now limit) result }
+        IsUnjudged (file_of image.now) (program_of image.now) doubt steps.now →
+        GivesText (Decided image.now limit) result }
 {
     let first = stuck_run(alloc, image, stuck)?;
     let run = run_along(alloc, image, steps)?;
@@ -124,11 +115,11 @@ fn stuck_answer(
     steps: &[u8],
 ) -> Result<String, ToolFault>
     requires { AreReadBack image.now }
-    ensures { (sfile : FileValue) (sprogram : ProgramValue) (limit : ℕ) → ¬ AreBadStates limit →
+    ensures { (limit : ℕ) → ¬ AreBadStates limit →
         IsExtent (file_of image.now) (program_of image.now) limit judged.now.states judged.now.complete →
         IsStuckRun (file_of image.now) (program_of image.now) steps.now →
-        (IsTrue judged.now.complete → AllLike sfile sprogram (file_of image.now) (program_of image.now)) →
-        GivesText (Decided sfile sprogram image.now limit) result }
+        (IsTrue judged.now.complete → AllLinearizable (file_of image.now) (program_of image.now)) →
+        GivesText (Decided image.now limit) result }
 {
     let run = stuck_run(alloc, image, steps)?;
     let text = print_stuck(alloc, names_in(image), &run, extent_of(judged))?;
@@ -137,33 +128,25 @@ fn stuck_answer(
 
 /// The text that no run is wrong.
 fn free_answer(alloc: Global, image: &Image, judged: &Judged) -> Result<String, ToolFault>
-    ensures { (sfile : FileValue) (sprogram : ProgramValue) (limit : ℕ) → ¬ AreBadStates limit →
+    ensures { (limit : ℕ) → ¬ AreBadStates limit →
         IsExtent (file_of image.now) (program_of image.now) limit judged.now.states judged.now.complete →
-        (IsTrue judged.now.complete → AllLike sfile sprogram (file_of image.now) (program_of image.now)) →
+        (IsTrue judged.now.complete → AllLinearizable (file_of image.now) (program_of image.now)) →
         (IsTrue judged.now.complete → NeverStuck (file_of image.now) (program_of image.now)) →
         (IsTrue judged.now.complete → NeverTurns (file_of image.now) (program_of image.now)) →
-        GivesText (Decided sfile sprogram image.now limit) result }
+        GivesText (Decided image.now limit) result }
 {
     let text = print_free(alloc, extent_of(judged))?;
     Ok(text)
 }
 
 /// What all schedules of an image's program tell, of which at most so many states are kept.
-fn judged_of(
-    alloc: Global,
-    specification: Specification<'_>,
-    image: &Image,
-    states: usize,
-) -> Result<Judged, AllocError>
+fn judged_of(alloc: Global, image: &Image, states: usize) -> Result<Judged, AllocError>
     ensures good { IfOk result (λ j. IsTrue j.complete → IfNone j.bad
-        (AllLike (spec_file specification.entry) (spec_program specification.entry)
-        (file_of image.now) (program_of image.now))) }
+        (AllLinearizable (file_of image.now) (program_of image.now))) }
     ensures bad { IfOk result (λ j. IfNone j.doubt (IfSome j.bad (λ s.
-        IsUnlikeRun (spec_file specification.entry) (spec_program specification.entry)
-        (file_of image.now) (program_of image.now) s.items))) }
+        IsBadRun (file_of image.now) (program_of image.now) s.items))) }
     ensures unjudged { IfOk result (λ j. IfSome j.doubt (λ d. IfSome j.bad (λ s.
-        IsUnjudgedRun (spec_file specification.entry) (spec_program specification.entry)
-        (file_of image.now) (program_of image.now) d s.items))) }
+        IsUnjudged (file_of image.now) (program_of image.now) d s.items))) }
     ensures free { IfOk result (λ j. IsTrue j.complete → IfNone j.stuck
         (NeverStuck (file_of image.now) (program_of image.now))) }
     ensures stuck { IfOk result (λ j. IfSome j.stuck (λ s.
@@ -171,8 +154,7 @@ fn judged_of(
     ensures extent { IfOk result (λ j.
         IsExtent (file_of image.now) (program_of image.now) states j.states j.complete) }
 {
-    let file = image.checked().file();
-    let judged = judge_schedules(alloc, specification, file, image.program(), states)?;
+    let judged = judge_schedules(alloc, image.checked().file(), image.program(), states)?;
     Ok(judged)
 }
 
@@ -185,13 +167,13 @@ fn doubted_answer(
     steps: &[u8],
 ) -> Result<String, ToolFault>
     requires { AreReadBack image.now }
-    ensures { (sfile : FileValue) (sprogram : ProgramValue) (limit : ℕ) → ¬ AreBadStates limit →
+    ensures { (limit : ℕ) → ¬ AreBadStates limit →
         IsExtent (file_of image.now) (program_of image.now) limit judged.now.states judged.now.complete →
-        IsUnjudgedRun sfile sprogram (file_of image.now) (program_of image.now) doubt steps.now →
+        IsUnjudged (file_of image.now) (program_of image.now) doubt steps.now →
         (IsTrue judged.now.complete → IfNone judged.now.stuck
         (NeverStuck (file_of image.now) (program_of image.now))) →
         IfSome judged.now.stuck (λ stuck. IsStuckRun (file_of image.now) (program_of image.now) stuck.items) →
-        GivesText (Decided sfile sprogram image.now limit) result }
+        GivesText (Decided image.now limit) result }
 {
     match &judged.stuck {
         Some(stuck) => stuck_and_doubtful_answer(
@@ -209,7 +191,6 @@ fn doubted_answer(
 /// The text of a schedule whose history no serial history explains that was found.
 fn wrong_answer(
     alloc: Global,
-    specification: Specification<'_>,
     image: &Image,
     judged: &Judged,
     steps: &[u8],
@@ -217,18 +198,16 @@ fn wrong_answer(
     requires { AreReadBack image.now }
     ensures { (limit : ℕ) → ¬ AreBadStates limit →
         IsExtent (file_of image.now) (program_of image.now) limit judged.now.states judged.now.complete →
-        IfNone judged.now.doubt (IsUnlikeRun (spec_file specification.entry) (spec_program specification.entry)
-        (file_of image.now) (program_of image.now) steps.now) →
-        IfSome judged.now.doubt (λ d. IsUnjudgedRun (spec_file specification.entry) (spec_program specification.entry)
-        (file_of image.now) (program_of image.now) d steps.now) →
+        IfNone judged.now.doubt (IsBadRun (file_of image.now) (program_of image.now) steps.now) →
+        IfSome judged.now.doubt (λ d. IsUnjudged (file_of image.now) (program_of image.now) d steps.now) →
         (IsTrue judged.now.complete → IfNone judged.now.stuck
         (NeverStuck (file_of image.now) (program_of image.now))) →
         IfSome judged.now.stuck (λ stuck. IsStuckRun (file_of image.now) (program_of image.now) stuck.items) →
-        GivesText (Decided (spec_file specification.entry) (spec_program specification.entry) image.now limit) result }
+        GivesText (Decided image.now limit) result }
 {
     match judged.doubt {
         Some(doubt) => doubted_answer(alloc, image, judged, doubt, steps),
-        None => bad_answer(alloc, specification, image, judged, steps),
+        None => bad_answer(alloc, image, judged, steps),
     }
 }
 
@@ -240,12 +219,12 @@ fn turning_answer(
     found: &Schedule,
 ) -> Result<String, ToolFault>
     requires { AreReadBack image.now }
-    ensures { (sfile : FileValue) (sprogram : ProgramValue) (limit : ℕ) → ¬ AreBadStates limit →
+    ensures { (limit : ℕ) → ¬ AreBadStates limit →
         IsExtent (file_of image.now) (program_of image.now) limit judged.now.states judged.now.complete →
         TurnsForEver (file_of image.now) (program_of image.now) found.now →
-        (IsTrue judged.now.complete → AllLike sfile sprogram (file_of image.now) (program_of image.now)) →
+        (IsTrue judged.now.complete → AllLinearizable (file_of image.now) (program_of image.now)) →
         (IsTrue judged.now.complete → NeverStuck (file_of image.now) (program_of image.now)) →
-        GivesText (Decided sfile sprogram image.now limit) result }
+        GivesText (Decided image.now limit) result }
 {
     let run = turning_run(alloc, image, found)?;
     let text = print_turning(alloc, names_in(image), &run, extent_of(judged))?;
@@ -264,11 +243,11 @@ fn turning_of(alloc: Global, image: &Image, states: usize) -> Result<Turning, Al
 
 /// The text where it isn't known whether threads can turn for ever.
 fn unsure_answer(alloc: Global, image: &Image, judged: &Judged) -> Result<String, ToolFault>
-    ensures { (sfile : FileValue) (sprogram : ProgramValue) (limit : ℕ) → ¬ AreBadStates limit →
+    ensures { (limit : ℕ) → ¬ AreBadStates limit →
         IsExtent (file_of image.now) (program_of image.now) limit judged.now.states judged.now.complete →
-        (IsTrue judged.now.complete → AllLike sfile sprogram (file_of image.now) (program_of image.now)) →
+        (IsTrue judged.now.complete → AllLinearizable (file_of image.now) (program_of image.now)) →
         (IsTrue judged.now.complete → NeverStuck (file_of image.now) (program_of image.now)) →
-        GivesText (Decided sfile sprogram image.now limit) result }
+        GivesText (Decided image.now limit) result }
 {
     let text = print_unsure(alloc, extent_of(judged))?;
     Ok(text)
@@ -282,11 +261,11 @@ fn quiet_answer(
     states: usize,
 ) -> Result<String, ToolFault>
     requires { AreReadBack image.now }
-    ensures { (sfile : FileValue) (sprogram : ProgramValue) (limit : ℕ) → ¬ AreBadStates limit →
+    ensures { (limit : ℕ) → ¬ AreBadStates limit →
         IsExtent (file_of image.now) (program_of image.now) limit judged.now.states judged.now.complete →
-        (IsTrue judged.now.complete → AllLike sfile sprogram (file_of image.now) (program_of image.now)) →
+        (IsTrue judged.now.complete → AllLinearizable (file_of image.now) (program_of image.now)) →
         (IsTrue judged.now.complete → NeverStuck (file_of image.now) (program_of image.now)) →
-        GivesText (Decided sfile sprogram image.now limit) result }
+        GivesText (Decided image.now limit) result }
 {
     if !judged.complete {
         return free_answer(alloc, image, judged);
@@ -299,58 +278,20 @@ fn quiet_answer(
 }
 
 /// The text of what all schedules of an image's program tell.
-fn decided(
-    alloc: Global,
-    specification: Specification<'_>,
-    image: &Image,
-    states: usize,
-) -> Result<String, ToolFault>
+fn decided(alloc: Global, image: &Image, states: usize) -> Result<String, ToolFault>
     requires { AreReadBack image.now }
-    ensures { GivesText (Decided (spec_file specification.entry) (spec_program specification.entry)
-        image.now states) result }
+    ensures { GivesText (Decided image.now states) result }
 {
     if are_bad_states(states) {
         return Err(ToolFault::Explore(ExploreFault::BadStates));
     }
-    let judged = judged_of(alloc, specification, image, states)?;
+    let judged = judged_of(alloc, image, states)?;
     match &judged.bad {
-        Some(steps) => wrong_answer(alloc, specification, image, &judged, steps.as_slice()),
+        Some(steps) => wrong_answer(alloc, image, &judged, steps.as_slice()),
         None => match &judged.stuck {
             Some(steps) => stuck_answer(alloc, image, &judged, steps.as_slice()),
             None => quiet_answer(alloc, image, &judged, states),
         },
-    }
-}
-
-/// The same by the program of another image.
-fn decided_like(
-    alloc: Global,
-    image: &Image,
-    like: &Image,
-    states: usize,
-) -> Result<String, ToolFault>
-    requires { AreReadBack image.now }
-    ensures { GivesText (Decided (file_of like.now) (program_of like.now) image.now states) result }
-{
-    let specification = Specification::own(like.checked().file(), like.program());
-    decided(alloc, specification, image, states)
-}
-
-/// The same by a class text, which specifies the program of a text.
-fn decided_by(
-    alloc: Global,
-    image: &Image,
-    like: &str,
-    program: &str,
-    states: usize,
-) -> Result<String, ToolFault>
-    requires { AreReadBack image.now }
-    ensures { GivesText (AnswersLike like.now program.now image.now
-        (λ s. Decided (file_of s) (program_of s) image.now states)) result }
-{
-    match specified(alloc, like, program, image.program()) {
-        Ok(specification) => decided_like(alloc, image, &specification, states),
-        Err(fault) => Err(ToolFault::from(fault)),
     }
 }
 
@@ -378,20 +319,5 @@ pub fn verdict(
 {
     let image = compile(alloc, classes, program)?;
     verdicts_read_back();
-    decided_like(alloc, &image, &image, states)
-}
-
-/// The same by a specification, whose class text is given. Refused also as that is with the program.
-pub fn verdict_like(
-    alloc: Global,
-    states: usize,
-    like: &str,
-    classes: &str,
-    program: &str,
-) -> Result<String, ToolFault>
-    ensures { GivesText (VerdictsLike states like.now classes.now program.now) result }
-{
-    let image = compile(alloc, classes, program)?;
-    verdicts_read_back();
-    decided_by(alloc, &image, like, program, states)
+    decided(alloc, &image, states)
 }

@@ -14,4 +14,3 @@ mod OrdersOfBeginnings
 mod RowsTold
 pub mod Collecting
 mod Flags
-mod RowsLike

@@ -9,4 +9,3 @@ pub mod Simpler
 pub mod Followed
 pub mod ReadBack
 pub mod Turned
-pub mod Likenesses

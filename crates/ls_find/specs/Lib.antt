@@ -5,4 +5,3 @@ pub mod Said
 pub mod Sought
 pub mod Fewest
 pub mod Doubles
-pub mod Likeness

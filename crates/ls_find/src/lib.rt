@@ -5,11 +5,9 @@
 mod explorer;
 pub mod laws;
 mod legal;
-mod likeness;
 mod reasons;
 mod simplifying;
 mod sought;
-mod specified;
 mod states;
 mod verdict;
 mod waiting;

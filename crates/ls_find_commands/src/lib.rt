@@ -2,7 +2,6 @@
 #![tactic(auto)]
 
 mod command;
-mod lacking;
 pub mod laws;
 mod menus;
 mod noting;

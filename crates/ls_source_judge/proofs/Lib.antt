@@ -1,4 +1,3 @@
-pub mod Deciding
 pub mod Verdicts
 pub mod Steps
 pub mod WholeRuns

@@ -9,7 +9,6 @@ mod noted;
 mod pages;
 mod programs;
 mod progress;
-mod referred;
 mod refusal;
 mod running;
 mod said;

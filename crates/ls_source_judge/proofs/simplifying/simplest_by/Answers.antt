@@ -10,12 +10,12 @@ use Rattle.ls_source_judge.specs.Laws.{is_bad}
 use Rattle.ls_source_judge.proofs.simplifying.simplest_by.Goals as goal
 
 pub returns-clause-fewest : goal.returns-clause-fewest
-returns-clause-fewest c = λ is sfile sprogram good s wrong.
+returns-clause-fewest c = λ is s wrong.
     let file : File = plain_file c.args.file.now in
     let program : Program = plain_program c.args.program.now in
     let o = c.args.serial.now.observer in
     c.in_ok-run.ensures.fewest is s
-    (by (is_bad o (source_history file program s)) refl (λ e. wrong (good file program s e))) tt
+    (by (is_bad o (source_history file program s)) refl (λ e. wrong (c.requires.good s e))) tt
   where
     by : {bad : Bool} (b : Bool) → bad ≡ b → (bad ≡ false → ⊥) → bad ≡ true
     by true e not_good = e

@@ -1,4 +1,0 @@
-class Counter {
-  void inc() { inc(); }
-  int get() { return 0; }
-}

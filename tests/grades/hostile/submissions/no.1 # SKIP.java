@@ -1,5 +1,0 @@
-class Counter {
-  int v;
-  void inc() { v++; }
-  int get() { return v; }
-}

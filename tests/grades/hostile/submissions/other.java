@@ -1,5 +1,0 @@
-class Zaehler {
-  int v;
-  synchronized void inc() { v++; }
-  synchronized int get() { return v; }
-}
