@@ -80,7 +80,13 @@ pub(crate) fn explore_command<'a>(alloc: Global) -> Result<Command<'a>, AllocErr
         "verdict",
         "prints the simplest wrong run alone, or that there is none; no cells are needed, and fewer states",
     );
-    with_option(command, verdict)
+    let command = with_option(command, verdict);
+    let races = flag_option(
+        alloc,
+        "races",
+        "prints the simplest run with a data race alone, or that there is none; as many states as --verdict",
+    );
+    with_option(command, races)
 }
 
 /// The command with the bounds of the programs that it looks through.
