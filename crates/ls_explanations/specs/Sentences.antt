@@ -49,7 +49,7 @@ rule_sentence rules.MissingReturn classes at =
     codes "missing `return`: this method can end without a value. Only `while (true)` is known to go on\n"
 rule_sentence rules.ReservedClass classes at = codes "a class of the library has this name: use another\n"
 rule_sentence rules.Limit classes at =
-    codes "too many classes, fields, methods or locals: docs/FAULTS.md has the limits\n"
+    codes "too many classes, fields, methods or locals: docs/LANGUAGE.md has the limits\n"
 
 abbrev pub check_sentence : CheckFault → Bytes → Bytes
 check_sentence check.Memory classes = []

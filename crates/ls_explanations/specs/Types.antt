@@ -52,14 +52,14 @@ abbrev pub flag_lesson : Bytes → Bytes
 flag_lesson name =
     if bytes_eq name (codes "AtomicBoolean")
     then codes
-    "this class isn't supported: use a `boolean` under a lock, or `Flag` of docs/FROM-JAVA.md\n"
+    "this class isn't supported: use a `boolean` under a lock, or `Flag` of docs/LANGUAGE.md\n"
     else lock_lesson name
 
 abbrev pub number_lesson : Bytes → Bytes
 number_lesson name =
     if bytes_eq name (codes "AtomicInteger") || bytes_eq name (codes "AtomicLong")
     then codes
-    "this class isn't supported: use an `int` under a lock, or `AtomicInt` of docs/FROM-JAVA.md\n"
+    "this class isn't supported: use an `int` under a lock, or `AtomicInt` of docs/LANGUAGE.md\n"
     else flag_lesson name
 
 abbrev pub atomic_lesson : Bytes → Bytes

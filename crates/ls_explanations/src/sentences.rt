@@ -56,7 +56,7 @@ fn rule_sentence(rule: Rule, classes: &[u8], at: usize) -> &'static str
         }
         Rule::ReservedClass => "a class of the library has this name: use another\n",
         Rule::Limit =>
-            "too many classes, fields, methods or locals: docs/FAULTS.md has the limits\n",
+            "too many classes, fields, methods or locals: docs/LANGUAGE.md has the limits\n",
     }
 }
 

@@ -87,7 +87,7 @@ fn flag_lesson(name: &[u8]) -> &'static str
     ensures { result.now ≡ flag_lesson name.now }
 {
     if is_word(name, b"AtomicBoolean") {
-        "this class isn't supported: use a `boolean` under a lock, or `Flag` of docs/FROM-JAVA.md\n"
+        "this class isn't supported: use a `boolean` under a lock, or `Flag` of docs/LANGUAGE.md\n"
     } else {
         lock_lesson(name)
     }
@@ -99,7 +99,7 @@ fn number_lesson(name: &[u8]) -> &'static str
     ensures { result.now ≡ number_lesson name.now }
 {
     if is_either(name, b"AtomicInteger", b"AtomicLong") {
-        "this class isn't supported: use an `int` under a lock, or `AtomicInt` of docs/FROM-JAVA.md\n"
+        "this class isn't supported: use an `int` under a lock, or `AtomicInt` of docs/LANGUAGE.md\n"
     } else {
         flag_lesson(name)
     }

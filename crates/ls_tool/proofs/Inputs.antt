@@ -31,6 +31,5 @@ on_parts (requests.Batch seed count steps switch cells judge) input answer other
 on_parts (requests.Sample seed steps switch cells) input answer other h = h
 on_parts (requests.Explore cells states illegal first order progress) input answer other h = h
 on_parts (requests.Verdict states mixed) input answer other h = h
-on_parts (requests.Races states mixed) input answer other h = h
 on_parts (requests.Find seeking) input answer other h = h
 on_parts (requests.Merge count) input answer other h = absurd (other count refl)

@@ -55,9 +55,9 @@ fn decide<R: Threads + Wait + Sync, W: Watch>(
         Request::Translate { to, cells } => on_translate(alloc, to, cells as usize, parts),
         Request::Live { cells, limit } => on_live(rt, alloc, cells as usize, limit as usize, parts),
         Request::Batch { .. } | Request::Sample { .. } => on_samples(rt, alloc, request, parts),
-        Request::Explore { .. } | Request::Verdict { .. } | Request::Races { .. } => {
-            on_schedules(alloc, request, parts, watch)
-        }
+        Request::Explore { .. } | Request::Verdict { .. } => on_schedules(
+            alloc, request, parts, watch,
+        ),
         Request::Find(seeking) => on_find(rt, alloc, seeking, parts, watch),
         Request::Merge { .. } => Err(ToolFault::WrongParts),
     }

@@ -1,6 +1,6 @@
 -- Why `judged_of` in src/deciding.rt keeps its clauses `bad`, `unjudged`, `free`, `stuck` and `extent`.
 
-use Rattle.std.proofs.Common.{◌≡◌, ◌∙◌, ap, subst, true}
+use Rattle.std.proofs.Common.{◌≡◌, ◌∙◌, ap, subst, true, false}
 use Rattle.std.specs.Prelude.{IfNone, IfSome}
 use Rattle.ls_checked.specs.CheckedTree.{File}
 use Rattle.ls_checked.specs.CheckedProgram.{Program}
@@ -9,7 +9,7 @@ use Rattle.ls_checked.specs.PlainProgram.{plain_program}
 use Rattle.ls_types_checked.specs.CheckedFile.{elaborated_file}
 use Rattle.ls_translation.specs.Texts.{file_of, program_of}
 use Rattle.ls_search_laws.specs.Stepping.{SetsUp}
-use Rattle.ls_search.specs.Verdicts.{AreAll, AreReached, NeverStuck}
+use Rattle.ls_search.specs.Verdicts.{AreAll, AreReached, IsCut, NeverStuck}
 use Rattle.ls_source_judge.specs.Judged.{IsBadRun, IsStuckRun, IsUnjudged}
 use Rattle.ls_explore_commands.proofs.Decisions.{at_same}
 use Rattle.ls_explore_commands.proofs.deciding.judged_of.Goals as goal
@@ -34,7 +34,8 @@ returns-clause-extent c =
     let program : plain_program c.program.result.now ≡ program_of i = ap plain_program c.program.ensures in
     record {
       within = c.in_ok-judged.ensures.few;
-      cut = c.in_ok-judged.ensures.cut;
+      cut = at_same (λ (f : File) (p : Program). j.complete ≡ false → IsCut f p c.args.states j.setup j.states) file program
+          c.in_ok-judged.ensures.cut;
       setup = j.setup;
       up = subst (λ (p : Program). SetsUp (file_of i) p j.setup) program
           (subst (λ (f : File). SetsUp f (plain_program c.program.result.now) j.setup) file
