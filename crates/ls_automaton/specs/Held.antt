@@ -110,8 +110,8 @@ module _ (rows : List (Vec Outcome Global)) where
   abbrev pub leaves_none : List Held → Verdict
   leaves_none pairs h = not (list_any (goes_along h) pairs)
 
-  -- A pair covers what it becomes where a pending call takes effect. A history that goes along from that goes along from
-  -- the pair, too.
+  -- A pair covers what it becomes where a pending call takes effect. A history that goes along from that goes along
+  -- from the pair, too.
   pub record Covers (p q : Held) : Type 0 where
     pub outcome : Outcome
     pub there : Contains (row_of (slice_get rows p.state)) outcome

@@ -1,10 +1,12 @@
 -- By which edges nodes are found, while a graph grows.
-use Rattle.std.proofs.Common.{◌≡◌, ◌⊎◌, inl, inr, ℕ, zero, suc, ◌<◌, ◌≤◌, ◌+◌, true, Bool, List, [], ◌∷◌, ◌++◌, length, Some, sym, ap}
+use Rattle.std.proofs.Common.{◌≡◌, ◌⊎◌, inl, inr, ℕ, zero, suc, ◌<◌, ◌≤◌, ◌+◌, true, Bool, List, [], ◌∷◌, ◌++◌}
+use Rattle.std.proofs.Common.{length, Some, sym, ap}
 use Rattle.std.proofs.Common.{◌∙◌, subst, arith}
 use Rattle.std.specs.Prelude.{slice_get}
 use Rattle.std.proofs.lemmas.List.{length-append}
 use Rattle.ls_graph.specs.Grown.{Keeps, Stands}
-use Rattle.ls_graph.specs.Found.{AreFound, AreFromLooked, AreOnce, HasNone, HasNoneBy, IsFoundBy, IsGrown, LeavesMore, LeavesMoreBy}
+use Rattle.ls_graph.specs.Found.{AreFound, AreFromLooked, AreOnce, HasNone, HasNoneBy, IsFoundBy, IsGrown, LeavesMore}
+use Rattle.ls_graph.specs.Found.{LeavesMoreBy}
 use Rattle.ls_graph.specs.declared.closing.Edge.{Edge}
 use Rattle.ls_graph.specs.declared.closing.Graph.{Graph}
 use Rattle.ls_graph.proofs.Lists.{below, keeps_pushed, last_there, pushed_cases, pushed_where}
@@ -37,7 +39,8 @@ found_more : (es es' : List Edge) (e : Edge) (count count' : ℕ) (by by' : List
     AreFound es' count' by'
 found_more es es' e count count' by by' more many longer to from h = record {
   many = let more = ap length longer in omega (arith, more, length-append by (length es ∷ []), h.many, many);
-  each = λ i place at. by_place i place (pushed_where by (length es) i place (subst (λ l. slice_get l i ≡ Some place) longer at));
+  each = λ i place at. by_place i place
+      (pushed_where by (length es) i place (subst (λ l. slice_get l i ≡ Some place) longer at));
 }
   where
     by_place : (i place : ℕ) → (slice_get by i ≡ Some place) ⊎ ((i ≡ length by) × (length es ≡ place)) →
@@ -52,7 +55,8 @@ found_more es es' e count count' by by' more many longer to from h = record {
     }
 
 -- one edge more, where its actor had none from there
-once_more : (es es' : List Edge) (e : Edge) → es' ≡ es ++ e ∷ [] → HasNoneBy es e.from e.actor → AreOnce es → AreOnce es'
+once_more : (es es' : List Edge) (e : Edge) → es' ≡ es ++ e ∷ [] → HasNoneBy es e.from e.actor → AreOnce es →
+    AreOnce es'
 once_more es es' e more none once i j f g at_i at_j from actor =
     by_place (pushed_where es e i f (subst (λ l. slice_get l i ≡ Some f) more at_i))
     (pushed_where es e j g (subst (λ l. slice_get l j ≡ Some g) more at_j))
@@ -61,7 +65,8 @@ once_more es es' e more none once i j f g at_i at_j from actor =
         (slice_get es j ≡ Some g) ⊎ ((j ≡ length es) × (e ≡ g)) → i ≡ j
     by_place (inl a) (inl b) = once i j f g a b from actor
     by_place (inl a) (inr (last, same)) =
-        absurd (none i f a (from ∙ ap (λ (x : Edge). x.from) (sym same)) (actor ∙ ap (λ (x : Edge). x.actor) (sym same)))
+        absurd (none i f a (from ∙ ap (λ (x : Edge). x.from) (sym same))
+        (actor ∙ ap (λ (x : Edge). x.actor) (sym same)))
     by_place (inr (last, same)) (inl b) =
         absurd (none j g b (sym from ∙ ap (λ (x : Edge). x.from) (sym same))
         (sym actor ∙ ap (λ (x : Edge). x.actor) (sym same)))
@@ -94,10 +99,12 @@ module _ {N : Type 0} (g g' : Graph N) (grown : IsGrown g) where
           AreFound g'.edges.items (length g'.found.nodes.items) g'.by.items
       by_place (inl (same, old)) =
           found_still g.edges.items g'.edges.items _ _ g.by.items g'.by.items
-          (subst (Keeps g.edges.items) (sym edges) (keeps_pushed g.edges.items e)) (ap length same) (known old) grown.found
+          (subst (Keeps g.edges.items) (sym edges) (keeps_pushed g.edges.items e)) (ap length same)
+          (known old) grown.found
       by_place (inr (more, last)) =
           found_more g.edges.items g'.edges.items e (length g.found.nodes.items) _ g.by.items g'.by.items edges
-          (ap length more ∙ length-append g.found.nodes.items (n ∷ [])) (new (omega (arith, last))) last from grown.found
+          (ap length more ∙ length-append g.found.nodes.items (n ∷ []))
+          (new (omega (arith, last))) last from grown.found
 
 -- no node but the first, and no edges
 pub grown_alone : {N : Type 0} (g : Graph N) (n : N) → g.found.nodes.items ≡ n ∷ [] → g.edges.items ≡ [] →

@@ -1,5 +1,6 @@
 -- Walks by the edges that found nodes.
-use Rattle.std.proofs.Common.{◌≡◌, ◌⊎◌, inl, inr, ℕ, zero, suc, ◌<◌, ◌≤◌, ◌+◌, ◌-◌, true, Bool, List, [], ◌∷◌, ◌++◌, length, reverse, get_or, Some, refl}
+use Rattle.std.proofs.Common.{◌≡◌, ◌⊎◌, inl, inr, ℕ, zero, suc, ◌<◌, ◌≤◌, ◌+◌, ◌-◌, true, Bool, List, [], ◌∷◌, ◌++◌}
+use Rattle.std.proofs.Common.{length, reverse, get_or, Some, refl}
 use Rattle.std.proofs.Common.{sym, ap, ◌∙◌, subst, arith}
 use Rattle.std.specs.Prelude.{slice_get}
 use Rattle.std.proofs.lemmas.List.{reverse-append}
@@ -75,7 +76,8 @@ walk_within edges count by found (suc fuel) (suc k) less within =
     let place = there by k (omega (arith, found.many, within)) in
     let is : IsFoundBy edges (k + 1) place.0 = found.each k place.0 place.1 in
     let before =
-    walk_within edges count by found fuel is.edge.from (omega (arith, is.earlier, less)) (omega (arith, is.earlier, within)) in (
+    walk_within edges count by found fuel is.edge.from (omega (arith, is.earlier, less))
+    (omega (arith, is.earlier, within)) in (
       before.0 ++ is.edge ∷ [],
       walks_end edges 0 before.0 is.edge (suc k) before.1 (place.0, is.here) (omega (arith, is.to_is)),
     )

@@ -44,8 +44,8 @@ abbrev pub IsFull : {N : Type 0} → (N → ℕ) → Bounds → Graph N → Type
 IsFull weighs bounds g =
     (bounds.limit ≤ length g.found.nodes.items) ⊎ (bounds.weight < total weighs g.found.nodes.items)
 
--- There are no more nodes than there may be. What is counted of their weight is no more than they may weigh and what the
--- last of them weighs.
+-- There are no more nodes than there may be. What is counted of their weight is no more than they may weigh and what
+-- the last of them weighs.
 pub record IsBounded {N : Type 0} (weighs : N → ℕ) (bounds : Bounds) (found : Nodes N) : Type 0 where
   pub few : length found.nodes.items ≤ bounds.limit
   pub light : (front : List N) (n : N) → found.nodes.items ≡ front ++ n ∷ [] → found.weight ≤ bounds.weight + weighs n

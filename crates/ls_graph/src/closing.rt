@@ -1,6 +1,7 @@
 // The nodes to which actors lead, one after another, and all that they do there.
 
-ghost use Rattle.std.specs.Prelude.{◌≡◌, ◌<◌, ◌≤◌, ◌++◌, ◌∷◌, [], ℕ, IfNone, IfOk, IfSome, IsTrue, OnOk, Some, false, length};
+ghost use Rattle.std.specs.Prelude.{◌≡◌, ◌<◌, ◌≤◌, ◌++◌, ◌∷◌, [], ℕ, IfNone, IfOk, IfSome, IsTrue, OnOk, Some, false};
+ghost use Rattle.std.specs.Prelude.{length};
 ghost use Rattle.std.specs.Prelude.{slice_get};
 ghost use Rattle.ls_graph.specs.Found.{AreFound, AreFromLooked, HasNone, HasNoneBy, IsGrown, LeavesMore, LeavesMoreBy};
 ghost use Rattle.ls_graph.specs.Grown.{Grows, Keeps};

@@ -34,7 +34,8 @@ returns-clause-extent c =
     let program : plain_program c.program.result.now ≡ program_of i = ap plain_program c.program.ensures in
     record {
       within = c.in_ok-judged.ensures.few;
-      cut = at_same (λ (f : File) (p : Program). j.complete ≡ false → IsCut f p c.args.states j.setup j.states) file program
+      cut = at_same (λ (f : File) (p : Program). j.complete ≡ false → IsCut f p c.args.states j.setup j.states) file
+          program
           c.in_ok-judged.ensures.cut;
       setup = j.setup;
       up = subst (λ (p : Program). SetsUp (file_of i) p j.setup) program

@@ -10,7 +10,8 @@ invariant-loop g l = record {
       l.fn.closing.graph l.tables l.closing.graph;
   looked : AreLooked (g.P.Space.Rests l.space) (g.P.Space.Ends l.space) (states_in (g.P.Space.stands l.space) l.tables l.closing.graph)
       l.closing.graph.edges.items l.plan.actors l.closing.looked.items;
-  bounded : IsBounded g.P.Space.weighs l.plan.bounds l.fn.closing.graph.found → IsBounded g.P.Space.weighs l.plan.bounds l.closing.graph.found;
+  bounded : IsBounded g.P.Space.weighs l.plan.bounds l.fn.closing.graph.found →
+      IsBounded g.P.Space.weighs l.plan.bounds l.closing.graph.found;
   grown : IsGrown l.closing.graph;
   from : AreFromLooked l.closing.graph.edges.items l.closing.looked.items;
 }

@@ -14,7 +14,8 @@ invariant-loop-actor g l = record {
   told : (s : g.P.Space.State) (u : ℕ) →
       slice_get (states_in (g.P.Space.stands l.space) l.fn.tables l.fn.graph) l.at ≡ Some s → u < l.actor →
       IsTold (g.P.Space.Rests l.space) (g.P.Space.Ends l.space) l.graph.edges.items l.at s u;
-  bounded : IsBounded g.P.Space.weighs l.plan.bounds l.fn.graph.found → IsBounded g.P.Space.weighs l.plan.bounds l.graph.found;
+  bounded : IsBounded g.P.Space.weighs l.plan.bounds l.fn.graph.found →
+      IsBounded g.P.Space.weighs l.plan.bounds l.graph.found;
   grown : IsGrown l.graph;
   before : LeavesBefore l.fn.graph.edges.items l.graph.edges.items l.at l.actor;
 }

@@ -55,7 +55,8 @@ returns-in_ok-join-in-Some-2-clause-goes g c =
     (subst (λ (f : Nodes g.row.P-Node.Denot). Pushed old f.nodes.items node) (sym c.join.ensures.nodes)
     c.in_ok-keep-in-Some.ensures.pushed)
     (of_some (λ (s : Step g.row.P-Node.Denot). g.P.Space.IsKnown c.args.space.now c.next.new.tables s.node)
-    c.in_ok-next.field-0 c.in-Some.step c.in-Some.is c.in_ok-next.ensures.known) e one c.in_ok-join-in-Some-2.ensures.edges
+    c.in_ok-next.field-0 c.in-Some.step c.in-Some.is c.in_ok-next.ensures.known) e one
+    c.in_ok-join-in-Some-2.ensures.edges
     (ap (slice_get old) c.in_ok-from-in-Some-2.ensures
     ∙ ap (λ l. slice_get l c.args.at) (sym c.deref.ensures.value) ∙ c.node_at-node.ensures)
     (subst (λ (f : Nodes g.row.P-Node.Denot). IsNodeAt stands f.nodes.items node c.in_ok-to-in-Some-2.to)
@@ -85,7 +86,12 @@ returns-in_ok-join-in-Some-2-clause-bounded g c = λ old.
 
 pub returns-in_ok-join-in-Some-2-clause-more : goal.returns-in_ok-join-in-Some-2-clause-more
 returns-in_ok-join-in-Some-2-clause-more g c =
-    let e : Edge = record { from = c.in_ok-from-in-Some-2.from; to = c.in_ok-to-in-Some-2.to; mark = c.in-Some.step.mark; actor = c.args.actor } in
+    let e : Edge = record {
+      from = c.in_ok-from-in-Some-2.from;
+      to = c.in_ok-to-in-Some-2.to;
+      mark = c.in-Some.step.mark;
+      actor = c.args.actor;
+    } in
     subst (λ k. LeavesMoreBy c.args.graph.now.edges.items c.join.new.graph.edges.items k c.args.actor)
     c.in_ok-from-in-Some-2.ensures
     (more_edge c.args.graph.now.edges.items c.join.new.graph.edges.items e c.in_ok-join-in-Some-2.ensures.edges)
@@ -94,9 +100,15 @@ pub returns-in_ok-join-in-Some-2-clause-grown : goal.returns-in_ok-join-in-Some-
 returns-in_ok-join-in-Some-2-clause-grown g c =
     let old = c.args.graph.now.found.nodes.items in
     let node = c.in-Some.step.node in
-    let e : Edge = record { from = c.in_ok-from-in-Some-2.from; to = c.in_ok-to-in-Some-2.to; mark = c.in-Some.step.mark; actor = c.args.actor } in
+    let e : Edge = record {
+      from = c.in_ok-from-in-Some-2.from;
+      to = c.in_ok-to-in-Some-2.to;
+      mark = c.in-Some.step.mark;
+      actor = c.args.actor;
+    } in
     grown_edge c.args.graph.now c.join.new.graph c.requires.grown e node
-    (subst (λ k. HasNoneBy c.args.graph.now.edges.items k c.args.actor) (sym c.in_ok-from-in-Some-2.ensures) c.requires.new)
+    (subst (λ k. HasNoneBy c.args.graph.now.edges.items k c.args.actor)
+    (sym c.in_ok-from-in-Some-2.ensures) c.requires.new)
     (omega (arith, c.requires.at, c.in_ok-from-in-Some-2.ensures)) c.in_ok-join-in-Some-2.ensures.edges
     (subst (λ (f : Nodes g.row.P-Node.Denot). Stands old f.nodes.items node c.in_ok-to-in-Some-2.to)
     (sym c.join.ensures.nodes)

@@ -15,5 +15,6 @@ returns-clause-weight g c =
 pub returns-clause-bounded : goal.returns-clause-bounded
 returns-clause-bounded g c = λ old.
     bounded_more g.P.Space.weighs c.args.bounds c.args.found.now _ c.args.node
-    (omega (arith, c.if-at-bounds.false, c.len-at.ensures)) (omega (arith, c.if-found-bounds.false)) c.in_ok-push.ensures.items
+    (omega (arith, c.if-at-bounds.false, c.len-at.ensures))
+    (omega (arith, c.if-found-bounds.false)) c.in_ok-push.ensures.items
     (omega (arith, c.saturating_add-found.ensures, c.weight.ensures))

@@ -21,7 +21,8 @@ returns-clause-one g c =
     let place = c.index-place.result.now in (
       place,
       edge_here graph.edges.items (length graph.found.nodes.items) graph.by.items c.requires.found c.args.at
-          (omega (arith, c.if-at-eq0.false)) c.requires.within place c.index.result.now c.index-place.ensures c.index.ensures,
+          (omega (arith, c.if-at-eq0.false)) c.requires.within place c.index.result.now c.index-place.ensures
+          c.index.ensures,
     )
 
 pub returns-clause-to : goal.returns-clause-to
@@ -31,7 +32,8 @@ returns-clause-to g c =
     let is : IsFoundBy graph.edges.items c.args.at c.index-place.result.now =
     is_at graph.edges.items (length graph.found.nodes.items) graph.by.items c.requires.found c.args.at
     (omega (arith, c.if-at-eq0.false)) c.requires.within place c.index-place.ensures in
-    ap (λ (e : Edge). e.to) (edge_is graph.edges.items (length graph.found.nodes.items) graph.by.items c.requires.found c.args.at
+    ap (λ (e : Edge). e.to)
+    (edge_is graph.edges.items (length graph.found.nodes.items) graph.by.items c.requires.found c.args.at
     (omega (arith, c.if-at-eq0.false)) c.requires.within place c.index.result.now c.index-place.ensures c.index.ensures)
     ∙ is.to_is
 
@@ -43,6 +45,8 @@ returns-clause-earlier g c =
     is_at graph.edges.items (length graph.found.nodes.items) graph.by.items c.requires.found c.args.at
     (omega (arith, c.if-at-eq0.false)) c.requires.within place c.index-place.ensures in
     let same =
-    ap (λ (e : Edge). e.from) (edge_is graph.edges.items (length graph.found.nodes.items) graph.by.items c.requires.found c.args.at
-    (omega (arith, c.if-at-eq0.false)) c.requires.within place c.index.result.now c.index-place.ensures c.index.ensures) in
+    ap (λ (e : Edge). e.from)
+    (edge_is graph.edges.items (length graph.found.nodes.items) graph.by.items c.requires.found c.args.at
+    (omega (arith, c.if-at-eq0.false)) c.requires.within place c.index.result.now c.index-place.ensures
+    c.index.ensures) in
     omega (arith, same, is.earlier)
