@@ -36,8 +36,10 @@ returns g c =
     let root : noticed_at first (table_of c.in_ok-beginning.beginning.tables.transitions)
     (map stands c.in_ok-beginning.beginning.tables.pool.values.items) c.in_ok-beginning.beginning.root.place ≡ noticed_of first next file program [] =
     c.in_ok-beginning.ensures.stands
-    ∙ ap (λ (k : Configuration). record { configuration = k; noted = stands c.in_ok-start.field-0 }) c.in_ok-numbered.ensures.start
-    ∙ ap (λ (m : g.O.Observer.State). record { configuration = configuration_of file program (start program); noted = m }) c.in_ok-start.ensures in
+    ∙ ap (λ (k : Configuration). record { configuration = k; noted = stands c.in_ok-start.field-0 })
+    c.in_ok-numbered.ensures.start
+    ∙ ap (λ (m : g.O.Observer.State). record
+    { configuration = configuration_of file program (start program); noted = m }) c.in_ok-start.ensures in
     let actors : c.args.scope.plan.actors ≡ length program.threads =
     c.requires ∙ sym (length-map c.args.program.now.threads.items plain_thread) in
     record {

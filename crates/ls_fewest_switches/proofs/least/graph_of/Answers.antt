@@ -29,7 +29,8 @@ returns g c = λ least is s bad ends.
     let edges = closing.graph.edges.items in
     let looked = closing.looked.items in
     let count = length closing.graph.found.nodes.items in
-    let found : IsFound (Some first) (nameless_next next) (nameless_bad is_bad) (λ n. Some (stands n)) c.args.lost (wanted_of stuck)
+    let found : IsFound (Some first) (nameless_next next) (nameless_bad is_bad) (λ n. Some (stands n)) c.args.lost
+    (wanted_of stuck)
     file program edges count looked =
     subst (λ (b : Wanted). IsFound (Some first) (nameless_next next) (nameless_bad is_bad) (λ n. Some (stands n))
     c.args.lost b file program edges count looked) c.scope_of.ensures.wanted c.in_ok-closing.ensures in
