@@ -24,7 +24,7 @@ use Rattle.ls_explore_commands.specs.Readable.{IsReadBack}
 use Rattle.ls_explore_commands.specs.Reports.{bad_text, doubtful_text, free_text, stuck_and_doubtful_text, stuck_text}
 use Rattle.ls_explore_commands.specs.Reports.{turning_text, unsure_text}
 
--- At most so many states were kept. If these aren't all, so many were, or they have over 16,777,216 objects together.
+-- At most so many states were kept. If these aren't all, so many were, or they have over 4,194,304 objects together.
 -- After steps of the setup, each of which acts, there are as many schedules: each goes on from an earlier one by steps
 -- of a thread that acts there, and no two from the same one by the same thread. If these are all, there are as many
 -- states that threads don't leave, but for steps that no other thread notices and for names of objects.

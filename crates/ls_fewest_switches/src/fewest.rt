@@ -29,7 +29,7 @@ pub struct SimpleRun {
 pub struct Target {
     /// Whether no thread may act after it, and one must wait.
     pub stuck: bool,
-    /// How many states are kept at the most. Their stores have 16,777,216 objects together at most, but for the last
+    /// How many states are kept at the most. Their stores have 4,194,304 objects together at most, but for the last
     /// one.
     pub limit: usize,
 }

@@ -33,7 +33,7 @@ pub struct Sought<'a, O> {
     pub observer: &'a O,
     /// How many threads there are, the setup with them.
     pub threads: u8,
-    /// The most states. Their stores have 16,777,216 objects together at most, but for the last of them.
+    /// The most states. Their stores have 4,194,304 objects together at most, but for the last of them.
     pub limit: usize,
     pub counted: Counted,
     /// Whether no thread may act at the end, and one must wait.

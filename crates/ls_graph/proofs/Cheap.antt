@@ -1,5 +1,6 @@
 -- What walks cost.
-use Rattle.std.proofs.Common.{◌≡◌, ◌⊎◌, inl, inr, ℕ, ◌<◌, ◌≤◌, ◌+◌, Bool, true, List, [], ◌∷◌, ◌++◌, Some, refl, sym, ◌∙◌}
+use Rattle.std.proofs.Common.{◌≡◌, ◌⊎◌, inl, inr, ℕ, ◌<◌, ◌≤◌, ◌+◌, Bool, true, List, [], ◌∷◌, ◌++◌, Some, refl, sym}
+use Rattle.std.proofs.Common.{◌∙◌}
 use Rattle.std.proofs.Common.{subst, arith}
 use Rattle.std.specs.Prelude.{slice_get}
 use Rattle.ls_graph.specs.declared.closing.Edge.{Edge}
@@ -49,7 +50,8 @@ module _ (counted : Counted) (known : List (List ℕ)) (actors least : ℕ) (edg
       by_within far (inl few) = omega (arith, far, few)
       by_within far (inr l) = omega (arith, l)
 
-      by_marks : (slice_get marks to ≡ Some true) ⊎ ((last : ℕ) → last < actors → least ≤ cost_at counted known last to) →
+      by_marks : (slice_get marks to ≡ Some true)
+          ⊎ ((last : ℕ) → last < actors → least ≤ cost_at counted known last to) →
           (slice_get marks to ≡ Some true) ⊎ (least ≤ costs counted 0 (actors_of path))
       by_marks (inl marked) = inl marked
       by_marks (inr far) = inr (by_within (far h.0 h.1) h.2)

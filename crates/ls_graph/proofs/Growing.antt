@@ -6,7 +6,8 @@ use Rattle.std.specs.Prelude.{IfNone, IfSome, None, Option, slice_get}
 use Rattle.std.proofs.lemmas.Bool.{cases_lt}
 use Rattle.std.proofs.lemmas.List.{length-map}
 use Rattle.ls_graph.specs.Grown.{Grows, IsNodeAt, Keeps, Pushed}
-use Rattle.ls_graph.specs.Graph.{AreEdges, AreKnown, AreLooked, Goes, HasEdge, IsEdge, IsLooked, IsTold, IsWeighed, states_in}
+use Rattle.ls_graph.specs.Graph.{AreEdges, AreKnown, AreLooked, Goes, HasEdge, IsEdge, IsLooked, IsTold, IsWeighed}
+use Rattle.ls_graph.specs.Graph.{states_in}
 use Rattle.ls_graph.specs.declared.closing.Edge.{Edge}
 use Rattle.ls_graph.specs.declared.closing.Graph.{Graph}
 use Rattle.ls_graph.proofs.Lists.{below, keeps_pushed, map_from, map_there, pushed_cases, same_there, some_is, there}
@@ -84,7 +85,9 @@ edge_still es es' at u keeps h = record {
   actor_is = h.actor_is;
 }
 
-pub told_still : {S : Type 0} (Rests : S → ℕ → Type 0) (Ends : S → Type 0) (es es' : List Edge) (at : ℕ) (s : S) (u : ℕ) → Keeps es es' →
+pub told_still : {S : Type 0} (Rests : S → ℕ → Type 0) (Ends : S → Type 0) (es es' : List Edge) (at : ℕ) (s : S)
+    (u : ℕ) →
+    Keeps es es' →
     IsTold Rests Ends es at s u →
     IsTold Rests Ends es' at s u
 told_still Rests Ends es es' at s u keeps (inl rests) = inl rests
@@ -162,7 +165,8 @@ module _ {T N S : Type 0} (IsKnown : T → N → Type 0) (stands : T → N → S
     }
 
 pub goes_both : {T N S : Type 0} (IsKnown : T → N → Type 0) (stands : T → N → S) (Leads : S → ℕ → ℕ → S → Type 0)
-    (weighs : N → ℕ) (t : T) (g : Graph N) (t' : T) (g' : Graph N) (t'' : T) (g'' : Graph N) → Goes IsKnown stands Leads weighs t g t' g' →
+    (weighs : N → ℕ) (t : T) (g : Graph N) (t' : T) (g' : Graph N) (t'' : T) (g'' : Graph N) →
+    Goes IsKnown stands Leads weighs t g t' g' →
     Goes IsKnown stands Leads weighs t' g' t'' g'' →
     Goes IsKnown stands Leads weighs t g t'' g''
 goes_both IsKnown stands Leads weighs t g t' g' t'' g'' h k = record {
@@ -188,7 +192,8 @@ pub within_nodes : {T N S : Type 0} (stands : T → N → S) (t : T) (g : Graph 
 within_nodes stands t g at h = omega (arith, h, length-map g.found.nodes.items (stands t))
 
 -- one actor more
-pub told_more : {S : Type 0} (Rests : S → ℕ → Type 0) (Ends : S → Type 0) (es es' : List Edge) (at : ℕ) (s : S) (actor : ℕ) →
+pub told_more : {S : Type 0} (Rests : S → ℕ → Type 0) (Ends : S → Type 0) (es es' : List Edge) (at : ℕ) (s : S)
+    (actor : ℕ) →
     Keeps es es' →
     ((u : ℕ) → u < actor → IsTold Rests Ends es at s u) →
     IsTold Rests Ends es' at s actor →
@@ -282,7 +287,8 @@ pub none_looked : {S : Type 0} (Rests : S → ℕ → Type 0) (Ends : S → Type
     (looked : List Bool) →
     looked ≡ [] →
     AreLooked Rests Ends ss es actors looked
-none_looked Rests Ends ss es actors looked is at marked = absurd (none (subst (λ l. slice_get l at ≡ Some true) is marked))
+none_looked Rests Ends ss es actors looked is at marked =
+    absurd (none (subst (λ l. slice_get l at ≡ Some true) is marked))
   where
     none : slice_get [] at ≡ Some true → ⊥
     none h = cc

@@ -1,5 +1,6 @@
 -- Each run that is looked for has a walk that costs no more to a node that wasn't looked at.
-use Rattle.std.proofs.Common.{◌≡◌, ◌⊎◌, inl, inr, ℕ, ◌<◌, ◌≤◌, ◌+◌, Bool, true, false, List, [], ◌∷◌, Some, length, refl, sym}
+use Rattle.std.proofs.Common.{◌≡◌, ◌⊎◌, inl, inr, ℕ, ◌<◌, ◌≤◌, ◌+◌, Bool, true, false, List, [], ◌∷◌, Some, length}
+use Rattle.std.proofs.Common.{refl, sym}
 use Rattle.std.proofs.Common.{ap, ◌∙◌, subst, arith}
 use Rattle.std.specs.Prelude.{None, Option, slice_get}
 use Rattle.std.specs.List.{fold}
@@ -46,9 +47,10 @@ module _ {S R : Type 0} (Rests : S → ℕ → Type 0) (Leads : S → ℕ → �
       let e : Edge = has.edge in
       let is : IsEdge Leads states e = graph.led has.place e has.here in
       let one : is.one ≡ s = some_is (sym is.here ∙ ap (slice_get states) has.from_is ∙ here) in
+      let by_edge : Leads s e.actor e.mark is.other =
+      subst (λ x. Leads x e.actor e.mark is.other) one is.leads in
       let near_to : Near is.other (after r u) =
-      leads e.mark is.other
-      (subst (λ v. Leads s v e.mark is.other) has.actor_is (subst (λ x. Leads x e.actor e.mark is.other) one is.leads)) in
+      leads e.mark is.other (subst (λ v. Leads s v e.mark is.other) has.actor_is by_edge) in
       let rest = next e.to is.other (after r u) is.there near_to bad in
       record {
         path = e ∷ rest.path;
@@ -104,7 +106,8 @@ module _ {S R : Type 0} (Rests : S → ℕ → Type 0) (Leads : S → ℕ → �
 
       by_step : slice_get looked at ≡ Some true →
           Near s (after r u)
-          ⊎ ((u < actors) × (Rests s u → Near s (after r u)) × ((m : ℕ) (s' : S) → Leads s u m s' → Near s' (after r u))) →
+          ⊎ ((u < actors) × (Rests s u → Near s (after r u))
+          × ((m : ℕ) (s' : S) → Leads s u m s' → Near s' (after r u))) →
           Leaves at (u ∷ us)
       by_step done (inl still) = aside us next u at s r here still bad
       by_step done (inr (within, still, leads)) =

@@ -38,7 +38,8 @@ module _ (counted : Counted) where
   -- it costs at least so much to reach a node that isn't marked
   abbrev pub CostAtLeast : List (List ℕ) → ℕ → ℕ → List Bool → ℕ → Type 0
   CostAtLeast costs actors count marks least =
-      (at : ℕ) → at < count → (slice_get marks at ≡ Some true) ⊎ ((last : ℕ) → last < actors → least ≤ cost_at costs last at)
+      (at : ℕ) → at < count →
+      (slice_get marks at ≡ Some true) ⊎ ((last : ℕ) → last < actors → least ≤ cost_at costs last at)
 
   -- each walk from the first node to one of the first so many that isn't marked costs so much at least
   abbrev pub IsLeast : List Edge → ℕ → List Bool → ℕ → Type 0

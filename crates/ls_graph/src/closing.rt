@@ -5,7 +5,8 @@ ghost use Rattle.std.specs.Prelude.{length};
 ghost use Rattle.std.specs.Prelude.{slice_get};
 ghost use Rattle.ls_graph.specs.Found.{AreFound, AreFromLooked, HasNone, HasNoneBy, IsGrown, LeavesMore, LeavesMoreBy};
 ghost use Rattle.ls_graph.specs.Grown.{Grows, Keeps};
-ghost use Rattle.ls_graph.specs.Graph.{AreEdges, AreKnown, AreLooked, Goes, IsFull, IsGraph, IsLooked, IsTold, IsWeighed};
+ghost use Rattle.ls_graph.specs.Graph.{AreEdges, AreKnown, AreLooked, Goes, IsFull, IsGraph, IsLooked, IsTold};
+ghost use Rattle.ls_graph.specs.Graph.{IsWeighed};
 ghost use Rattle.ls_graph.specs.Graph.{IsBounded, IsWhole, states_in};
 ghost use Rattle.ls_graph.specs.declared.closing.Halt.TheVariants.{Full};
 

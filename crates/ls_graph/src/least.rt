@@ -1,4 +1,5 @@
-// What walks to nodes that weren't looked at cost at least. It is tested on what was found, so no proof rests on the order.
+// What walks to nodes that weren't looked at cost at least. It is tested on what was found, so no proof rests on the
+// order.
 
 ghost use Rattle.std.specs.Prelude.{◌≡◌, ◌⊎◌, ◌≤◌, ◌<◌, ◌+◌, ℕ, IsTrue, Some, length, map, slice_get, true};
 ghost use Rattle.ls_graph.specs.Walks.{AreCosts, CostAtLeast, IsCost, IsLeast, cost_along, cost_at};

@@ -79,8 +79,8 @@ fn find<P: Space>(space: &P, found: &Nodes<P::Node>, hash: u64, node: &P::Node) 
     None
 }
 
-/// Keeps a node if it is new, and answers where it is. Answers nothing where there are as many as there may be, or where
-/// they weigh more than they may.
+/// Keeps a node if it is new, and answers where it is. Answers nothing where there are as many as there may be, or
+/// where they weigh more than they may.
 pub(crate) fn keep<P: Space>(
     space: &P,
     alloc: Global,

@@ -1,7 +1,6 @@
 -- What a search tells, by what it has found.
-use Rattle.std.proofs.Common.{◌≡◌, ℕ, zero, suc, Bool, true, false, not, ◌&&◌, List, [], ◌∷◌}
-use Rattle.std.proofs.Common.{None, Some, refl, sym, ap, ◌∙◌, subst, arith}
-use Rattle.std.specs.Prelude.{slice_get, slice_index_or}
+use Rattle.std.proofs.Common.{◌≡◌, ℕ, zero, suc, List, [], ◌∷◌, None, Some, refl, ap, subst, arith}
+use Rattle.std.specs.Prelude.{slice_get}
 use Rattle.std.proofs.lemmas.Option.{get_or_from_slice_get}
 use Rattle.ls_events.specs.declared.event.Event.{Event}
 use Rattle.ls_checked.specs.CheckedTree.{File}
@@ -11,8 +10,7 @@ use Rattle.ls_search_laws.specs.Noticing.{Noticed}
 use Rattle.ls_transitions.specs.Tables.{Table}
 use Rattle.ls_search.specs.declared.places.Node.{Node}
 use Rattle.ls_search.specs.Places.{configuration_at}
-use Rattle.ls_search.specs.Searched.{HidesNames, IsLinked, IsNode, IsSound, noticed_at, pairs_at}
-use Rattle.ls_search.proofs.Pairs.{map_there}
+use Rattle.ls_search.specs.Searched.{HidesNames, IsLinked, IsNode, IsSound, pairs_at}
 
 some_is : {A : Type 0} {x y : A} → Some x ≡ Some y → x ≡ y
 some_is h = cc
@@ -53,24 +51,3 @@ root_pair {S} first t states node noted e =
     ap (λ (s : S). record { configuration = configuration_at t node.place.store node.place.works.items; noted = s } ∷
     [])
     (get_or_from_slice_get states node.place.noted noted first e)
-
--- ---- bad states
-
--- what is noted at a state is what its pair has
-pub noted_pair : {S : Type 0} (first : S) (t : Table) (states : List S) (nodes : List Node) (at : ℕ) (n : Node)
-    (p : Noticed S) →
-    slice_get nodes at ≡ Some n →
-    slice_get (pairs_at first t states nodes) at ≡ Some p →
-    slice_index_or states n.place.noted first ≡ p.noted
-noted_pair {S} first t states nodes at n p here p_here =
-    ap (λ (q : Noticed S). q.noted)
-    (some_is (sym (map_there (λ (m : Node). noticed_at first t states m.place) nodes at n here) ∙ p_here))
-
--- ---- stuck states
-
-pub waits_or : (acts waits : Bool) → (waits && not acts) ≡ false → acts ≡ false → waits ≡ false
-waits_or acts true e isnt = absurd (no_true (sym (ap not isnt) ∙ e))
-  where
-    no_true : true ≡ false → ⊥
-    no_true h = cc
-waits_or acts false e isnt = refl

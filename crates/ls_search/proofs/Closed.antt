@@ -1,5 +1,6 @@
 -- The configurations that a search has found are closed.
-use Rattle.std.proofs.Common.{◌≡◌, ℕ, zero, suc, ◌<◌, Bool, true, false, not, ◌&&◌, List, length, map, None, Some, replicate}
+use Rattle.std.proofs.Common.{◌≡◌, ℕ, zero, suc, ◌<◌, Bool, true, false, not, ◌&&◌, List, length, map, None, Some}
+use Rattle.std.proofs.Common.{replicate}
 use Rattle.std.proofs.Common.{subst, sym}
 use Rattle.std.specs.Prelude.{nat_eq, slice_get}
 use Rattle.std.proofs.lemmas.List.{length-map}

@@ -1,5 +1,6 @@
 -- What a graph of a program's states tells of all its schedules.
-use Rattle.std.proofs.Common.{◌≡◌, ◌⊎◌, inl, inr, ◌≤◌, ◌<◌, ℕ, Bool, true, false, List, [], ◌∷◌, ◌++◌, Some, None, fold, length, refl, sym, ap}
+use Rattle.std.proofs.Common.{◌≡◌, ◌⊎◌, inl, inr, ◌≤◌, ◌<◌, ℕ, Bool, true, false, List, [], ◌∷◌, ◌++◌, Some, None, fold}
+use Rattle.std.proofs.Common.{length, refl, sym, ap}
 use Rattle.std.proofs.Common.{◌∙◌, subst, append-nil, append_assoc, Option}
 use Rattle.std.proofs.lemmas.List.Sums.{fold-append}
 use Rattle.ls_events.specs.declared.event.Event.{Event}

@@ -248,7 +248,8 @@ pub seen_before : (t t' : Table) (n : NumberedState) → Grows t t' → IsThere 
     IsSeenAs l (stride t.file (configuration_of t n) u).did
 seen_before t t' n grows is u l seen =
     subst (λ (f : File). IsSeenAs l (stride f (configuration_of t n) u).did) grows.file
-    (subst (λ (k : Configuration). IsSeenAs l (stride t'.file k u).did) (stays t t' n.store n.works.items grows is) seen)
+    (subst (λ (k : Configuration). IsSeenAs l (stride t'.file k u).did) (stays t t' n.store n.works.items grows is)
+    seen)
 
 -- what is stuck before tables grow is so after that, and the other way round
 pub stuck_later : (t t' : Table) (n : NumberedState) → Grows t t' → IsThere t n →

@@ -27,6 +27,7 @@ use Rattle.ls_search.specs.Answers.{ClosesAll, IsStuck}
 use Rattle.ls_search.specs.Strides.{at_once}
 use Rattle.ls_search.specs.Graphs.{HaveObjects}
 use Rattle.ls_search.specs.Searched.{HidesNames, IsOther}
+use Rattle.ls_search.proofs.Telling.{none_map}
 use Rattle.ls_search.proofs.Unrenamed.{own, unrenamed}
 use Rattle.ls_search.specs.Nameless.{is_nameless, nameless_bad, nameless_next}
 use Rattle.ls_search.specs.Verdicts.{ActsAfter, AllGood, LeavesStuck, NeverStuck}
@@ -39,10 +40,6 @@ some_is h = cc
 
 not_both : true ≡ false → ⊥
 not_both e = cc
-
-none_map : {A : Type 0} (P Q : Type 0) (o : Option A) → (P → Q) → IfNone o P → IfNone o Q
-none_map P Q None f h = f h
-none_map P Q (Some x) f h = tt
 
 -- ---- what is noted of events that name no object
 
@@ -127,7 +124,8 @@ module _ {N S P : Type 0} (stands : N → S) (first : S) (next : S → Event →
   root : Noticed (Option S)
   root = noticed_of (Some first) (nameless_next next) file program (replicate k 0)
 
-  pub searched : IsSearch (Some first) (nameless_next next) at_once IsRenaming (λ m n. m ≡ n) file program k closes.pairs
+  pub searched : IsSearch (Some first) (nameless_next next) at_once IsRenaming (λ m n. m ≡ n) file program k
+      closes.pairs
   searched = record {
     names = histories_alike.renamings;
     alike = alike;

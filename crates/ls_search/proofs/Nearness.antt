@@ -22,7 +22,8 @@ use Rattle.ls_search_laws.specs.Search.{LeadsTo}
 use Rattle.ls_search_laws.proofs.Cells.{turns_fair}
 use Rattle.ls_search_laws.proofs.Stepping.{acts_within, still_stays}
 use Rattle.ls_search_laws.proofs.Reading.{reading_silent}
-use Rattle.ls_search_laws.proofs.Renamed.{both, both_renaming, events_other, renamed_both, step_stride, stride_other, told_length}
+use Rattle.ls_search_laws.proofs.Renamed.{both, both_renaming, events_other, renamed_both, step_stride, stride_other}
+use Rattle.ls_search_laws.proofs.Renamed.{told_length}
 use Rattle.ls_search_laws.proofs.Strides.{acted, acts_of, stride_by, told}
 use Rattle.ls_search_laws.proofs.AtOnce.{quick_step, ahead_of, IsOneOf, Out, Runs, runs_of, runs_on, also, AllSame}
 use Rattle.ls_search_laws.proofs.AtOnce.{forth, In, in_or_out, back}
@@ -45,7 +46,8 @@ not_both (did.Acted a x) acts still = absurd still
 not_both did.Waits acts still = absurd acts
 not_both did.Idle acts still = absurd acts
 
-module _ {M : Type 0} (first : M) (next : M → Event → M) (hides : HidesNames next) (file : File) (program : Program) where
+module _ {M : Type 0} (first : M) (next : M → Event → M) (hides : HidesNames next) (file : File)
+    (program : Program) where
   abbrev quiet : Choice
   quiet = at_once
 

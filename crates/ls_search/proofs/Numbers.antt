@@ -61,7 +61,8 @@ numbered_there t store works threads within h = record {
 module _ (r : Playing) (t : Table) (store : ℕ) (works : List ℕ)
     (numbered : AreNumbered t works (map thread_of r.threads.items))
     (width : length works ≡ length r.threads.items)
-    (stored : slice_get t.stores store ≡ Some (store_of r.store_and_events.store)) (file_is : t.file ≡ plain_file r.file.now)
+    (stored : slice_get t.stores store ≡ Some (store_of r.store_and_events.store))
+    (file_is : t.file ≡ plain_file r.file.now)
     (program_is : t.program ≡ plain_program r.program.now) where
   going : (u : ℕ) (later : Answers) (o : Option ℕ) → slice_get works u ≡ o →
       goes_with t o later ≡

@@ -1,9 +1,10 @@
 -- Pairs that stay while tables grow and states are found.
-use Rattle.std.proofs.Common.{◌≡◌, ◌⊎◌, inl, inr, ℕ, zero, suc, ◌<◌, ◌≤◌, List, [], ◌∷◌, ◌++◌, length, map}
+use Rattle.std.proofs.Common.{◌≡◌, inl, inr, ℕ, suc, ◌<◌, ◌≤◌, List, [], ◌∷◌, ◌++◌, length, map}
 use Rattle.std.proofs.Common.{Some, refl, sym, ap, ◌∙◌, subst, arith}
-use Rattle.std.specs.Prelude.{slice_get, slice_index_or, option_map}
-use Rattle.std.proofs.lemmas.List.{map-append, length-map}
-use Rattle.std.proofs.lemmas.Option.{get_or_from_slice_get, slice_get-map}
+use Rattle.std.specs.Prelude.{slice_get, slice_index_or}
+use Rattle.std.proofs.lemmas.List.{map-append}
+use Rattle.std.proofs.lemmas.Option.{get_or_from_slice_get}
+pub use Rattle.ls_graph.proofs.Lists.{keeps_pushed, last_there, map_from, map_there, pushed_where}
 use Rattle.ls_search_laws.specs.Configuration.{Configuration}
 use Rattle.ls_search_laws.specs.Noticing.{Noticed}
 use Rattle.ls_transitions.specs.Tables.{Table, Grows, Keeps}
@@ -15,33 +16,7 @@ use Rattle.ls_search.specs.Found.{HasPlace, Pushed}
 use Rattle.ls_search.specs.Searched.{IsNode, noticed_at, pairs_at}
 use Rattle.ls_search.proofs.Strides.{stays, there_still}
 
-some_is : {A : Type 0} {x y : A} → Some x ≡ Some y → x ≡ y
-some_is h = cc
-
 -- ---- lists
-
-pub keeps_pushed : {A : Type 0} (xs : List A) (x : A) → Keeps xs (xs ++ x ∷ [])
-keeps_pushed [] x n y h = cc
-keeps_pushed (z ∷ zs) x zero y h = h
-keeps_pushed (z ∷ zs) x (suc n) y h = keeps_pushed zs x n y h
-
-pub last_there : {A : Type 0} (xs : List A) (x : A) → slice_get (xs ++ x ∷ []) (length xs) ≡ Some x
-last_there [] x = refl
-last_there (y ∷ ys) x = last_there ys x
-
--- what stands in a list with one more item, and where
-pub pushed_where : {A : Type 0} (xs : List A) (x : A) (i : ℕ) (y : A) →
-    slice_get (xs ++ x ∷ []) i ≡ Some y →
-    (slice_get xs i ≡ Some y) ⊎ ((i ≡ length xs) × (x ≡ y))
-pushed_where [] x zero y h = inr (refl, some_is h)
-pushed_where [] x (suc i) y h = cc
-pushed_where (z ∷ zs) x zero y h = inl h
-pushed_where (z ∷ zs) x (suc i) y h = by_rest (pushed_where zs x i y h)
-  where
-    by_rest : (slice_get zs i ≡ Some y) ⊎ ((i ≡ length zs) × (x ≡ y)) →
-        (slice_get (z ∷ zs) (suc i) ≡ Some y) ⊎ ((suc i ≡ length (z ∷ zs)) × (x ≡ y))
-    by_rest (inl e) = inl e
-    by_rest (inr (e, same)) = inr (ap suc e, same)
 
 pub keeps_both : {A : Type 0} (xs ys zs : List A) → Keeps xs ys → Keeps ys zs → Keeps xs zs
 keeps_both xs ys zs g h n x e = h n x (g n x e)
@@ -52,20 +27,6 @@ keeps_longer (x ∷ xs) ys keeps =
     let last = there (x ∷ xs) (length xs) (omega arith) in
     let within : length xs < length ys = below ys (length xs) last.0 (keeps (length xs) last.0 last.1) in
     omega (arith, within)
-
-pub map_there : {A B : Type 0} (f : A → B) (xs : List A) (i : ℕ) (x : A) →
-    slice_get xs i ≡ Some x →
-    slice_get (map f xs) i ≡ Some (f x)
-map_there f xs i x e = slice_get-map f xs i ∙ ap (option_map f) e
-
--- what stands in a list of images is one
-pub map_from : {A B : Type 0} (f : A → B) (xs : List A) (i : ℕ) (y : B) →
-    slice_get (map f xs) i ≡ Some y →
-    (x : A) × (slice_get xs i ≡ Some x) × (f x ≡ y)
-map_from f xs i y e =
-    let within : i < length xs = let w = below (map f xs) i y e in omega (arith, w, length-map xs f) in
-    let at = there xs i within in
-    (at.0, at.1, some_is (sym (map_there f xs i at.0 at.1) ∙ e))
 
 -- images by functions that agree on a list's items
 same_images : {A B : Type 0} (f g : A → B) (xs : List A) →

@@ -114,7 +114,8 @@ module _ {N S : Type 0} (stands : N → S) (first : S) (next : S → Event → S
   closes_all is_bad bad stuck whole noted good free = record {
     pairs = states;
     begins = graph.begins;
-    more = λ p u there within acts. found p u (leads_on there.0 p (there_at states p there) (done p there) u within acts);
+    more = λ p u there within acts.
+        found p u (leads_on there.0 p (there_at states p there) (done p there) u within acts);
     noted = λ p there. noted there.0 p (there_at states p there);
     good = none_map _ _ bad
         (λ (h : (at : ℕ) (p : Noticed S) → slice_get states at ≡ Some p → is_bad p.noted ≡ false) (p : Noticed S)

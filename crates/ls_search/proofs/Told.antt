@@ -29,8 +29,8 @@ use Rattle.ls_search.proofs.Likeness.{stuck_other}
 use Rattle.ls_search.proofs.Telling.{not_stuck, there_at}
 
 -- where there is a state, the table is of its file
-pub file_of_placed : {S : Type 0} (first : S) (nodes : List Kept) (t : Table) (file : File) (states : List S) (threads : ℕ)
-    (root : Noticed S) →
+pub file_of_placed : {S : Type 0} (first : S) (nodes : List Kept) (t : Table) (file : File) (states : List S)
+    (threads : ℕ) (root : Noticed S) →
     ArePlaced file threads t states nodes →
     slice_get (states_at first t states nodes) 0 ≡ Some root →
     t.file ≡ file

@@ -16,7 +16,7 @@ weight_of c = length c.store.things
 
 -- the most objects that states have together before no more are kept
 abbrev pub most_objects : ℕ
-most_objects = 16777216
+most_objects = 4194304
 
 -- So many states, to each of which a path leads, have more than so many objects together.
 pub record HaveObjects (Leads : List ℕ → Configuration → Type 0) (states most : ℕ) : Type 0 where

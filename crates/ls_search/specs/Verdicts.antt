@@ -37,19 +37,19 @@ ActsAfter file program setup path thread =
 abbrev pub AreReached : File → Program → ℕ → ℕ → Type 0
 AreReached file program setup states = HasTried (ActsAfter file program setup) states
 
--- There are so many states, from the one that these steps of the setup lead to. Whatever a thread does that acts at one of
--- them leads to one of them, but for steps that no other thread notices and for names of objects.
+-- There are so many states, from the one that these steps of the setup lead to. Whatever a thread does that acts at one
+-- of them leads to one of them, but for steps that no other thread notices and for names of objects.
 abbrev pub AreAll : File → Program → ℕ → ℕ → Type 0
 AreAll file program setup states =
     HasClosed file (length program.threads)
     (configuration_of file program (source_run file program (replicate setup 0))) states
 
 -- So many states, to each of which a schedule leads after these steps of the setup but for names of objects, have more
--- than 16,777,216 objects together.
+-- than 4,194,304 objects together.
 abbrev pub HaveManyObjects : File → Program → ℕ → ℕ → Type 0
 HaveManyObjects file program setup states =
-    HaveObjects (λ path c. IsOther c (configuration_of file program (source_run file program (replicate setup 0 ++ path))))
-    states most_objects
+    HaveObjects (λ path c. IsOther c (configuration_of file program
+    (source_run file program (replicate setup 0 ++ path)))) states most_objects
 
 -- if not all states are kept, there are as many as may be kept, or they have too many objects
 abbrev pub IsCut : File → Program → ℕ → ℕ → ℕ → Type 0

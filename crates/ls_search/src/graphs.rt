@@ -1,6 +1,7 @@
 // What the graph of a program's states tells: whether these are all, and walks to those that are bad or stuck.
 
-ghost use Rattle.std.specs.Prelude.{◌≡◌, ◌⊎◌, ℕ, ◌<◌, ◌≤◌, ◌++◌, IfNone, IfOk, IfSome, IsTrue, OnOk, None, Some, true, false, length, map};
+ghost use Rattle.std.specs.Prelude.{◌≡◌, ◌⊎◌, ℕ, ◌<◌, ◌≤◌, ◌++◌, IfNone, IfOk, IfSome, IsTrue, OnOk, None, Some, true};
+ghost use Rattle.std.specs.Prelude.{false, length, map};
 ghost use Rattle.std.specs.Prelude.{replicate, slice_get, slice_index_or};
 ghost use Rattle.std.specs.List.{fold};
 ghost use Rattle.ls_checked.specs.Plain.{plain_file};
@@ -238,7 +239,8 @@ fn graph_from<'a, O: Observer>(
         s.closing.graph.found.nodes.items) }
     ensures few { IfOk result (λ s. 1 ≤ ground.now.limit →
         length s.closing.graph.found.nodes.items ≤ ground.now.limit) }
-    ensures full { IfOk result (λ s. s.closing.halt ≡ Full → (ground.now.limit ≤ length s.closing.graph.found.nodes.items) ⊎
+    ensures full { IfOk result (λ s. s.closing.halt ≡ Full →
+        (ground.now.limit ≤ length s.closing.graph.found.nodes.items) ⊎
         (most_objects < total (λ n. n.weight) s.closing.graph.found.nodes.items)) }
 {
     let beginning = begin(ground, transitions, root)?;
@@ -254,10 +256,10 @@ fn graph_from<'a, O: Observer>(
 }
 
 /// Looks for all that the root leads to, but for names of objects. Each thread acts in turn at each state that was
-/// found, and turns and enterings after that are taken at once. At most so many states are kept, and no more where their
-/// stores have over 16,777,216 objects together. A refusal is that memory ran out, that a store, a work or a state has
-/// no number left, or that a constant of the file names an object, which none does of a file that was read. A graph that
-/// isn't whole though there is room is refused too. That none is so isn't proved.
+/// found, and turns and enterings after that are taken at once. At most so many states are kept, and no more where
+/// their stores have over 4,194,304 objects together. A refusal is that memory ran out, that a store, a work or a state
+/// has no number left, or that a constant of the file names an object, which none does of a file that was read. A graph
+/// that isn't whole though there is room is refused too. That none is so isn't proved.
 pub fn search_from<'a, O: Observer>(
     ground: &Ground<'a, O>,
     transitions: Transitions<'a>,

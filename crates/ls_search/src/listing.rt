@@ -150,9 +150,9 @@ pub struct Listing<'a, N> {
     pub complete: bool,
 }
 
-/// Lists all states that the root leads to, by one step after another, but for names of objects. Each thread acts in turn at each state that was
-/// found. At most so many states are kept, and while it goes on it tells how many there are. A refusal is that memory
-/// ran out, or that a store, a work or a state has no number left.
+/// Lists all states that the root leads to, by one step after another, but for names of objects. Each thread acts in
+/// turn at each state that was found. At most so many states are kept, and while it goes on it tells how many there
+/// are. A refusal is that memory ran out, or that a store, a work or a state has no number left.
 pub fn list_states<'a, O: Observer, W: Watch>(
     ground: &Ground<'_, O>,
     transitions: Transitions<'a>,

@@ -1,6 +1,7 @@
 // The states of a program with what an observer notes, as a space of a graph.
 
-ghost use Rattle.std.specs.Prelude.{◌≡◌, ◌||◌, ◌<◌, ◌≤◌, IfNone, IfOk, IfSome, IsTrue, false, length, map, slice_index_or};
+ghost use Rattle.std.specs.Prelude.{◌≡◌, ◌||◌, ◌<◌, ◌≤◌, IfNone, IfOk, IfSome, IsTrue, false, length, map};
+ghost use Rattle.std.specs.Prelude.{slice_index_or};
 ghost use Rattle.std.specs.List.{fold};
 ghost use Rattle.ls_checked.specs.Plain.{plain_file};
 ghost use Rattle.ls_checked.specs.PlainProgram.{plain_program};
@@ -45,8 +46,8 @@ pub struct Tables<'a, N> {
     pub counted: Vec<bool>,
 }
 
-/// A state that is kept, and how many objects are counted for it: those of its store, or none where they are counted for
-/// another state.
+/// A state that is kept, and how many objects are counted for it: those of its store, or none where they are counted
+/// for another state.
 #[derive(Drop)]
 pub struct Kept {
     pub place: NumberedState,
@@ -54,7 +55,7 @@ pub struct Kept {
 }
 
 /// The most objects that the states that are kept have together, but for the last of them.
-pub const MOST_OBJECTS: usize = 0x100_0000;
+pub const MOST_OBJECTS: usize = 0x40_0000;
 
 /// Which states are looked for.
 #[derive(Copy)]
@@ -232,8 +233,8 @@ fn lead<'a, O: Observer>(
         (plain_program space.now.ground.now.program.now) (O.stands space.now.ground.now.observer.now) space.now.lost
         (noticed_at (O.first space.now.ground.now.observer.now) (table_of tables.old.transitions)
         (map (O.stands space.now.ground.now.observer.now) tables.old.pool.values.items) node.now.place) thread)) }
-    ensures node { IfOk result (λ o. IfSome o (λ s. IsPlaced (plain_file space.now.ground.now.file.now) space.now.ground.now.threads
-        (table_of tables.new.transitions)
+    ensures node { IfOk result (λ o. IfSome o (λ s. IsPlaced (plain_file space.now.ground.now.file.now)
+        space.now.ground.now.threads (table_of tables.new.transitions)
         (map (O.stands space.now.ground.now.observer.now) tables.new.pool.values.items) s.node)) }
     ensures leads { IfOk result (λ o. IfSome o (λ s. GoesTo (O.first space.now.ground.now.observer.now)
         (O.next space.now.ground.now.observer.now) (plain_file space.now.ground.now.file.now)
@@ -377,7 +378,8 @@ impl<'a, 'b, O: Observer> Space for StateSpace<'a, 'b, O, O::Noted> {
 
     type Node = Kept;
 
-    ghost IsKnown = { λ s t n. IsPlaced (plain_file s.ground.now.file.now) s.ground.now.threads (table_of t.transitions) (map (O.stands s.ground.now.observer.now) t.pool.values.items) n };
+    ghost IsKnown = { λ s t n. IsPlaced (plain_file s.ground.now.file.now) s.ground.now.threads
+        (table_of t.transitions) (map (O.stands s.ground.now.observer.now) t.pool.values.items) n };
 
     ghost stands = { λ s t n. noticed_at (O.first s.ground.now.observer.now) (table_of t.transitions)
         (map (O.stands s.ground.now.observer.now) t.pool.values.items) n.place };
@@ -423,8 +425,8 @@ pub struct Beginning<'a, N> {
     pub root: Kept,
 }
 
-/// The state where a search begins. It is refused too if a constant of the file names an object, which none does of a file
-/// that was read.
+/// The state where a search begins. It is refused too if a constant of the file names an object, which none does of a
+/// file that was read.
 pub fn begin<'a, O: Observer>(
     ground: &Ground<'_, O>,
     transitions: Transitions<'a>,

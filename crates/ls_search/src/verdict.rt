@@ -18,8 +18,8 @@ use ls_observers::observer::Observer;
 use std::alloc::{AllocError, Global};
 
 /// What is told of all schedules of a program. First how many steps of the setup act, how many states were found, and
-/// whether these are all. Then a path to a bad history, and one to a state in which no thread acts and one waits. A path
-/// is of steps after those of the setup.
+/// whether these are all. Then a path to a bad history, and one to a state in which no thread acts and one waits. A
+/// path is of steps after those of the setup.
 #[derive(Drop)]
 pub struct Finding {
     pub setup: usize,
@@ -30,10 +30,10 @@ pub struct Finding {
 }
 
 /// Has an observer look at the histories of all schedules of a program, by the states that threads lead to. At most so
-/// many states are kept, and no more where their stores have over 16,777,216 objects together. A refusal is that memory
-/// ran out, or that a store, a work or a state has no number left. A call that answers an object is refused too: the calls
-/// of a program that was read answer none. So is a graph that isn't whole though there is room, which isn't proved not to
-/// come.
+/// many states are kept, and no more where their stores have over 4,194,304 objects together. A refusal is that memory
+/// ran out, or that a store, a work or a state has no number left. A call that answers an object is refused too: the
+/// calls of a program that was read answer none. So is a graph that isn't whole though there is room, which isn't
+/// proved not to come.
 pub fn verdict<O: Observer>(
     alloc: Global,
     observer: &O,

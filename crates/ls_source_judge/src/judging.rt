@@ -136,7 +136,7 @@ fn judged_by(
 }
 
 /// Judges the histories of all schedules of a program by its serial histories, and where threads come to wait. At most
-/// so many states are kept, and no more where their stores have over 16,777,216 objects together. Each step of a
+/// so many states are kept, and no more where their stores have over 4,194,304 objects together. Each step of a
 /// schedule that is told acts. A refusal is that memory ran out, or that a store, a work or a state has no number left.
 pub fn judge_schedules(
     alloc: Global,

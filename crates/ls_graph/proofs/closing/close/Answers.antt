@@ -8,9 +8,10 @@ pub returns-clause-graph : goal.returns-clause-graph
 returns-clause-graph g c =
     let stands = g.P.Space.stands c.args.space.now in
     let goes = c.in_ok-halt.ensures.goes in
+    let nodes = c.in_ok-found.found.nodes.items in
     record {
       begins = goes.states 0 (stands c.args.tables.now c.args.root)
-          (first_stands stands c.args.tables.now c.in_ok-found.found.nodes.items c.args.root c.in_ok-found.ensures.alone);
+          (first_stands stands c.args.tables.now nodes c.args.root c.in_ok-found.ensures.alone);
       led = goes.led;
       told = c.in_ok-halt.ensures.looked;
     }

@@ -50,8 +50,10 @@ loop-actor-preserved g c =
           (states_in stands c.look.new.tables c.look.new.graph) c.args.at goes.states
           (within_states stands c.loop-actor.tables c.loop-actor.graph c.args.at inv.within));
       told = λ s u here less.
-          told_more (g.P.Space.Rests c.args.space.now) (g.P.Space.Ends c.args.space.now) c.loop-actor.graph.edges.items c.look.new.graph.edges.items c.args.at s c.loop-actor.actor goes.edges
-          (λ w k. inv.told s w here k) (c.in_ok-look.ensures.told c.if-not-branch.false s (inv.goes.states c.args.at s here)) u less;
+          told_more (g.P.Space.Rests c.args.space.now) (g.P.Space.Ends c.args.space.now)
+          c.loop-actor.graph.edges.items c.look.new.graph.edges.items c.args.at s c.loop-actor.actor goes.edges
+          (λ w k. inv.told s w here k)
+          (c.in_ok-look.ensures.told c.if-not-branch.false s (inv.goes.states c.args.at s here)) u less;
       bounded = λ old. c.in_ok-look.ensures.bounded (inv.bounded old);
       grown = c.in_ok-look.ensures.grown;
       before = before_more c.args.graph.now.edges.items c.loop-actor.graph.edges.items c.look.new.graph.edges.items

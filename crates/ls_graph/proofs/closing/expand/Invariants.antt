@@ -8,8 +8,8 @@ use Rattle.ls_graph.proofs.closing.expand.Given as goal
 
 abbrev pub invariant-loop-actor : goal.invariant-loop-actor
 invariant-loop-actor g l = record {
-  goes : Goes (g.P.Space.IsKnown l.space) (g.P.Space.stands l.space) (g.P.Space.Leads l.space) g.P.Space.weighs l.fn.tables
-      l.fn.graph l.tables l.graph;
+  goes : Goes (g.P.Space.IsKnown l.space) (g.P.Space.stands l.space) (g.P.Space.Leads l.space) g.P.Space.weighs
+      l.fn.tables l.fn.graph l.tables l.graph;
   within : l.at < length l.graph.found.nodes.items;
   told : (s : g.P.Space.State) (u : ℕ) →
       slice_get (states_in (g.P.Space.stands l.space) l.fn.tables l.fn.graph) l.at ≡ Some s → u < l.actor →

@@ -19,7 +19,8 @@ next-requires g c = c.requires.known c.args.at c.node_at-node.result.now
 
 pub returns-in-None-clause-goes : goal.returns-in-None-clause-goes
 returns-in-None-clause-goes g c =
-    goes_still _ _ _ _ _ c.next.ensures.grows c.args.graph.now _ c.requires.known c.requires.led g.P.Space.weighs c.requires.weighed refl refl
+    goes_still _ _ _ _ _ c.next.ensures.grows c.args.graph.now _ c.requires.known c.requires.led g.P.Space.weighs
+    c.requires.weighed refl refl
 
 pub returns-in-None-clause-told : goal.returns-in-None-clause-told
 returns-in-None-clause-told g c = λ done s here.
@@ -48,7 +49,12 @@ returns-in_ok-join-in-Some-2-clause-goes g c =
     let one = c.node_at-node.result.now in
     let node = c.in-Some.step.node in
     let old = c.args.graph.now.found.nodes.items in
-    let e : Edge = record { from = c.in_ok-from-in-Some-2.from; to = c.in_ok-to-in-Some-2.to; mark = c.in-Some.step.mark; actor = c.args.actor } in
+    let e : Edge = record {
+      from = c.in_ok-from-in-Some-2.from;
+      to = c.in_ok-to-in-Some-2.to;
+      mark = c.in-Some.step.mark;
+      actor = c.args.actor;
+    } in
     goes_edge _ _ _ _ _ c.next.ensures.grows c.args.graph.now _ c.requires.known c.requires.led weighs
     (subst (λ (f : Nodes g.row.P-Node.Denot). f.weight ≤ total weighs f.nodes.items) (sym c.join.ensures.nodes)
     c.in_ok-keep-in-Some.ensures.weight) node
@@ -64,12 +70,18 @@ returns-in_ok-join-in-Some-2-clause-goes g c =
     (subst (IsNodeAt stands c.keep.new.found.nodes.items node) (sym c.in_ok-to-in-Some-2.ensures)
     (of_some (IsNodeAt stands c.keep.new.found.nodes.items node) c.in_ok-keep-in-Some.field-0 c.in-Some-2.to
     c.in-Some-2.is c.in_ok-keep-in-Some.ensures.there)))
-    (of_some (λ (s : Step g.row.P-Node.Denot). g.P.Space.Leads c.args.space.now (stands c.args.tables.now one) c.args.actor
-    s.mark (stands c.next.new.tables s.node)) c.in_ok-next.field-0 c.in-Some.step c.in-Some.is c.in_ok-next.ensures.leads)
+    (of_some (λ (s : Step g.row.P-Node.Denot). g.P.Space.Leads c.args.space.now (stands c.args.tables.now one)
+    c.args.actor s.mark (stands c.next.new.tables s.node)) c.in_ok-next.field-0 c.in-Some.step c.in-Some.is
+    c.in_ok-next.ensures.leads)
 
 pub returns-in_ok-join-in-Some-2-clause-told : goal.returns-in_ok-join-in-Some-2-clause-told
 returns-in_ok-join-in-Some-2-clause-told g c = λ done s here.
-    let e : Edge = record { from = c.in_ok-from-in-Some-2.from; to = c.in_ok-to-in-Some-2.to; mark = c.in-Some.step.mark; actor = c.args.actor } in
+    let e : Edge = record {
+      from = c.in_ok-from-in-Some-2.from;
+      to = c.in_ok-to-in-Some-2.to;
+      mark = c.in-Some.step.mark;
+      actor = c.args.actor;
+    } in
     let edges : List Edge = c.args.graph.now.edges.items in
     inr (record {
       place = length edges;

@@ -12,7 +12,8 @@ pub loop-edge-preserved : goal.loop-edge-preserved
 loop-edge-preserved c = λ i e less here.
     let edges = c.args.edges.now in
     let k = c.loop-edge.edge-index in
-    let Is : Edge → Type 0 = λ x. IsCost c.args.counted (map (λ v. v.items) c.args.costs.now) c.args.actors c.args.least x in
+    let Is : Edge → Type 0 =
+    λ x. IsCost c.args.counted (map (λ v. v.items) c.args.costs.now) c.args.actors c.args.least x in
     let by_place : (i < k) ⊎ (k ≤ i) → Is e = elim [
       | inl h ↦ c.loop-edge.invariant i e h here
       | inr h ↦

@@ -96,5 +96,5 @@ loop-at-preserved c =
 pub returns-clause-none : goal.returns-clause-none
 returns-clause-none c = λ at n here done stuck.
     let many = ap length c.as_slice-nodes.ensures.value in
-    c.loop-at.invariant.none at n
-    (omega (arith, below c.args.closing.now.graph.found.nodes.items at n here, c.loop-at-test.false, many)) here done stuck
+    let within = below c.args.closing.now.graph.found.nodes.items at n here in
+    c.loop-at.invariant.none at n (omega (arith, within, c.loop-at-test.false, many)) here done stuck

@@ -64,9 +64,9 @@ returns-clause-closes g c = λ complete.
     let looked = c.in_ok-found.found.closing.looked.items in
     let by = c.in_ok-found.found.closing.graph.by.items in
     let graph = c.in_ok-found.ensures.graph in
+    let many = length-map nodes (λ (n : Kept). noticed_at first t (map stands values) n.place) in
     let whole : IsWhole (length (states_at first t (map stands values) nodes)) looked =
-    subst (λ n. IsWhole n looked) (sym (length-map nodes (λ (n : Kept). noticed_at first t (map stands values) n.place)))
-    (c.is_whole-complete.ensures complete) in
+    subst (λ n. IsWhole n looked) (sym many) (c.is_whole-complete.ensures complete) in
     closes_all stands first next file program threads _ root (states_at first t (map stands values) nodes) edges looked
     graph is_bad c.in_ok-bad.bad c.in_ok-stuck.stuck whole
     (noted stands first next is_bad c.requires.hides file program threads _ root t values nodes edges looked graph
@@ -124,8 +124,8 @@ returns-clause-bad g c =
     let by = c.in_ok-found.found.closing.graph.by.items in
     let graph = c.in_ok-found.ensures.graph in
     some_map _ _ c.in_ok-bad.bad
-    (λ path h. bad_there stands first next is_bad c.requires.hides file program threads _ root t values nodes edges looked
-    graph h.0 path.items
+    (λ path h. bad_there stands first next is_bad c.requires.hides file program threads _ root t values nodes edges
+    looked graph h.0 path.items
     (subst (λ (l : List Kept). h.0 < length l) c.deref.ensures.value
     (of_some _ c.first_bad-bad_at.result h.0 h.1 c.first_bad-bad_at.ensures.within)) h.2
     (λ n here. of_some _ c.first_bad-bad_at.result h.0 h.1 c.first_bad-bad_at.ensures.some n
@@ -151,7 +151,9 @@ returns-clause-stuck g c =
     let graph = c.in_ok-found.ensures.graph in
     some_map _ _ c.in_ok-stuck.stuck
     (λ path h. stuck_there stands first next is_bad c.requires.hides file program threads _ root t values nodes edges
-    looked graph (file_of_placed first nodes t file (map stands values) threads root c.in_ok-found.ensures.placed graph.begins) h.0 path.items
+    looked graph
+    (file_of_placed first nodes t file (map stands values) threads root c.in_ok-found.ensures.placed graph.begins) h.0
+    path.items
     (of_some _ c.in_ok-stuck_at.stuck_at h.0 h.1 c.in_ok-stuck_at.ensures.within) h.2
     (of_some _ c.in_ok-stuck_at.stuck_at h.0 h.1 c.in_ok-stuck_at.ensures.some)) c.in_ok-stuck.ensures.some
 
@@ -180,8 +182,8 @@ returns-clause-cut g c = λ isnt.
     let by_case : (c.args.ground.now.limit ≤ length nodes) ⊎ (most_objects < total (λ (n : Kept). n.weight) nodes) →
     (c.len-states.result ≡ c.args.ground.now.limit) ⊎ Is c.len-states.result = elim [
       | inl full ↦ inl (omega (arith, full, few, count))
-      | inr more ↦ inr (subst Is count (have_objects stands first next is_bad c.requires.hides file program threads _ root
-          t values nodes edges looked graph by most_objects c.in_ok-found.ensures.found.found
+      | inr more ↦ inr (subst Is count (have_objects stands first next is_bad c.requires.hides file program threads _
+          root t values nodes edges looked graph by most_objects c.in_ok-found.ensures.found.found
           (λ at n here. (c.in_ok-found.ensures.placed at n here).weight) more))
     ] in
     by_case (c.in_ok-found.ensures.full (c.if-not-is_closed_or_full.ensures refl isnt))

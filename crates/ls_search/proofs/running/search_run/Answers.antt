@@ -37,11 +37,12 @@ returns-clause-closes g c = λ complete.
 pub returns-clause-all : goal.returns-clause-all
 returns-clause-all g c = λ complete.
     let file : File = plain_file c.args.file.now in
+    let program : Program = plain_program c.args.program.now in
     let first = g.O.Observer.first c.args.observer.now in
     let next = g.O.Observer.next c.args.observer.now in
     let len_is : c.len.result ≡ length c.args.program.now.threads.items = search rules in
     subst (λ (n : ℕ). HasClosed file n
-    (noticed_of first next file (plain_program c.args.program.now) (replicate c.in_ok-steps.field-0.steps 0)).configuration
+    (noticed_of first next file program (replicate c.in_ok-steps.field-0.steps 0)).configuration
     c.in_ok-found.found.states) (len_is ∙ sym (length-map c.args.program.now.threads.items plain_thread))
     (subst (λ (r : Noticed g.O.Observer.State). HasClosed file c.len.result r.configuration c.in_ok-found.found.states)
     c.in_ok-steps.ensures.root (c.in_ok-found.ensures.all complete))

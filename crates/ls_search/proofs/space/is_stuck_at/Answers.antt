@@ -5,7 +5,8 @@ use Rattle.ls_transitions.specs.Seen.{table_of}
 use Rattle.ls_transitions.specs.Tables.{Table}
 use Rattle.ls_transitions.proofs.Growing.{grows_on}
 use Rattle.ls_search.specs.Places.{configuration_of}
-use Rattle.ls_search.proofs.FollowingOn.{acting_seen, all_still, free_more, none_waits, seen_before, still_more, waits_more}
+use Rattle.ls_search.proofs.FollowingOn.{acting_seen, all_still, free_more, none_waits, seen_before, still_more}
+use Rattle.ls_search.proofs.FollowingOn.{waits_more}
 use Rattle.ls_search.proofs.Nearness.{not_both}
 use Rattle.ls_search.proofs.Strides.{there_still}
 use Rattle.ls_search.proofs.space.is_stuck_at.Goals as goal

@@ -12,11 +12,13 @@ abbrev pub invariant-loop-thread : goal.invariant-loop-thread
 invariant-loop-thread l = record {
   grows : Grows (table_of l.fn.transitions) (table_of l.transitions);
   free : l.waits ≡ false → (u : ℕ) → u < l.thread →
-      (stride (table_of l.fn.transitions).file (configuration_of (table_of l.fn.transitions) l.place) u).did ≡ did.Waits →
+      (stride (table_of l.fn.transitions).file (configuration_of (table_of l.fn.transitions) l.place) u).did ≡
+      did.Waits →
       ⊥;
   still : (u : ℕ) → u < l.thread →
       IsStill (stride (table_of l.fn.transitions).file (configuration_of (table_of l.fn.transitions) l.place) u).did;
   waiting : l.waits ≡ true →
       (u : ℕ)
-      × ((stride (table_of l.fn.transitions).file (configuration_of (table_of l.fn.transitions) l.place) u).did ≡ did.Waits);
+      × ((stride (table_of l.fn.transitions).file (configuration_of (table_of l.fn.transitions) l.place) u).did ≡
+      did.Waits);
 }

@@ -15,8 +15,8 @@ use Rattle.ls_search.proofs.space.lead.Goals as goal
 
 pub follow-requires-clause-there : goal.follow-requires-clause-there
 follow-requires-clause-there g c =
-    there_still (table_of c.args.tables.now.transitions) (table_of c.move_from.new.transitions) c.args.node.now.place.store
-    c.args.node.now.place.works.items c.move_from.ensures.grows c.requires.node.numbers
+    there_still (table_of c.args.tables.now.transitions) (table_of c.move_from.new.transitions)
+    c.args.node.now.place.store c.args.node.now.place.works.items c.move_from.ensures.grows c.requires.node.numbers
 
 pub follow-requires-clause-started : goal.follow-requires-clause-started
 follow-requires-clause-started g c =
@@ -39,12 +39,14 @@ returns-in_ok-led-in-Acts-clause-leads g c =
     let t : Table = table_of c.args.tables.now.transitions in
     let t'' : Table = table_of c.move_from.new.transitions in
     let p = c.args.node.now.place in
-    let acts : ActsBy t'' p.works.items c.args.thread c.in-Acts.step (stride t.file (configuration_of t p) c.args.thread) =
+    let thread = c.args.thread in
+    let step = c.in-Acts.step in
+    let acts : ActsBy t'' p.works.items thread step (stride t.file (configuration_of t p) thread) =
     subst (λ (m : Move). IsStrideBy t'' (configuration_of t p) p.works.items c.args.thread m
     (stride t.file (configuration_of t p) c.args.thread)) c.in-Acts.is c.in_ok-move_from.ensures.stride in
     some_map _ _ c.in_ok-led-in-Acts.led
     (λ s h. record {
-      acts = acting_here _ _ t _ p c.requires.file_is c.requires.node t (grows_not t) t'' c.args.thread c.in-Acts.step acts;
+      acts = acting_here _ _ t _ p c.requires.file_is c.requires.node t (grows_not t) t'' thread step acts;
       reaches = reaches_here _ _ t _ p c.requires.file_is c.requires.node t'' c.move_from.ensures.grows
           (g.O.Observer.first c.args.space.now.ground.now.observer.now)
           (g.O.Observer.next c.args.space.now.ground.now.observer.now)
