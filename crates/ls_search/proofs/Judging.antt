@@ -25,7 +25,6 @@ use Rattle.ls_search_laws.proofs.Search.{finds_ends, finds_none_bad}
 use Rattle.ls_search_laws.proofs.Telling.{long_of_all, tells_truth}
 use Rattle.ls_search.specs.Answers.{ClosesAll, IsStuck}
 use Rattle.ls_search.specs.Strides.{at_once}
-use Rattle.ls_search.specs.Graphs.{HaveObjects}
 use Rattle.ls_search.specs.Searched.{HidesNames, IsOther}
 use Rattle.ls_search.proofs.Telling.{none_map}
 use Rattle.ls_search.proofs.Unrenamed.{own, unrenamed}
@@ -241,15 +240,3 @@ module _ {S : Type 0} (first : S) (next : S → Event → S) (file : File) (prog
       IsOther c (configuration_of file program (source_run file program (replicate k 0 ++ path)))
   other_of c is =
       subst (λ (p : Noticed S). IsOther c p.configuration) (tells_truth first next file program (replicate k 0) path) is
-
--- the same states, by what leads to them
-pub objects_if : (P Q : List ℕ → Configuration → Type 0) (states most : ℕ) →
-    ((path : List ℕ) (c : Configuration) → P path c → Q path c) →
-    HaveObjects P states most →
-    HaveObjects Q states most
-objects_if P Q states most so h = record {
-  list = h.list;
-  many = h.many;
-  reached = λ c is. let r = h.reached c is in (r.0, so r.0 c r.1);
-  more = h.more;
-}

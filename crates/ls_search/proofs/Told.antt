@@ -1,5 +1,5 @@
 -- What a search tells, by the graph that it has found.
-use Rattle.std.proofs.Common.{◌≡◌, ℕ, ◌<◌, ◌≤◌, Bool, true, false, List, length, map, None, Some, refl, sym, ap, ◌∙◌}
+use Rattle.std.proofs.Common.{◌≡◌, ℕ, ◌<◌, ◌≤◌, Bool, true, false, List, length, map, None, Some, sym, ap, ◌∙◌}
 use Rattle.std.proofs.Common.{subst, arith}
 use Rattle.std.specs.Prelude.{slice_get, slice_index_or}
 use Rattle.std.specs.List.{fold}
@@ -9,24 +9,24 @@ use Rattle.ls_events.specs.declared.event.Event.{Event}
 use Rattle.ls_checked.specs.CheckedTree.{File}
 use Rattle.ls_checked.specs.CheckedProgram.{Program}
 use Rattle.ls_graph.specs.declared.closing.Edge.{Edge}
-use Rattle.ls_graph.specs.Found.{AreFound, HasAny}
+use Rattle.ls_graph.specs.Found.{AreFound, AreOnce, HasAny}
 use Rattle.ls_graph.specs.Graph.{IsGraph}
 use Rattle.ls_graph.specs.Weights.{total}
-use Rattle.ls_graph.proofs.Lists.{below, map_from, map_there, there}
-use Rattle.ls_graph.proofs.Walking.{walk_to}
+use Rattle.ls_graph.proofs.Lists.{map_from, map_there, there}
 use Rattle.ls_graph.proofs.Weighing.{total_less}
 use Rattle.ls_search_laws.specs.Configuration.{Configuration}
 use Rattle.ls_search_laws.specs.Noticing.{Noticed, noticed_after}
 use Rattle.ls_transitions.specs.Tables.{Table}
 use Rattle.ls_search.specs.declared.space.Kept.{Kept}
 use Rattle.ls_search.specs.Answers.{IsStuck}
-use Rattle.ls_search.specs.Graphs.{AreNoted, ArePlaced, HaveObjects, LeadsTo, states_at, steps_along}
+use Rattle.ls_search.specs.Graphs.{ActsAlong, AreNoted, ArePlaced, HaveObjects, LeadsAlong, LeadsTo, states_at}
 use Rattle.ls_search.specs.Places.{configuration_of}
 use Rattle.ls_search.specs.Searched.{HidesNames, IsLike, IsOther, noticed_at}
 use Rattle.ls_search.specs.Space.{GoesTo, Rests, weight_of}
 use Rattle.ls_search.proofs.Following.{walk_like}
 use Rattle.ls_search.proofs.Likeness.{stuck_other}
-use Rattle.ls_search.proofs.Telling.{not_stuck, there_at}
+use Rattle.ls_search.proofs.Telling.{not_stuck}
+use Rattle.ls_search.proofs.Trying.{has_tried, tried_like}
 
 -- where there is a state, the table is of its file
 pub file_of_placed : {S : Type 0} (first : S) (nodes : List Kept) (t : Table) (file : File) (states : List S)
@@ -112,26 +112,25 @@ module _ {N S : Type 0} (stands : N → S) (first : S) (next : S → Event → S
       (subst (λ (f : File). IsStuck f (configuration_of t n.0.place)) file_is (stuck n.0 n.1))
 
   -- where more objects are counted than may be, the states have more
-  pub have_objects : (by : List ℕ) (most : ℕ) → AreFound edges (length nodes) by →
+  pub have_objects : (by : List ℕ) (most : ℕ) → AreFound edges (length states) by → AreOnce edges →
       ((at : ℕ) (n : Kept) → slice_get nodes at ≡ Some n → n.weight ≤ weight_of (configuration_of t n.place)) →
       most < total (λ (n : Kept). n.weight) nodes →
-      HaveObjects (λ path c. IsOther c (After path).configuration) (length nodes) most
-  have_objects by most found few more = record {
-    list = map (λ (n : Kept). configuration_of t n.place) nodes;
-    many = length-map nodes (λ (n : Kept). configuration_of t n.place);
-    reached = λ c is. led_by c is.0 (there_at (map (λ (n : Kept). configuration_of t n.place) nodes) c is);
+      HaveObjects (ActsAlong first next file program root) (LeadsAlong first next file program root) (length states)
+      most
+  have_objects by most found once few more = record {
+    schedules = has_tried first next file program hides root states edges by graph.led graph.begins found once;
+    kept = map (λ (n : Kept). configuration_of t n.place) nodes;
+    many =
+        length-map nodes (λ (n : Kept). configuration_of t n.place)
+        ∙ sym (length-map nodes (λ (n : Kept). noticed_at first t (map stands values) n.place));
+    reached = λ at s c tried here.
+        let k = map_from (λ (n : Kept). configuration_of t n.place) nodes at c here in
+        let there : slice_get states at ≡ Some (noticed_at first t (map stands values) k.0.place) =
+        map_there (λ (n : Kept). noticed_at first t (map stands values) n.place) nodes at k.0 k.1 in
+        subst (λ (d : Configuration). IsOther d (After s.path).configuration) k.2
+        (tried_like first next file program hides root states edges by graph.led graph.begins found once at s
+        (noticed_at first t (map stands values) k.0.place) tried there).other;
     more =
         let less = total_less (λ (n : Kept). n.weight) weight_of (λ (n : Kept). configuration_of t n.place) nodes few in
         omega (arith, more, less);
   }
-    where
-      led_by : (c : Configuration) (at : ℕ) →
-          slice_get (map (λ (n : Kept). configuration_of t n.place) nodes) at ≡ Some c →
-          (path : List ℕ) × IsOther c (After path).configuration
-      led_by c at here =
-          let k = map_from (λ (n : Kept). configuration_of t n.place) nodes at c here in
-          let w = walk_to edges (length nodes) by found at (below nodes at k.0 k.1) in (
-            steps_along w.0,
-            subst (λ (d : Configuration). IsOther d (After (steps_along w.0)).configuration) k.2
-                (led_like at k.0 (steps_along w.0) k.1 (record { path = w.0; walks = w.1; is = refl })).other,
-          )

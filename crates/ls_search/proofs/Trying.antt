@@ -8,13 +8,14 @@ use Rattle.ls_events.specs.declared.event.Event.{Event}
 use Rattle.ls_checked.specs.CheckedTree.{File}
 use Rattle.ls_checked.specs.CheckedProgram.{Program}
 use Rattle.ls_meaning.specs.Still.{IsActing}
-use Rattle.ls_search_laws.specs.Configuration.{stride}
+use Rattle.ls_search_laws.specs.Configuration.{Configuration, stride}
 use Rattle.ls_search_laws.specs.Noticing.{Noticed, noticed_after}
 use Rattle.ls_graph.specs.declared.closing.Edge.{Edge}
 use Rattle.ls_graph.specs.Found.{AreFound, AreOnce, IsFoundBy}
 use Rattle.ls_graph.specs.Graph.{AreEdges, IsEdge}
 use Rattle.ls_graph.specs.Grown.{Keeps}
 use Rattle.ls_graph.proofs.Lists.{keeps_pushed, pushed_where, some_is, there}
+use Rattle.ls_search.specs.Objects.{HaveObjects}
 use Rattle.ls_search.specs.Searched.{HidesNames, IsLike}
 use Rattle.ls_search.specs.Space.{GoesTo}
 use Rattle.ls_search.specs.Tried.{GoesOn, HasTried, Tried}
@@ -47,6 +48,21 @@ tried_if P Q count so h = record {
     on = λ at t here past. goes_on_if P Q so h.tried at t (h.are.on at t here past);
     once = h.are.once;
   };
+}
+
+-- the same states, by what acts and what leads to them
+pub objects_if : (A B : List ℕ → ℕ → Type 0) (P Q : List ℕ → Configuration → Type 0) (states most : ℕ) →
+    ((path : List ℕ) (u : ℕ) → A path u → B path u) →
+    ((path : List ℕ) (c : Configuration) → P path c → Q path c) →
+    HaveObjects A P states most →
+    HaveObjects B Q states most
+unfolding tried_if
+objects_if A B P Q states most acts so h = record {
+  schedules = tried_if A B states acts h.schedules;
+  kept = h.kept;
+  many = h.many;
+  reached = λ at t c tried here. so t.path c (h.reached at t c tried here);
+  more = h.more;
 }
 
 nothing : (at : ℕ) (t : Tried) → slice_get [] at ≡ Some t → ⊥
@@ -239,3 +255,12 @@ module _ {S : Type 0} (first : S) (next : S → Event → S) (file : File) (prog
           ∙ n.to;
     };
   }
+
+  -- the schedule at a place leads to the state there
+  pub tried_like : (at : ℕ) (s : Tried) (p : Noticed S) → slice_get has_tried.tried at ≡ Some s →
+      slice_get states at ≡ Some p →
+      IsLike p (After root s.path)
+  unfolding all has_tried
+  tried_like at s p here state =
+      let l : Leads all.tried at s = all.are at s here in
+      subst (λ (x : Noticed S). IsLike x (After root s.path)) (some_is (sym l.here ∙ state)) l.like

@@ -1,12 +1,18 @@
 -- The states of a program as nodes of a graph, and what is told of them.
 use Rattle.std.specs.Prelude.{◌≡◌, ◌<◌, ◌+◌, ℕ, List, [], ◌∷◌, ◌++◌, Some, length, map, replicate, slice_get}
+use Rattle.std.specs.List.{fold}
+use Rattle.ls_events.specs.declared.event.Event.{Event}
 use Rattle.ls_graph.specs.declared.closing.Edge.{Edge}
 use Rattle.ls_graph.specs.Walks.{Walks}
 use Rattle.ls_checked.specs.CheckedTree.{File}
-use Rattle.ls_search_laws.specs.Noticing.{Noticed}
+use Rattle.ls_checked.specs.CheckedProgram.{Program}
+use Rattle.ls_meaning.specs.Still.{IsActing}
+use Rattle.ls_search_laws.specs.Configuration.{Configuration, stride}
+use Rattle.ls_search_laws.specs.Noticing.{Noticed, noticed_after}
 use Rattle.ls_transitions.specs.Tables.{Table}
 use Rattle.ls_search.specs.declared.space.Kept.{Kept}
 pub use Rattle.ls_search.specs.Objects.{HaveObjects, most_objects}
+use Rattle.ls_search.specs.Objects.{IsOther}
 use Rattle.ls_search.specs.Places.{IsThere}
 use Rattle.ls_search.specs.Searched.{noticed_at}
 use Rattle.ls_search.specs.Space.{IsPlaced}
@@ -23,6 +29,18 @@ pub record LeadsTo (edges : List Edge) (at : ℕ) (steps : List ℕ) : Type 0 wh
   pub path : List Edge
   pub walks : Walks edges 0 path at
   pub is : steps ≡ steps_along path
+
+-- ---- steps from a state on
+
+module _ {S : Type 0} (first : S) (next : S → Event → S) (file : File) (program : Program) (root : Noticed S) where
+  -- the thread acts after these steps
+  abbrev pub ActsAlong : List ℕ → ℕ → Type 0
+  ActsAlong path u =
+      IsActing (stride file (fold (noticed_after first next file program) root path).configuration u).did
+
+  -- they lead to the state, but for names of objects
+  abbrev pub LeadsAlong : List ℕ → Configuration → Type 0
+  LeadsAlong path c = IsOther c (fold (noticed_after first next file program) root path).configuration
 
 -- ---- states by numbers
 

@@ -1,8 +1,9 @@
 -- States under other names of objects, and how many objects states have.
-use Rattle.std.specs.Prelude.{◌<◌, ◌≡◌, ℕ, List, Contains, length}
+use Rattle.std.specs.Prelude.{◌<◌, ◌≡◌, ℕ, List, Some, length, slice_get}
 use Rattle.ls_graph.specs.Weights.{total}
 use Rattle.ls_meaning.specs.Renamings.{IsRenaming}
 use Rattle.ls_search_laws.specs.Configuration.{Configuration, IsRenamed}
+use Rattle.ls_search.specs.Tried.{HasTried, Tried}
 
 -- the second configuration is the first with other names of objects
 pub record IsOther (c d : Configuration) : Type 0 where
@@ -18,9 +19,14 @@ weight_of c = length c.store.things
 abbrev pub most_objects : ℕ
 most_objects = 4194304
 
--- So many states, to each of which a path leads, have more than so many objects together.
-pub record HaveObjects (Leads : List ℕ → Configuration → Type 0) (states most : ℕ) : Type 0 where
-  pub list : List Configuration
-  pub many : length list ≡ states
-  pub reached : (c : Configuration) → Contains list c → (path : List ℕ) × Leads path c
-  pub more : most < total weight_of list
+-- There are so many schedules, each of which goes on from an earlier one. Each leads to the state that is kept for it.
+-- The states that are kept have more than so many objects together.
+pub record HaveObjects (acts : List ℕ → ℕ → Type 0) (Leads : List ℕ → Configuration → Type 0) (states most : ℕ) :
+    Type 0 where
+  pub schedules : HasTried acts states
+  pub kept : List Configuration
+  pub many : length kept ≡ states
+  pub reached : (at : ℕ) (t : Tried) (c : Configuration) → slice_get schedules.tried at ≡ Some t →
+      slice_get kept at ≡ Some c →
+      Leads t.path c
+  pub more : most < total weight_of kept

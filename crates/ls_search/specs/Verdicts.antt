@@ -44,12 +44,13 @@ AreAll file program setup states =
     HasClosed file (length program.threads)
     (configuration_of file program (source_run file program (replicate setup 0))) states
 
--- So many states, to each of which a schedule leads after these steps of the setup but for names of objects, have more
--- than 4,194,304 objects together.
+-- There are so many schedules after these steps of the setup, as above. The states to which they lead, but for names of
+-- objects, have more than 4,194,304 objects together.
 abbrev pub HaveManyObjects : File → Program → ℕ → ℕ → Type 0
 HaveManyObjects file program setup states =
-    HaveObjects (λ path c. IsOther c (configuration_of file program
-    (source_run file program (replicate setup 0 ++ path)))) states most_objects
+    HaveObjects (ActsAfter file program setup)
+    (λ path c. IsOther c (configuration_of file program (source_run file program (replicate setup 0 ++ path))))
+    states most_objects
 
 -- if not all states are kept, there are as many as may be kept, or they have too many objects
 abbrev pub IsCut : File → Program → ℕ → ℕ → ℕ → Type 0

@@ -10,8 +10,6 @@ ghost use Rattle.ls_graph.specs.Found.{AreFound, HasAny, IsGrown};
 ghost use Rattle.ls_graph.specs.Graph.{IsGraph};
 ghost use Rattle.ls_graph.specs.Weights.{total};
 ghost use Rattle.ls_graph.specs.declared.closing.Halt.TheVariants.{Full};
-ghost use Rattle.ls_meaning.specs.Still.{IsActing};
-ghost use Rattle.ls_search_laws.specs.Configuration.{stride};
 ghost use Rattle.ls_search_laws.specs.Noticing.{noticed_after};
 ghost use Rattle.ls_transitions.specs.Seen.{table_of};
 ghost use Rattle.ls_transitions.specs.Tables.{Grows};
@@ -19,11 +17,11 @@ ghost use Rattle.ls_search.specs.declared.space.Kept.{Kept as KeptValue};
 ghost use Rattle.ls_search.specs.Answers.{ClosesAll, IsStuck, root_of};
 ghost use Rattle.ls_search.specs.Closed.{HasClosed};
 ghost use Rattle.ls_search.specs.declared.space.Wanted.TheVariants.{Nothing};
-ghost use Rattle.ls_search.specs.Graphs.{AreNoted, ArePlaced, AreWide, HaveObjects, LeadsTo, most_objects, states_at};
-ghost use Rattle.ls_search.specs.Graphs.{steps_along};
+ghost use Rattle.ls_search.specs.Graphs.{ActsAlong, AreNoted, ArePlaced, AreWide, HaveObjects, LeadsAlong, LeadsTo};
+ghost use Rattle.ls_search.specs.Graphs.{most_objects, states_at, steps_along};
 ghost use Rattle.ls_search.specs.Space.{GoesTo, IsEnd, Rests};
 ghost use Rattle.ls_search.specs.Places.{AreThere, IsThere, configuration_of};
-ghost use Rattle.ls_search.specs.Searched.{HidesNames, IsOther};
+ghost use Rattle.ls_search.specs.Searched.{HidesNames};
 ghost use Rattle.ls_search.specs.Tried.{HasTried};
 
 use crate::noting::Pool;
@@ -286,18 +284,18 @@ pub fn search_from<'a, O: Observer>(
         (fold (noticed_after (O.first ground.now.observer.now) (O.next ground.now.observer.now)
         (plain_file ground.now.file.now) (plain_program ground.now.program.now))
         (root_of (O.stands ground.now.observer.now) (table_of transitions.entry) root) path.items).configuration)) }
-    ensures cut { IfOk result (λ f. f.complete ≡ false → (f.states ≡ ground.now.limit) ⊎
-        HaveObjects (λ path c. IsOther c
-        (fold (noticed_after (O.first ground.now.observer.now) (O.next ground.now.observer.now)
-        (plain_file ground.now.file.now) (plain_program ground.now.program.now))
-        (root_of (O.stands ground.now.observer.now) (table_of transitions.entry) root) path).configuration) f.states
-        most_objects) }
+    ensures cut { IfOk result (λ f. f.complete ≡ false → (f.states ≡ ground.now.limit) ⊎ HaveObjects
+        (ActsAlong (O.first ground.now.observer.now) (O.next ground.now.observer.now)
+        (plain_file ground.now.file.now) (plain_program ground.now.program.now)
+        (root_of (O.stands ground.now.observer.now) (table_of transitions.entry) root))
+        (LeadsAlong (O.first ground.now.observer.now) (O.next ground.now.observer.now)
+        (plain_file ground.now.file.now) (plain_program ground.now.program.now)
+        (root_of (O.stands ground.now.observer.now) (table_of transitions.entry) root)) f.states most_objects) }
     ensures few { IfOk result (λ f. f.states ≤ ground.now.limit) }
-    ensures tried { IfOk result (λ f. HasTried (λ path u. IsActing (stride (plain_file ground.now.file.now)
-        (fold (noticed_after (O.first ground.now.observer.now) (O.next ground.now.observer.now)
-        (plain_file ground.now.file.now) (plain_program ground.now.program.now))
-        (root_of (O.stands ground.now.observer.now) (table_of transitions.entry) root) path).configuration u).did)
-        f.states) }
+    ensures tried { IfOk result (λ f. HasTried
+        (ActsAlong (O.first ground.now.observer.now) (O.next ground.now.observer.now)
+        (plain_file ground.now.file.now) (plain_program ground.now.program.now)
+        (root_of (O.stands ground.now.observer.now) (table_of transitions.entry) root)) f.states) }
 {
     let found = graph_from(ground, transitions, root)?;
     let StateGraph { tables, closing } = found;

@@ -4,15 +4,13 @@ ghost use Rattle.std.specs.Prelude.{◌≡◌, ◌⊎◌, ◌≤◌, IfOk, IfSom
 ghost use Rattle.std.specs.List.{fold};
 ghost use Rattle.ls_checked.specs.Plain.{plain_file};
 ghost use Rattle.ls_checked.specs.PlainProgram.{plain_program};
-ghost use Rattle.ls_meaning.specs.Still.{IsActing};
-ghost use Rattle.ls_search_laws.specs.Configuration.{stride};
 ghost use Rattle.ls_search_laws.specs.Noticing.{noticed_after, noticed_of};
 ghost use Rattle.ls_search_laws.specs.Stepping.{SetsUp};
 ghost use Rattle.ls_transitions.specs.Seen.{table_of};
 ghost use Rattle.ls_search.specs.Answers.{ClosesAll, IsStuck, root_of};
-ghost use Rattle.ls_search.specs.Graphs.{HaveObjects, most_objects};
+ghost use Rattle.ls_search.specs.Graphs.{ActsAlong, HaveObjects, LeadsAlong, most_objects};
 ghost use Rattle.ls_search.specs.Places.{AreThere};
-ghost use Rattle.ls_search.specs.Searched.{HidesNames, IsOther};
+ghost use Rattle.ls_search.specs.Searched.{HidesNames};
 ghost use Rattle.ls_search.specs.Tried.{HasTried};
 ghost use Rattle.ls_search.specs.Verdicts.{AreAll};
 
@@ -110,18 +108,18 @@ pub fn search_run<O: Observer>(
         (plain_program program.now))
         (noticed_of (O.first observer.now) (O.next observer.now) (plain_file file.now) (plain_program program.now)
         (replicate r.setup 0)) path.items).configuration)) }
-    ensures cut { IfOk result (λ r. r.found.complete ≡ false → (r.found.states ≡ limit) ⊎
-        HaveObjects (λ path c. IsOther c
-        (fold (noticed_after (O.first observer.now) (O.next observer.now) (plain_file file.now)
-        (plain_program program.now))
+    ensures cut { IfOk result (λ r. r.found.complete ≡ false → (r.found.states ≡ limit) ⊎ HaveObjects
+        (ActsAlong (O.first observer.now) (O.next observer.now) (plain_file file.now) (plain_program program.now)
         (noticed_of (O.first observer.now) (O.next observer.now) (plain_file file.now) (plain_program program.now)
-        (replicate r.setup 0)) path).configuration) r.found.states most_objects) }
+        (replicate r.setup 0)))
+        (LeadsAlong (O.first observer.now) (O.next observer.now) (plain_file file.now) (plain_program program.now)
+        (noticed_of (O.first observer.now) (O.next observer.now) (plain_file file.now) (plain_program program.now)
+        (replicate r.setup 0))) r.found.states most_objects) }
     ensures few { IfOk result (λ r. r.found.states ≤ limit) }
-    ensures tried { IfOk result (λ r. HasTried (λ path u. IsActing (stride (plain_file file.now)
-        (fold (noticed_after (O.first observer.now) (O.next observer.now) (plain_file file.now)
-        (plain_program program.now))
+    ensures tried { IfOk result (λ r. HasTried
+        (ActsAlong (O.first observer.now) (O.next observer.now) (plain_file file.now) (plain_program program.now)
         (noticed_of (O.first observer.now) (O.next observer.now) (plain_file file.now) (plain_program program.now)
-        (replicate r.setup 0)) path).configuration u).did) r.found.states) }
+        (replicate r.setup 0))) r.found.states) }
 {
     let Prepared {
         steps,

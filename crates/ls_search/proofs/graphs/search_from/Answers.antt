@@ -2,7 +2,6 @@
 use Rattle.std.proofs.Common.{◌≡◌, ◌⊎◌, inl, inr, ◌≤◌, ◌<◌, ℕ, List, length, map, refl, sym, ap}
 use Rattle.std.proofs.Common.{◌∙◌, subst, arith}
 use Rattle.std.specs.Prelude.{slice_get}
-use Rattle.std.specs.List.{fold}
 use Rattle.std.proofs.lemmas.List.{length-map}
 use Rattle.ls_checked.specs.CheckedTree.{File}
 use Rattle.ls_checked.specs.CheckedProgram.{Program}
@@ -12,16 +11,14 @@ use Rattle.ls_graph.specs.Found.{AreFound}
 use Rattle.ls_graph.specs.Graph.{IsWhole}
 use Rattle.ls_graph.specs.Weights.{total}
 use Rattle.ls_graph.proofs.Growing.{of_none, of_some}
-use Rattle.ls_meaning.specs.Still.{IsActing}
-use Rattle.ls_search_laws.specs.Configuration.{stride}
-use Rattle.ls_search_laws.specs.Noticing.{Noticed, noticed_after}
+use Rattle.ls_search_laws.specs.Noticing.{Noticed}
 use Rattle.ls_transitions.specs.Seen.{table_of}
 use Rattle.ls_transitions.specs.Tables.{Table}
 use Rattle.ls_search.specs.declared.space.Kept.{Kept}
 use Rattle.ls_search.specs.Answers.{root_of}
 use Rattle.ls_search.specs.Closed.{HasClosed}
-use Rattle.ls_search.specs.Graphs.{HaveObjects, most_objects, states_at}
-use Rattle.ls_search.specs.Searched.{IsOther, noticed_at}
+use Rattle.ls_search.specs.Graphs.{ActsAlong, HaveObjects, LeadsAlong, most_objects, states_at}
+use Rattle.ls_search.specs.Searched.{noticed_at}
 use Rattle.ls_search.specs.Tried.{HasTried}
 use Rattle.ls_search.proofs.Closed.{has_closed}
 use Rattle.ls_search.proofs.Told.{bad_there, file_of_placed, free, good, have_objects, noted, stuck_there}
@@ -175,15 +172,18 @@ returns-clause-cut g c = λ isnt.
     let looked = c.in_ok-found.found.closing.looked.items in
     let by = c.in_ok-found.found.closing.graph.by.items in
     let graph = c.in_ok-found.ensures.graph in
+    let many = length-map nodes (λ (n : Kept). noticed_at first t (map stands values) n.place) in
     let count : length nodes ≡ c.len-states.result = omega (arith, c.len-states.ensures) in
     let few = c.in_ok-found.ensures.few c.requires.room in
-    let Is : ℕ → Type 0 = λ n. HaveObjects (λ path d. IsOther d
-    (fold (noticed_after first next file program) root path).configuration) n most_objects in
+    let found : AreFound edges (length (states_at first t (map stands values) nodes)) by =
+    subst (λ n. AreFound edges n by) (sym many) c.in_ok-found.ensures.found.found in
+    let Is : ℕ → Type 0 = λ n. HaveObjects (ActsAlong first next file program root)
+    (LeadsAlong first next file program root) n most_objects in
     let by_case : (c.args.ground.now.limit ≤ length nodes) ⊎ (most_objects < total (λ (n : Kept). n.weight) nodes) →
     (c.len-states.result ≡ c.args.ground.now.limit) ⊎ Is c.len-states.result = elim [
       | inl full ↦ inl (omega (arith, full, few, count))
-      | inr more ↦ inr (subst Is count (have_objects stands first next is_bad c.requires.hides file program threads _
-          root t values nodes edges looked graph by most_objects c.in_ok-found.ensures.found.found
+      | inr more ↦ inr (subst Is (many ∙ count) (have_objects stands first next is_bad c.requires.hides file program
+          threads _ root t values nodes edges looked graph by most_objects found c.in_ok-found.ensures.found.once
           (λ at n here. (c.in_ok-found.ensures.placed at n here).weight) more))
     ] in
     by_case (c.in_ok-found.ensures.full (c.if-not-is_closed_or_full.ensures refl isnt))
@@ -208,8 +208,7 @@ returns-clause-tried g c =
     let graph = c.in_ok-found.ensures.graph in
     let many = length-map nodes (λ (n : Kept). noticed_at first t (map stands values) n.place) in
     let count : length nodes ≡ c.len-states.result = omega (arith, c.len-states.ensures) in
-    subst (HasTried (λ path u. IsActing (stride file
-    (fold (noticed_after first next file program) root path).configuration u).did)) (many ∙ count)
+    subst (HasTried (ActsAlong first next file program root)) (many ∙ count)
     (has_tried first next file program c.requires.hides root (states_at first t (map stands values) nodes) edges by
     graph.led graph.begins (subst (λ n. AreFound edges n by) (sym many) c.in_ok-found.ensures.found.found)
     c.in_ok-found.ensures.found.once)

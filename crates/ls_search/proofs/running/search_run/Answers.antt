@@ -8,13 +8,10 @@ use Rattle.ls_checked.specs.CheckedTree.{File}
 use Rattle.ls_checked.specs.CheckedProgram.{Program}
 use Rattle.ls_checked.specs.Plain.{plain_file}
 use Rattle.ls_checked.specs.PlainProgram.{plain_program, plain_thread}
-use Rattle.ls_meaning.specs.Still.{IsActing}
-use Rattle.ls_search_laws.specs.Configuration.{stride}
 use Rattle.ls_search_laws.specs.Noticing.{Noticed, noticed_after, noticed_of}
 use Rattle.ls_search.specs.Answers.{ClosesAll, IsStuck}
 use Rattle.ls_search.specs.Closed.{HasClosed}
-use Rattle.ls_search.specs.Graphs.{HaveObjects, most_objects}
-use Rattle.ls_search.specs.Searched.{IsOther}
+use Rattle.ls_search.specs.Graphs.{ActsAlong, HaveObjects, LeadsAlong, most_objects}
 use Rattle.ls_search.specs.Tried.{HasTried}
 use Rattle.ls_search.proofs.running.search_run.Goals as goal
 
@@ -75,8 +72,8 @@ returns-clause-tried g c =
     let program : Program = plain_program c.args.program.now in
     let first = g.O.Observer.first c.args.observer.now in
     let next = g.O.Observer.next c.args.observer.now in
-    subst (λ (r : Noticed g.O.Observer.State). HasTried (λ path u. IsActing (stride file
-    (fold (noticed_after first next file program) r path).configuration u).did) c.in_ok-found.found.states)
+    let states = c.in_ok-found.found.states in
+    subst (λ (r : Noticed g.O.Observer.State). HasTried (ActsAlong first next file program r) states)
     c.in_ok-steps.ensures.root c.in_ok-found.ensures.tried
 
 pub returns-clause-cut : goal.returns-clause-cut
@@ -87,5 +84,5 @@ returns-clause-cut g c =
     let next = g.O.Observer.next c.args.observer.now in
     let found = c.in_ok-found.found in
     subst (λ (r : Noticed g.O.Observer.State). found.complete ≡ false → (found.states ≡ c.args.limit) ⊎
-    HaveObjects (λ path d. IsOther d (fold (noticed_after first next file program) r path).configuration) found.states
+    HaveObjects (ActsAlong first next file program r) (LeadsAlong first next file program r) found.states
     most_objects) c.in_ok-steps.ensures.root c.in_ok-found.ensures.cut

@@ -7,18 +7,15 @@ use Rattle.ls_checked.specs.CheckedProgram.{Program}
 use Rattle.ls_checked.specs.Plain.{plain_file}
 use Rattle.ls_checked.specs.PlainProgram.{plain_program}
 use Rattle.ls_meaning.specs.Runs.{source_history}
-use Rattle.ls_meaning.specs.Still.{IsActing}
-use Rattle.ls_search_laws.specs.Configuration.{stride}
 use Rattle.ls_search_laws.specs.Noticing.{noticed_after, noticed_of}
 use Rattle.ls_search.specs.Answers.{IsStuck}
 use Rattle.ls_search.proofs.Telling.{some_map}
-use Rattle.ls_search.proofs.Trying.{tried_if}
-use Rattle.ls_search.specs.Graphs.{HaveObjects, most_objects}
-use Rattle.ls_search.specs.Searched.{IsOther}
+use Rattle.ls_search.proofs.Trying.{objects_if, tried_if}
+use Rattle.ls_search.specs.Graphs.{ActsAlong, HaveObjects, LeadsAlong, most_objects}
 use Rattle.ls_search.specs.Nameless.{nameless_bad, nameless_next}
 use Rattle.ls_search.specs.Verdicts.{ActsAfter, IsCut, LeavesStuck}
 use Rattle.ls_search.proofs.Judging.{acts_of, all_good, bad_of, nameless_hides, never_stuck}
-use Rattle.ls_search.proofs.Judging.{objects_if, other_of, stuck_of}
+use Rattle.ls_search.proofs.Judging.{other_of, stuck_of}
 use Rattle.ls_search.proofs.verdict.verdict.Goals as goal
 
 pub search_run-requires-clause-hides : goal.search_run-requires-clause-hides
@@ -87,8 +84,8 @@ returns-clause-reached g c =
     let program : Program = plain_program c.args.program.now in
     let k = c.in_ok-told.told.setup in
     tried_if
-    (λ path u. IsActing (stride file (fold (noticed_after (Some first) (nameless_next next) file program)
-    (noticed_of (Some first) (nameless_next next) file program (replicate k 0)) path).configuration u).did)
+    (ActsAlong (Some first) (nameless_next next) file program
+    (noticed_of (Some first) (nameless_next next) file program (replicate k 0)))
     (ActsAfter file program k) c.in_ok-told.told.found.states
     (λ path u acts. acts_of (Some first) (nameless_next next) file program k path u acts) c.in_ok-told.ensures.tried
 
@@ -100,11 +97,14 @@ returns-clause-cut g c = λ isnt.
     let program : Program = plain_program c.args.program.now in
     let told = c.in_ok-told.told in
     let by_case : (told.found.states ≡ c.args.limit) ⊎
-    HaveObjects (λ path d. IsOther d (fold (noticed_after (Some first) (nameless_next next) file program)
-    (noticed_of (Some first) (nameless_next next) file program (replicate told.setup 0)) path).configuration)
+    HaveObjects (ActsAlong (Some first) (nameless_next next) file program
+    (noticed_of (Some first) (nameless_next next) file program (replicate told.setup 0)))
+    (LeadsAlong (Some first) (nameless_next next) file program
+    (noticed_of (Some first) (nameless_next next) file program (replicate told.setup 0)))
     told.found.states most_objects → IsCut file program c.args.limit told.setup told.found.states = elim [
       | inl full ↦ inl full
-      | inr more ↦ inr (objects_if _ _ told.found.states most_objects
+      | inr more ↦ inr (objects_if _ _ _ _ told.found.states most_objects
+          (λ path u acts. acts_of (Some first) (nameless_next next) file program told.setup path u acts)
           (λ path d. other_of (Some first) (nameless_next next) file program told.setup path d) more)
     ] in
     by_case (c.in_ok-told.ensures.cut isnt)
