@@ -94,16 +94,17 @@ function takeSchedule(text) {
 // From which event on no serial history explains the walk, if that is known: its call is framed in the lanes.
 let hopeless = null;
 const isHopeless = () => hopeless !== null && hopeless.step <= done();
+const right = given.reference === undefined ? "calls" : "calls of the reference";
 const ordered = order => order.length > 0 ? order.join(" ") : "that without any call";
 
 // What is said of the answers at an end, or of those so far.
 function saidOfAnswers(verdict, order) {
   if (verdict === "linearizable")
-    return "The history is linearizable: calls that run one at a time answer so too, in the order " + ordered(order)
-      + ".";
+    return "The history is linearizable: " + right + " that run one at a time answer so too, in the order "
+      + ordered(order) + ".";
   if (verdict === "") return "Whether the history is linearizable isn't known: some serial histories weren't found.";
-  return "From line " + hopeless.line + " of the history on, `" + hopeless.event + "`, no order of the calls explains "
-    + "their answers. What came before has the order " + ordered(hopeless.order) + ".";
+  return "From line " + hopeless.line + " of the history on, `" + hopeless.event + "`, no order of the " + right
+    + " explains their answers. What came before has the order " + ordered(hopeless.order) + ".";
 }
 // What an end says, as [a short word for it, sentences, whether it is bad].
 function saidOf(end) {

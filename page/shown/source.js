@@ -110,6 +110,10 @@ const codes = {
   program: new Code("program", given.program, true),
   schedule: null,
 };
+if (given.reference !== undefined) {
+  byId("by-reference").hidden = false;
+  codes.reference = new Code("reference", given.reference, true);
+}
 let scheduleText = null;
 whenRead.push(() => {
   if (codes.schedule && codes.schedule.text === data.schedule) return;

@@ -30,6 +30,7 @@ function print_broken(line,  at, indent) {
 /[Ii]nput is a class text/ { files = "my.java my.menu" }
 /program and targets/ { files = "my.java my.program my.targets" }
 /input is tallies/ { files = "my.tally more.tally" }
+/^ +--spec / { spec = 1 }
 /^Usage: listset [a-z]/ { command = $3; $0 = $0 " [FILE]..." }
 /^Usage: listset <COMMAND>/ { $0 = $0 " [OPTIONS] [FILE]..." }
 /^  (printf|listset) / { gsub(/ \| /, " |\n    ") }
@@ -51,6 +52,11 @@ END {
             print ""
             print "A line of the menu can be a word:"
             print "  listset find --menu \047lock(#); unlock(#)\047 my.java"
+        }
+        if (spec) {
+            print ""
+            print "The other class text can be a word:"
+            print "  listset " command " --spec Reference.java " files
         }
         if (command == "page") {
             print ""

@@ -32,10 +32,10 @@ not_both b e f = apart (sym e ∙ f)
 pub calm_good : NoWaitNoneForEver → LooplessTurnExcused → CalmIsGood
 calm_good wait ends sought file program loops set x = record {
   ends = record {
-    good = record { linearizable = x.linearizable; waits = λ e. wait file program x.waits };
+    good = record { linearizable = x.linearizable; waits = λ e. wait file program file program x.waits };
     legal = λ e. absurd (not_both sought.set set e);
   };
-  turns = λ e. ends file program (loops e);
+  turns = λ e. ends file program file program (loops e);
 }
 
 -- two programs of one text have one file

@@ -1,5 +1,5 @@
 -- Classes whose calls run alone, under one lock.
-use Rattle.std.specs.Prelude.{◌≡◌, ◌++◌, ℕ, true, false, List, [], ◌∷◌, codes}
+use Rattle.std.specs.Prelude.{◌≡◌, ◌++◌, ℕ, true, false, List, [], ◌∷◌, None, codes}
 use Rattle.ls_checked.specs.CheckedTree.{File}
 use Rattle.ls_checked.specs.CheckedProgram.{Program}
 use Rattle.ls_explore_reports.specs.ImageNames.{names_in}
@@ -71,7 +71,7 @@ pub record RunsAlone (sought : Sought) (classes making : Text) (calls : List Tex
   pub some : IsSome guard
   pub kept : OfAnySize (IsKeptBy guard) classes class methods
   pub calm : OfAnySize IsCalm classes class methods
-  pub good : OfAnySize (IsGoodFor sought) classes class methods
+  pub good : OfAnySize (IsGoodFor sought None) classes class methods
   pub first : Text
   pub image : Image
   pub compiles : Compiles classes first image

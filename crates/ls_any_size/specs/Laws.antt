@@ -1,5 +1,5 @@
 -- Calm programs are good for what is looked for, but for sets.
-use Rattle.std.specs.Prelude.{◌≡◌, true, false}
+use Rattle.std.specs.Prelude.{◌≡◌, None, true, false}
 use Rattle.ls_checked.specs.CheckedTree.{File}
 use Rattle.ls_checked.specs.CheckedProgram.{Program}
 use Rattle.ls_find.specs.Sought.{IsGoodFor}
@@ -11,4 +11,4 @@ use Rattle.ls_loopless.specs.Loops.{HasNoLoops}
 abbrev pub CalmIsGood : Type 0
 CalmIsGood =
     (sought : Sought) (file : File) (program : Program) → (sought.turning ≡ true → HasNoLoops file) →
-    sought.set ≡ false → IsCalm file program → IsGoodFor sought file program
+    sought.set ≡ false → IsCalm file program → IsGoodFor sought None file program

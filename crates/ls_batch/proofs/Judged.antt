@@ -3,12 +3,11 @@ use Rattle.std.proofs.Common.{◌≡◌, ◌∙◌, ◌+◌, ◌<◌, ◌≤◌,
 use Rattle.std.proofs.Common.{append_assoc, append-nil, ap, sym, subst, refl, arith}
 use Rattle.std.proofs.lemmas.List.{drop_all, drop_more, length-map}
 use Rattle.ls_events.specs.declared.event.Event.{Event as RunEvent}
-use Rattle.ls_checked.specs.CheckedTree.{File}
 use Rattle.ls_checked.specs.CheckedProgram.{Program}
 use Rattle.ls_report.specs.Events.{Text}
 use Rattle.ls_batch.specs.Tallies.{Row}
 use Rattle.ls_verdicts.specs.Verdicts.{IsHistoryOf}
-use Rattle.ls_batch.specs.Judged.{AreHistoriesOf, AreJudgements, IsJudged, IsJudgement, judged_entry_text}
+use Rattle.ls_batch.specs.Judged.{AreHistoriesOf, AreSaid, IsSaid, judged_entry_text}
 use Rattle.ls_batch.specs.Judged.{judged_text}
 use Rattle.ls_batch.specs.declared.judging.Judgement.{Judgement}
 
@@ -19,19 +18,19 @@ got f [] k d e lt = absurd (omega arith)
 got f (x ∷ xs) zero d e lt = refl
 got f (x ∷ xs) (suc k) d e lt = got f xs k d e (omega arith)
 
-module _ (file : File) (p : Program) (rows : List Row) where
+module _ (May : List RunEvent → Judgement → Type 0) (p : Program) (rows : List Row) where
   -- with whatever is said of the rest, the text so far is begun right
   abbrev pub Begins : List Row → Text → Type 0
-  Begins rest out = (said : List Judgement) → AreJudgements file p rest said →
-      IsJudged file p rows (out ++ judged_text p rest said)
+  Begins rest out = (said : List Judgement) → AreSaid May rest said →
+      IsSaid May p rows (out ++ judged_text p rest said)
 
   one_more : (r : Row) (rest : List Row) (s : Judgement) (out new : Text) →
       Begins (r ∷ rest) out →
-      IsJudgement file p r.history s →
+      May r.history s →
       new ≡ out ++ judged_entry_text p r s →
       Begins rest new
   one_more r rest s out new begins is e said are =
-      subst (IsJudged file p rows)
+      subst (IsSaid May p rows)
       (sym (append_assoc out (judged_entry_text p r s) (judged_text p rest said)) ∙
       ap (λ t. t ++ judged_text p rest said) (sym e))
       (begins (s ∷ said) (is, are))
@@ -65,15 +64,15 @@ module _ (file : File) (p : Program) (rows : List Row) where
         x ≡ get_or items i x →
         run ≡ (row x).history →
         Begins (map row (drop i items)) out
-        → IsJudgement file p run s → new ≡ out ++ judged_entry_text p (row x) s →
+        → May run s → new ≡ out ++ judged_entry_text p (row x) s →
         Begins (map row (drop (i + 1) items)) new
     row_told x run s out new lt is same begins said e =
         one_more (row x) (map row (drop (i + 1) items)) s out new
         (subst (λ rest. Begins (map row rest) out) (drop_more items i x lt ∙ ap (λ y. y ∷ drop (i + 1) items) (sym is))
         begins)
-        (subst (λ h. IsJudgement file p h s) same said) e
+        (subst (λ h. May h s) same said) e
 
-    pub all_told : (out : Text) → length items ≤ i → Begins (map row (drop i items)) out → IsJudged file p rows out
+    pub all_told : (out : Text) → length items ≤ i → Begins (map row (drop i items)) out → IsSaid May p rows out
     all_told out le begins =
         let at_end : Begins [] out = subst (λ rest. Begins (map row rest) out) (drop_all i items le) begins in
-        subst (IsJudged file p rows) (append-nil out) (at_end [] tt)
+        subst (IsSaid May p rows) (append-nil out) (at_end [] tt)

@@ -1,5 +1,5 @@
 -- What a map that is looked up by keys has after an entry is put or taken out.
-use Rattle.std.proofs.Common.{◌≡◌, ◌∙◌, List, refl, ap, sym, Bool, true, false, cond, true≢false, Ordering, Option}
+use Rattle.std.proofs.Common.{◌≡◌, ◌∙◌, List, refl, ap, sym, Bool, true, false, cond, Ordering, Option}
 use Rattle.std.proofs.Common.{Some, None}
 use Rattle.std.specs.BTreeMap.{BTreeMap, UpdatesBy, get_by, is_at}
 use Rattle.std.specs.Map.{KeepsOthers, IsKeyTest, AreApart, lookup}

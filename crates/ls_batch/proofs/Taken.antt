@@ -1,8 +1,8 @@
 -- One entry more, and entries in order.
 use Rattle.std.proofs.Common.{◌≡◌, ◌∙◌, ℕ, ◌+◌, ◌<◌, ◌≤◌, zero, suc, Bool, true, false, true≢false, cond, List, [], ◌∷◌}
-use Rattle.std.proofs.Common.{◌++◌, length, get_or, Option, Some, None, Ordering, Less, refl, sym, ap, ap₂, arith, inl}
+use Rattle.std.proofs.Common.{◌++◌, length, get_or, Option, Some, None, Ordering, Less, refl, sym, ap, arith, inl}
 use Rattle.std.proofs.Common.{inr}
-use Rattle.std.specs.Prelude.{slice_get, All, sum_by}
+use Rattle.std.specs.Prelude.{slice_get, All}
 use Rattle.std.specs.Cmp.{nat_cmp_is}
 use Rattle.std.specs.Ordering.{is_lt, nat_cmp, ordering_then}
 use Rattle.std.proofs.lemmas.Bool.{cases_lt}

@@ -1,20 +1,19 @@
 -- The entries of a tally tell of its histories.
 use Rattle.std.proofs.Common.{◌≡◌, ◌≢◌, ◌∙◌, ℕ, ◌+◌, ◌<◌, ◌≤◌, ◌^◌, ◌-◌, zero, suc, min, Bool, true, false, cond, List}
-use Rattle.std.proofs.Common.{[], ◌∷◌, ◌++◌, length, map, get_or, Option, Some, None, refl, sym, ap, subst, arith}
-use Rattle.std.proofs.Common.{⊎_elim, ◌⊎◌, inl, inr}
-use Rattle.std.specs.Prelude.{slice_get, All, sum_by, option_map, IsPermutation}
+use Rattle.std.proofs.Common.{[], ◌∷◌, length, map, Option, Some, None, refl, sym, ap, subst, arith}
+use Rattle.std.proofs.Common.{◌⊎◌, inl, inr}
+use Rattle.std.specs.Prelude.{slice_get, All, sum_by, IsPermutation}
 use Rattle.std.proofs.lemmas.List.Sums.{sum_by-cons}
 use Rattle.std.proofs.lemmas.List.Sorted.{All-permutation, sum_by-IsPermutation}
 use Rattle.std.proofs.lemmas.List.Elements.{All-head, All-tail}
 use Rattle.std.proofs.lemmas.Bool.{cases_lt}
 use Rattle.ls_batch.specs.declared.counting.Count.{Count}
-use Rattle.ls_batch.specs.declared.counting.Counts.{Counts}
 use Rattle.ls_batch.specs.Numbers.{Key, key_of, plain_key}
 use Rattle.ls_batch.specs.declared.tally.Entry.{Entry}
 use Rattle.ls_batch.specs.Keys.{key_event}
 use Rattle.ls_batch.specs.Rows.{entry_row}
-use Rattle.ls_batch.specs.Tallies.{Has, History, IsTally, Row, row, Stands, Nowhere, Here, Elsewhere, Tells}
-use Rattle.ls_batch.specs.Counted.{are_same, AreCounts, both, counted, one_of, run, runs_from}
+use Rattle.ls_batch.specs.Tallies.{Has, History, IsTally, Row, row, Stands, Here, Elsewhere, Tells}
+use Rattle.ls_batch.specs.Counted.{are_same, both, counted, one_of, runs_from}
 use Rattle.ls_batch.proofs.Both.{count_of, counted_most, number}
 use Rattle.ls_batch.proofs.Exact.{are_apart, are_itself, history_back, same_keys}
 use Rattle.ls_batch.proofs.Standing.{stands_nowhere}

@@ -10,6 +10,7 @@ use Rattle.ls_report.specs.Printing.{run_text}
 use Rattle.ls_batch.specs.Tallies.{Row}
 use Rattle.ls_serial_search.specs.Told.{IsMeant, usual}
 use Rattle.ls_verdicts.specs.Verdicts.{IsHistoryOf, IsVerdict}
+use Rattle.ls_verdicts.specs.declared.verdicts.Verdict.TheVariants as verdicts
 use Rattle.ls_batch.specs.Words.{beside_text, first_text}
 use Rattle.ls_batch.specs.declared.judging.Judgement.{Judgement}
 
@@ -23,8 +24,21 @@ pub record IsJudgement (file : File) (p : Program) (run : List Event) (said : Ju
   pub verdict : IsVerdict p run said.verdict
   pub linear : IsMeant file p usual run said.linearity
 
+-- The same by a reference, a program of a file of its own: set calls aren't judged apart, and the serial runs are those
+-- of the reference.
+pub record IsJudgementLike (sfile : File) (sprogram : Program) (run : List Event) (said : Judgement) : Type 0 where
+  pub verdict : said.verdict ≡ verdicts.NotOneSet
+  pub linear : IsMeant sfile sprogram usual run said.linearity
+
+-- each row has one that may be said of its history
+abbrev pub AreSaid : (List Event → Judgement → Type 0) → List Row → List Judgement → Type 0
+AreSaid May rows said = AllZip (λ (r : Row) s. May r.history s) rows said
+
 abbrev pub AreJudgements : File → Program → List Row → List Judgement → Type 0
-AreJudgements file p rows said = AllZip (λ (r : Row) s. IsJudgement file p r.history s) rows said
+AreJudgements file p rows said = AreSaid (IsJudgement file p) rows said
+
+abbrev pub AreJudgementsLike : File → Program → List Row → List Judgement → Type 0
+AreJudgementsLike sfile sprogram rows said = AreSaid (IsJudgementLike sfile sprogram) rows said
 
 -- as `seed 7 count 3 illegal, not linearizable`, with its line feed
 abbrev pub judged_head_text : Row → Judgement → Text
@@ -41,8 +55,15 @@ judged_text p [] said = []
 judged_text p (r ∷ rows) [] = []
 judged_text p (r ∷ rows) (s ∷ said) = judged_entry_text p r s ++ judged_text p rows said
 
--- the text of the rows with what there is to say of each
-pub record IsJudged (file : File) (p : Program) (rows : List Row) (text : Text) : Type 0 where
+-- the text of the rows with what may be said of each
+pub record IsSaid (May : List Event → Judgement → Type 0) (p : Program) (rows : List Row) (text : Text) : Type 0 where
   pub said : List Judgement
-  pub are : AreJudgements file p rows said
+  pub are : AreSaid May rows said
   pub text_is : text ≡ judged_text p rows said
+
+abbrev pub IsJudged : File → Program → List Row → Text → Type 0
+IsJudged file p rows text = IsSaid (IsJudgement file p) p rows text
+
+-- the same by a reference
+abbrev pub IsJudgedLike : File → Program → Program → List Row → Text → Type 0
+IsJudgedLike sfile sprogram p rows text = IsSaid (IsJudgementLike sfile sprogram) p rows text

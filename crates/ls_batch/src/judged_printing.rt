@@ -4,15 +4,18 @@ ghost use Rattle.std.specs.Prelude.{◌≡◌, ◌++◌, IfOk, OnOk, string_byte
 ghost use Rattle.ls_checked.specs.Plain.{plain_file};
 ghost use Rattle.ls_checked.specs.PlainProgram.{plain_program};
 ghost use Rattle.ls_batch.specs.Rows.{entry_row};
-ghost use Rattle.ls_batch.specs.Judged.{AreHistoriesOf, IsJudged, judged_entry_text, judged_head_text};
+ghost use Rattle.ls_batch.specs.Judged.{AreHistoriesOf, IsJudged, IsJudgedLike, judged_entry_text};
+ghost use Rattle.ls_batch.specs.Judged.{judged_head_text};
+ghost use Rattle.ls_specification.specs.Specification.{spec_file, spec_program};
 
-use crate::judging::{Judgement, beside_word, first_word, judgement_on};
+use crate::judging::{Judgement, beside_word, first_word, judgement_like, judgement_on};
 use crate::{Entry, Tally};
 use ls_checked::program::Program;
 use ls_checked::tree::File;
 use ls_events::event::Event;
 use ls_report::print_history;
 use ls_serial_search::telling::{Bounds, serial_runs};
+use ls_specification::Specification;
 use std::alloc::{AllocError, Global};
 use std::fmt::Write;
 
@@ -63,6 +66,31 @@ pub fn print_judged(
         let history = entry.history(alloc)?;
         let said = judgement_on(alloc, &search, history.as_slice(), program)?;
         push_judged(alloc, &mut out, entry, history.as_slice(), said, program)?;
+    }
+    Ok(out)
+}
+
+/// The same with what there is to say of each history by a specification: whether it is linearizable to its serial
+/// runs.
+pub fn print_judged_like(
+    alloc: Global,
+    tally: &Tally,
+    specification: Specification<'_>,
+    program: &Program,
+) -> Result<String, AllocError>
+    ensures { IfOk result (λ text. IsJudgedLike (spec_file specification.entry) (spec_program specification.entry)
+        (plain_program program.now) tally.now (string_bytes text)) }
+{
+    let Specification {
+        file,
+        program: serial,
+    } = specification;
+    let search = serial_runs(alloc, file, serial, &Bounds::usual())?;
+    let mut out = String::new(alloc);
+    for row in tally.entries() {
+        let history = row.history(alloc)?;
+        let said = judgement_like(&search, history.as_slice());
+        push_judged(alloc, &mut out, row, history.as_slice(), said, program)?;
     }
     Ok(out)
 }

@@ -1,11 +1,12 @@
 // What there is to say of a history.
 
 ghost use Rattle.std.specs.Prelude.{◌≡◌, IfOk};
+ghost use Rattle.ls_checked.specs.CheckedProgram.{Program as ProgramValue};
 ghost use Rattle.ls_checked.specs.CheckedTree.{File as FileValue};
 ghost use Rattle.ls_checked.specs.PlainProgram.{plain_program};
 ghost use Rattle.ls_serial_search.specs.Told.{Tells, usual};
 ghost use Rattle.ls_verdicts.specs.Verdicts.{IsHistoryOf};
-ghost use Rattle.ls_batch.specs.Judged.{IsJudgement};
+ghost use Rattle.ls_batch.specs.Judged.{IsJudgement, IsJudgementLike};
 ghost use Rattle.ls_batch.specs.Words.{beside_set, beside_text, first_text, linearity_text};
 
 use ls_checked::program::Program;
@@ -45,6 +46,17 @@ pub(crate) fn judgement_on(
     let verdict = verdict_on(alloc, history, program)?;
     let linearity = linearity_on(search, history);
     Ok(Judgement { verdict, linearity })
+}
+
+/// What there is to say of a history by a reference, by its serial runs.
+pub(crate) fn judgement_like(search: &SerialSearch, history: &[Event]) -> Judgement
+    ensures { (file : FileValue) (program : ProgramValue) → Tells file program usual search.now →
+        IsJudgementLike file program history.now result }
+{
+    Judgement {
+        verdict: Verdict::NotOneSet,
+        linearity: linearity_on(search, history),
+    }
 }
 
 /// Whether a history is linearizable.

@@ -22,7 +22,7 @@ mod tally;
 pub use batching::batch;
 pub use counting::{Counts, joined};
 pub use fault::BatchFault;
-pub use judged_printing::print_judged;
+pub use judged_printing::{print_judged, print_judged_like};
 pub use judging::Judgement;
 pub use printing::print_tally;
 pub use samples::{Sampler, sample};

@@ -6,3 +6,4 @@ pub mod Meant
 pub mod Limits
 pub mod Written
 pub mod Entries
+pub mod Placing

@@ -27,7 +27,7 @@ pub enum ClassFault {
     /// Each method is private, takes a reference or answers one; or the menu that is written by hand has no entry.
     #[error("no method can be called")]
     NoCalls,
-    /// No integers or more than 9; fewer than 2 threads or more than 4, no calls of a thread or more than 4, or more
+    /// No integers or more than 9; no threads or more than 4, no calls of a thread or more than 4, or more
     /// than 8 of the setup.
     #[error("bad bounds of programs")]
     BadBounds,

@@ -10,6 +10,7 @@ mod entry_fault;
 mod fault;
 mod menu_fault;
 mod menus;
+mod placing;
 mod programs;
 mod written;
 
@@ -21,5 +22,6 @@ pub use entry_fault::EntryFault;
 pub use fault::ClassFault;
 pub use menu_fault::MenuFault;
 pub use menus::{calls_of, makings_of};
+pub use placing::place_of_call;
 pub use programs::{ClassPrograms, programs_of};
 pub use written::{Entry, entries_of};

@@ -37,6 +37,10 @@ number_rule required name = record (new_rule name) {
 abbrev pub flag_rule : Text → Rule
 flag_rule name = record (new_rule name) { long = Some name; action = Some SetTrue }
 
+-- the option that a reference is given, which is the last part
+abbrev pub spec_rule : Rule
+spec_rule = flag_rule (codes "spec")
+
 -- the option whose value is one of the parser's
 abbrev pub side_rule : ValueParser → Rule
 side_rule p = record (new_rule (codes "to")) {
@@ -69,15 +73,20 @@ trace_line =
     (number_rule false (codes "to")))
     (flag_rule (codes "fold"))
 
+abbrev pub order_line : App
+order_line = with_rule (with_explain (codes "order")) spec_rule
+
 abbrev pub page_line : App
 page_line =
     with_rule
     (with_rule
     (with_rule
+    (with_rule
     (with_rule (with_explain (codes "page")) (number_rule false (codes "from")))
     (number_rule false (codes "to")))
     (flag_rule (codes "choose")))
-    (number_rule false (codes "states"))
+    (number_rule false (codes "states")))
+    spec_rule
 
 abbrev pub state_line : App
 state_line =
@@ -106,12 +115,14 @@ batch_line =
     (with_rule
     (with_rule
     (with_rule
+    (with_rule
     (with_rule (with_explain (codes "batch")) (number_rule true (codes "seed")))
     (number_rule true (codes "count")))
     (number_rule true (codes "steps")))
     switch_rule)
     cells_rule)
-    (flag_rule (codes "judge"))
+    (flag_rule (codes "judge")))
+    spec_rule
 
 abbrev pub sample_line : App
 sample_line =
@@ -131,13 +142,15 @@ explore_line =
     (with_rule
     (with_rule
     (with_rule
+    (with_rule
     (with_rule (with_explain (codes "explore")) cells_rule)
     (number_rule false (codes "states")))
     (flag_rule (codes "illegal")))
     (flag_rule (codes "first")))
     (flag_rule (codes "order")))
     (flag_rule (codes "progress")))
-    (flag_rule (codes "verdict"))
+    (flag_rule (codes "verdict")))
+    spec_rule
 
 abbrev pub bounds_line : App
 bounds_line =
@@ -169,11 +182,13 @@ find_line =
     (with_rule
     (with_rule
     (with_rule
+    (with_rule
     (with_rule numbers_line (flag_rule (codes "no-waiting")))
     (flag_rule (codes "no-turning")))
     (flag_rule (codes "set")))
     (flag_rule (codes "check")))
-    (flag_rule (codes "progress"))
+    (flag_rule (codes "progress")))
+    spec_rule
 
 abbrev pub merge_line : App
 merge_line = with_rule (with_explain (codes "merge")) (number_rule false (codes "count"))
@@ -201,7 +216,7 @@ line p =
     (with_subcommand
     (with_subcommand
     (with_subcommand top_line (with_explain (codes "check")).top)
-    (with_explain (codes "order")).top)
+    order_line.top)
     (with_explain (codes "compile")).top)
     replay_line.top)
     (with_explain (codes "source")).top)
@@ -337,8 +352,12 @@ asked name rows =
 
 -- with what all commands are asked
 abbrev pub asked_by : Option (Text × List Row) → CommandLine
-asked_by None = record { request = requests.Check; explain = false }
-asked_by (Some p) = record { request = asked p.0 p.1; explain = flag_of (codes "explain") p.1 }
+asked_by None = record { request = requests.Check; explain = false; spec = false }
+asked_by (Some p) = record {
+  request = asked p.0 p.1;
+  explain = flag_of (codes "explain") p.1;
+  spec = flag_of (codes "spec") p.1;
+}
 
 -- the second where the first is empty
 abbrev pub if_empty : {X Y : Type 0} → List X → Y → Option Y

@@ -4,8 +4,8 @@ ghost use Rattle.std.specs.Prelude.{◌≡◌, IfOk, codes, false};
 ghost use Rattle.clap.specs.Words.{App, Rule, app_of, rule_of, with_rule, with_subcommand};
 ghost use Rattle.clap.specs.declared.builder.command.Command.TheViews.{out-Command};
 ghost use Rattle.ls_command_line.specs.Words.{NamesSides, batch_line, flag_rule, line, live_line};
-ghost use Rattle.ls_command_line.specs.Words.{merge_line, number_rule, page_line, replay_line, sample_line};
-ghost use Rattle.ls_command_line.specs.Words.{side_rule, state_line, switch_rule, top_line, trace_line};
+ghost use Rattle.ls_command_line.specs.Words.{merge_line, number_rule, order_line, page_line, replay_line, sample_line};
+ghost use Rattle.ls_command_line.specs.Words.{side_rule, spec_rule, state_line, switch_rule, top_line, trace_line};
 ghost use Rattle.ls_command_line.specs.Words.{translate_line, u64_parser, with_explain};
 
 use crate::searches::{explore_command, find_command};
@@ -58,6 +58,20 @@ pub(crate) fn with_option<'a>(
     ensures local { IfOk result (λ c. (out-Command c).has_globals ≡ false) }
 {
     command?.arg(option)
+}
+
+/// The command with the option that a reference is given, where there is a command.
+pub(crate) fn with_reference<'a>(
+    alloc: Global,
+    command: Result<Command<'a>, AllocError>,
+) -> Result<Command<'a>, AllocError>
+    requires { IfOk command (λ c. (out-Command c).has_globals ≡ false) }
+    ensures shape { (a : App) → IfOk command.entry (λ c. app_of c ≡ a) →
+        IfOk result (λ c. app_of c ≡ with_rule a spec_rule) }
+    ensures local { IfOk result (λ c. (out-Command c).has_globals ≡ false) }
+{
+    let help = "judges by another class text, the last part, whose calls run one at a time";
+    with_option(command, flag_option(alloc, "spec", help))
 }
 
 /// The program with one more command, where there are both.
@@ -231,7 +245,8 @@ fn batch_command<'a>(alloc: Global) -> Result<Command<'a>, AllocError>
         "judge",
         "says of each history whether it is linearizable, or has a legal order of set calls",
     );
-    with_option(command, judge)
+    let command = with_option(command, judge);
+    with_reference(alloc, command)
 }
 
 fn sample_command<'a>(alloc: Global) -> Result<Command<'a>, AllocError>
@@ -286,16 +301,17 @@ fn check_command<'a>(alloc: Global) -> Result<Command<'a>, AllocError>
 }
 
 fn order_command<'a>(alloc: Global) -> Result<Command<'a>, AllocError>
-    ensures shape { IfOk result (λ c. app_of c ≡ with_explain (codes "order")) }
+    ensures shape { IfOk result (λ c. app_of c ≡ order_line) }
     ensures local { IfOk result (λ c. (out-Command c).has_globals ≡ false) }
 {
-    plain_command(
+    let command = plain_command(
         alloc,
         "order",
         "Finds an order of calls that explains a history, or the event from which on there is none",
         "Standard input has a history, or class text, thread program and history, with a line %% between them:\n  \
          printf 'A.1 call s.add(1)\\nA.1 return true\\n' | listset order",
-    )
+    );
+    with_reference(alloc, command)
 }
 
 fn compile_command<'a>(alloc: Global) -> Result<Command<'a>, AllocError>
@@ -394,7 +410,8 @@ fn page_command<'a>(alloc: Global) -> Result<Command<'a>, AllocError>
         false,
         "how many states are kept at the most where one chooses, 1 to 200000 [default: 20000]",
     );
-    with_option(command, states)
+    let command = with_option(command, states);
+    with_reference(alloc, command)
 }
 
 fn state_command<'a>(alloc: Global) -> Result<Command<'a>, AllocError>

@@ -6,7 +6,7 @@ ghost use Rattle.clap.specs.declared.builder.command.Command.TheViews.{out-Comma
 ghost use Rattle.ls_command_line.specs.Words.{bounds_line, cells_rule, explore_line, find_line, number_rule};
 ghost use Rattle.ls_command_line.specs.Words.{numbers_line, with_explain};
 
-use crate::line::{flag_option, number_option, plain_command, with_option};
+use crate::line::{flag_option, number_option, plain_command, with_option, with_reference};
 use clap::{Arg, Command};
 use std::alloc::{AllocError, Global};
 
@@ -80,7 +80,8 @@ pub(crate) fn explore_command<'a>(alloc: Global) -> Result<Command<'a>, AllocErr
         "verdict",
         "prints the simplest wrong run alone, or that there is none; no cells are needed, and fewer states",
     );
-    with_option(command, verdict)
+    let command = with_option(command, verdict);
+    with_reference(alloc, command)
 }
 
 /// The command with the bounds of the programs that it looks through.
@@ -100,7 +101,7 @@ fn bounds_command<'a>(alloc: Global) -> Result<Command<'a>, AllocError>
         alloc,
         "threads",
         false,
-        "how many threads a program has at the most, 2 to 4 [default: 2]",
+        "how many threads a program has at the most, 1 to 4 [default: 2]",
     );
     let command = with_option(command, threads);
     let calls = number_option(
@@ -210,5 +211,6 @@ pub(crate) fn find_command<'a>(alloc: Global) -> Result<Command<'a>, AllocError>
         "progress",
         "tells on standard error how many programs are done",
     );
-    with_option(command, progress)
+    let command = with_option(command, progress);
+    with_reference(alloc, command)
 }

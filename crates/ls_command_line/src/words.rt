@@ -178,6 +178,8 @@ pub struct CommandLine {
     pub request: Request,
     /// Whether a fault is to be shown in its line.
     pub explain: bool,
+    /// Whether the last part is a reference: a class text by which the others are judged.
+    pub spec: bool,
 }
 
 impl Clone for CommandLine {
@@ -243,10 +245,12 @@ fn chosen(matches: &ArgMatches<'_>) -> CommandLine
         Some((name, options)) => CommandLine {
             request: asked(name, options),
             explain: flag(options, "explain"),
+            spec: flag(options, "spec"),
         },
         None => CommandLine {
             request: Request::Check,
             explain: false,
+            spec: false,
         },
     }
 }

@@ -3,6 +3,7 @@ pub mod Answering
 pub mod CheckLemmas
 pub mod CompiledLemmas
 pub mod JudgedLemmas
+pub mod LikenessLemmas
 pub mod LivedLemmas
 pub mod MergedLemmas
 pub mod OrderLemmas

@@ -2,6 +2,7 @@ pub mod Aimed
 pub mod Check
 pub mod Compiled
 pub mod Judged
+pub mod Likeness
 pub mod Lived
 pub mod MergedRanges
 pub mod Merging

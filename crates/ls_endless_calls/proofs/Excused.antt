@@ -42,12 +42,12 @@ pub push_length : (marks more : List Bool) (mark : Bool) → more ≡ marks ++ m
 push_length marks more mark is = ap length is ∙ length-append marks (mark ∷ [])
 
 -- a call that is pending, and isn't the last of one of the runs, which are all
-pub unexcused_call : (file : File) (program : Program) (runs kept : List (Vec Event Global)) (h g : List Event) →
-    NeverEndsIsAmong → runs ≡ kept → h ≡ g → TellEndlessRuns file program (lists_of kept) →
+pub unexcused_call : (sfile : File) (sprogram : Program) (runs kept : List (Vec Event Global)) (h g : List Event) →
+    NeverEndsIsAmong → runs ≡ kept → h ≡ g → TellEndlessRuns sfile sprogram (lists_of kept) →
     ((place : ℕ) × IsUnexcused (lists_of runs) h place) →
-    (c : Event) × IsPending g c × (NeverEndsSo file program g c → ⊥)
-unexcused_call file program runs kept h g all same is tell u =
+    (c : Event) × IsPending g c × (NeverEndsSo sfile sprogram g c → ⊥)
+unexcused_call sfile sprogram runs kept h g all same is tell u =
     let one : IsUnexcused (lists_of kept) g u.0 =
     subst (λ (l : List Event). IsUnexcused (lists_of kept) l u.0) is
     (subst (λ (vs : List (Vec Event Global)). IsUnexcused (lists_of vs) h u.0) same u.1) in
-    (one.call, one.pending, λ so. one.unexcused (all file program (lists_of kept) g one.call tell so))
+    (one.call, one.pending, λ so. one.unexcused (all sfile sprogram (lists_of kept) g one.call tell so))

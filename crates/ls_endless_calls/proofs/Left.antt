@@ -1,6 +1,6 @@
 -- Where each state is fine, no call turns for ever that ends in calls that run one at a time.
-use Rattle.std.proofs.Common.{◌≡◌, ◌⊎◌, inl, inr, ℕ, ◌+◌, ◌-◌, ◌<◌, Bool, true, false, List, [], ◌∷◌, ◌++◌, length}
-use Rattle.std.proofs.Common.{map, Option, Some, refl, sym, ap, ◌∙◌, subst, arith, replicate, append-nil}
+use Rattle.std.proofs.Common.{◌≡◌, ◌⊎◌, inl, inr, ℕ, ◌+◌, ◌-◌, ◌<◌, Bool, true, List, [], ◌++◌, length}
+use Rattle.std.proofs.Common.{map, Option, Some, sym, ap, ◌∙◌, subst, arith, replicate, append-nil}
 use Rattle.std.specs.Prelude.{Contains, slice_get}
 use Rattle.std.specs.List.{fold}
 use Rattle.std.specs.declared.vec.Vec.{Vec}
@@ -15,7 +15,7 @@ use Rattle.ls_meaning.specs.declared.step.Did.TheVariants as did
 use Rattle.ls_meaning.specs.Renamings.{IsRenaming}
 use Rattle.ls_meaning.specs.Runs.{source_history, source_run, step}
 use Rattle.ls_meaning.specs.Still.{IsActing, IsStill}
-use Rattle.ls_search_laws.specs.Configuration.{Configuration, configuration_of, stride}
+use Rattle.ls_search_laws.specs.Configuration.{configuration_of, stride}
 use Rattle.ls_search_laws.specs.Noticing.{Noticed, noticed_of}
 use Rattle.ls_search_laws.specs.Search.{IsFound}
 use Rattle.ls_search_laws.specs.Stepping.{IsBefore, SetsUp}
@@ -27,7 +27,6 @@ use Rattle.ls_transitions.specs.Tables.{Table}
 use Rattle.ls_transitions.proofs.Keeping.{below, there}
 use Rattle.ls_search.specs.declared.places.Node.{Node}
 use Rattle.ls_search.specs.declared.places.Seen.{Seen}
-use Rattle.ls_search.specs.Places.{configuration_of as configuration_at_place}
 use Rattle.ls_search.specs.Searched.{AreExpanded, IsOther, IsSound, noticed_at, pairs_at}
 use Rattle.ls_search.specs.Strides.{at_once}
 use Rattle.ls_search.proofs.Likeness.{other_same}
@@ -54,8 +53,8 @@ not_acting (did.Acted a x) still acts = absurd still
 not_acting did.Waits still acts = absurd acts
 not_acting did.Idle still acts = absurd acts
 
-module _ (file : File) (program : Program) (k : ℕ) (up : SetsUp file program k) (t : Table)
-    (histories : List (List Event)) (nodes : List Node)
+module _ (sfile : File) (sprogram : Program) (file : File) (program : Program) (k : ℕ) (up : SetsUp file program k)
+    (t : Table) (histories : List (List Event)) (nodes : List Node)
     (sound : IsSound First Next file program (length program.threads) t (map Some histories) nodes)
     (begins : slice_get (pairs_at First t (map Some histories) nodes) 0 ≡
     Some (noticed_of First Next file program (replicate k 0)))
@@ -66,7 +65,7 @@ module _ (file : File) (program : Program) (k : ℕ) (up : SetsUp file program k
     (marked : (i : ℕ) (h : List Event) → slice_get histories i ≡ Some h → slice_get excused i ≡ Some true →
     AreExcused runs h)
     (fine : AreFine file (length program.threads) t excused seen nodes (length nodes)) (among : AmongNeverEnds)
-    (are : AreEndlessRuns file program runs) where
+    (are : AreEndlessRuns sfile sprogram runs) where
   abbrev pub Pair : Type 0
   Pair = Noticed (Option (List Event))
 
@@ -103,7 +102,7 @@ module _ (file : File) (program : Program) (k : ℕ) (up : SetsUp file program k
 
     by_fine : (c : Event) → IsPending (source_history file program schedule) c →
         IsFine file (length program.threads) t excused seen f.at f.node →
-        NeverEndsSo file program (source_history file program schedule) c
+        NeverEndsSo sfile sprogram (source_history file program schedule) c
     by_fine c pending (inl still) =
         let s = expanded f.at a.pair still.0 f.pair_is still.1 in
         let acting = acts_there in
@@ -114,7 +113,7 @@ module _ (file : File) (program : Program) (k : ℕ) (up : SetsUp file program k
         let is : h.0 ≡ source_history file program schedule =
         of_schedule file program k up t histories nodes sound begins seen expanded all schedule h.0
         (sym a.noted ∙ f.noted h.0 h.1) in
-        among file program runs (source_history file program schedule) c are
+        among sfile sprogram runs (source_history file program schedule) c are
         (subst (AreExcused runs) is (marked f.node.place.noted h.0 h.1 flag) c pending)
     by_fine c pending (inr (inr breaks)) =
         absurd (not_endless file program breaks.0 schedule turns
@@ -123,16 +122,16 @@ module _ (file : File) (program : Program) (k : ℕ) (up : SetsUp file program k
         (subst (λ (p : Pair). Breaks file (length program.threads) breaks.0 p.configuration) (sym pair_is) breaks.1)))
 
     pub here : (c : Event) → IsPending (source_history file program schedule) c →
-        NeverEndsSo file program (source_history file program schedule) c
+        NeverEndsSo sfile sprogram (source_history file program schedule) c
     here c pending = by_fine c pending (fine f.at f.node (below nodes f.at f.node f.node_is) f.node_is)
 
   -- a call never ends so where it doesn't after more steps of which none has an event
   from_later : (schedule more : List ℕ) (c : Event) → TurnsForEver file program schedule →
       IsPending (source_history file program schedule) c →
       IsAt (schedule ++ more) →
-      NeverEndsSo file program (source_history file program schedule) c
+      NeverEndsSo sfile sprogram (source_history file program schedule) c
   from_later schedule more c turns pending a =
-      subst (λ (h : List Event). NeverEndsSo file program h c) (turns.silent more)
+      subst (λ (h : List Event). NeverEndsSo sfile sprogram h c) (turns.silent more)
       (here (schedule ++ more) (turns_later file program schedule more turns) a c
       (subst (λ (h : List Event). IsPending h c) (sym (turns.silent more)) pending))
 
@@ -141,7 +140,7 @@ module _ (file : File) (program : Program) (k : ℕ) (up : SetsUp file program k
       IsFound at_once IsRenaming (λ m n. m ≡ n) file
       (pairs file program k up t histories nodes sound begins seen expanded all)
       (noticed_of First Next file program schedule) →
-      NeverEndsSo file program (source_history file program schedule) c
+      NeverEndsSo sfile sprogram (source_history file program schedule) c
   by_found schedule c turns pending g = from_later schedule g.threads c turns pending (record {
     pair = g.pair;
     there = g.there;
@@ -154,7 +153,7 @@ module _ (file : File) (program : Program) (k : ℕ) (up : SetsUp file program k
   by_before : (schedule : List ℕ) (c : Event) → TurnsForEver file program schedule →
       IsPending (source_history file program schedule) c →
       IsBefore file program k schedule →
-      NeverEndsSo file program (source_history file program schedule) c
+      NeverEndsSo sfile sprogram (source_history file program schedule) c
   by_before schedule c turns pending b =
       let rest : ℕ = k - b.count in
       let whole : k ≡ b.count + rest = omega (arith, b.fewer) in
@@ -178,7 +177,7 @@ module _ (file : File) (program : Program) (k : ℕ) (up : SetsUp file program k
             ∙ ap (λ (h : List Event). fold Next First h) (sym same.1);
       })
 
-  pub none_turns : NoneTurnsUnexcused file program
+  pub none_turns : NoneTurnsUnexcused sfile sprogram file program
   none_turns schedule c turns pending =
       by_place (finds_all First Next at_once IsRenaming (λ m n. m ≡ n) file program k
       (pairs file program k up t histories nodes sound begins seen expanded all)
@@ -188,7 +187,7 @@ module _ (file : File) (program : Program) (k : ℕ) (up : SetsUp file program k
           (pairs file program k up t histories nodes sound begins seen expanded all)
           (noticed_of First Next file program schedule)
           ⊎ IsBefore file program k schedule →
-          NeverEndsSo file program (source_history file program schedule) c
+          NeverEndsSo sfile sprogram (source_history file program schedule) c
       by_place (inl g) = by_found schedule c turns pending g
       by_place (inr b) = by_before schedule c turns pending b
 
@@ -214,12 +213,12 @@ module _ (file : File) (program : Program) (t : Table) (values : List (Vec Event
       AreMarked runs lent excused →
       AreFine t.file (length program.threads) t excused seen nodes (length nodes) →
       AmongNeverEnds →
-      AreEndlessRuns file program runs →
-      NoneTurnsUnexcused file program
-  none_left k up begins seen expanded all runs lent excused same marked fine among are =
+      (sfile : File) (sprogram : Program) → AreEndlessRuns sfile sprogram runs →
+      NoneTurnsUnexcused sfile sprogram file program
+  none_left k up begins seen expanded all runs lent excused same marked fine among sfile sprogram are =
       let histories : List (List Event) = map (λ (v : Vec Event Global). v.items) values in
       let states = states_are values in
-      none_turns file program k up t histories nodes
+      none_turns sfile sprogram file program k up t histories nodes
       (subst (λ (l : List (Option (List Event))). IsSound First Next file program (length program.threads) t l nodes)
       states sound)
       (subst (λ (l : List (Option (List Event))). slice_get (pairs_at First t l nodes) 0 ≡

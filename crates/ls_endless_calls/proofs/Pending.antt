@@ -237,5 +237,5 @@ pending_waits file program schedule c over p =
         (over c.thread)
 
 pub none_for_ever : NoWaitNoneForEver
-none_for_ever file program none schedule c over p =
+none_for_ever sfile sprogram file program none schedule c over p =
     absurd (none schedule over c.thread (pending_waits file program schedule c over p))

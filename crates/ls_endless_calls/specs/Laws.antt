@@ -16,17 +16,20 @@ pub record NeverEndsSo (file : File) (program : Program) (h : List Event) (c : E
   pub call : endless.call ≡ c
   pub alone : ExplainsAlone endless.before h
 
--- After the schedule no thread acts, and this call waits. In no calls that run one at a time does it never end so.
-pub record WaitsForEver (file : File) (program : Program) (schedule : List ℕ) (c : Event) : Type 0 where
+-- After the schedule no thread acts, and this call waits. In no calls of the specification that run one at a time does
+-- it never end so.
+pub record WaitsForEver (sfile : File) (sprogram : Program) (file : File) (program : Program) (schedule : List ℕ)
+    (c : Event) : Type 0 where
   pub over : IsOver file program (source_run file program schedule)
   pub pending : IsPending (source_history file program schedule) c
-  pub alone : NeverEndsSo file program (source_history file program schedule) c → ⊥
+  pub alone : NeverEndsSo sfile sprogram (source_history file program schedule) c → ⊥
 
--- each call that waits where no thread acts never ends in calls that run one at a time
-abbrev pub NoneWaitsForEver : File → Program → Type 0
-NoneWaitsForEver file program =
+-- each call that waits where no thread acts never ends in calls of the specification that run one at a time
+abbrev pub NoneWaitsForEver : File → Program → File → Program → Type 0
+NoneWaitsForEver sfile sprogram file program =
     (schedule : List ℕ) (c : Event) → IsOver file program (source_run file program schedule) →
-    IsPending (source_history file program schedule) c → NeverEndsSo file program (source_history file program schedule) c
+    IsPending (source_history file program schedule) c →
+    NeverEndsSo sfile sprogram (source_history file program schedule) c
 
 -- ---- threads that wait where no thread acts
 
@@ -45,7 +48,9 @@ NoThreadWaits file program =
 
 -- then no call waits for ever
 abbrev pub NoWaitNoneForEver : Type 0
-NoWaitNoneForEver = (file : File) (program : Program) → NoThreadWaits file program → NoneWaitsForEver file program
+NoWaitNoneForEver =
+    (sfile : File) (sprogram : Program) (file : File) (program : Program) → NoThreadWaits file program →
+    NoneWaitsForEver sfile sprogram file program
 
 -- ---- what runs tell
 

@@ -10,25 +10,26 @@ use Rattle.ls_endless_calls.specs.Waits.{IsPending}
 use Rattle.ls_endless_calls.specs.declared.finding.Endless.{Endless}
 use Rattle.ls_endless_calls.specs.declared.finding.Endless.TheVariants as endless
 
--- After the schedule threads turn for ever, and this call has begun and hasn't ended. In no calls that run one at a
--- time does it never end so.
-pub record TurnsUnexcused (file : File) (program : Program) (schedule : List ℕ) (c : Event) : Type 0 where
+-- After the schedule threads turn for ever, and this call has begun and hasn't ended. In no calls of the specification
+-- that run one at a time does it never end so.
+pub record TurnsUnexcused (sfile : File) (sprogram : Program) (file : File) (program : Program) (schedule : List ℕ)
+    (c : Event) : Type 0 where
   pub turns : TurnsForEver file program schedule
   pub pending : IsPending (source_history file program schedule) c
-  pub alone : NeverEndsSo file program (source_history file program schedule) c → ⊥
+  pub alone : NeverEndsSo sfile sprogram (source_history file program schedule) c → ⊥
 
-abbrev pub HasTurning : File → Program → List ℕ → Type 0
-HasTurning file program schedule = (c : Event) × TurnsUnexcused file program schedule c
+abbrev pub HasTurning : File → Program → File → Program → List ℕ → Type 0
+HasTurning sfile sprogram file program schedule = (c : Event) × TurnsUnexcused sfile sprogram file program schedule c
 
--- each call that is pending where threads turn for ever never ends in calls that run one at a time
-abbrev pub NoneTurnsUnexcused : File → Program → Type 0
-NoneTurnsUnexcused file program =
+-- each call that is pending where threads turn for ever never ends in calls of the specification that run one at a time
+abbrev pub NoneTurnsUnexcused : File → Program → File → Program → Type 0
+NoneTurnsUnexcused sfile sprogram file program =
     (schedule : List ℕ) (c : Event) → TurnsForEver file program schedule →
     IsPending (source_history file program schedule) c →
-    NeverEndsSo file program (source_history file program schedule) c
+    NeverEndsSo sfile sprogram (source_history file program schedule) c
 
 -- there is no such call, or there is one after this schedule, or nothing is said
-abbrev pub IsEndless : File → Program → Endless → Type 0
-IsEndless file program endless.Never = NoneTurnsUnexcused file program
-IsEndless file program (endless.After schedule) = HasTurning file program schedule
-IsEndless file program endless.Unknown = Unit {0}
+abbrev pub IsEndless : File → Program → File → Program → Endless → Type 0
+IsEndless sfile sprogram file program endless.Never = NoneTurnsUnexcused sfile sprogram file program
+IsEndless sfile sprogram file program (endless.After schedule) = HasTurning sfile sprogram file program schedule
+IsEndless sfile sprogram file program endless.Unknown = Unit {0}

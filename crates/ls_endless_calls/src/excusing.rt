@@ -3,6 +3,8 @@
 ghost use Rattle.std.specs.Prelude.{◌≡◌, ℕ, IfOk, IsTrue, Some, slice_get, true};
 ghost use Rattle.std.specs.declared.vec.Vec.{Vec as VecValue};
 ghost use Rattle.std.specs.declared.alloc.Global.{Global as GlobalValue};
+ghost use Rattle.ls_checked.specs.CheckedTree.{File as FileValue};
+ghost use Rattle.ls_checked.specs.CheckedProgram.{Program as ProgramValue};
 ghost use Rattle.ls_checked.specs.Plain.{plain_file};
 ghost use Rattle.ls_checked.specs.PlainProgram.{plain_program};
 ghost use Rattle.ls_events.specs.declared.event.Event.{Event as EventValue};
@@ -59,8 +61,8 @@ pub(crate) fn excused_of(
     Ok(excused)
 }
 
-/// Whether after a schedule a call is pending that doesn't end never in calls that run one at a time. True only where
-/// one is, and the runs are all.
+/// Whether after a schedule a call is pending that doesn't end never in calls of a specification that run one at a
+/// time. True only where one is, and the runs are all of the specification's.
 pub(crate) fn is_unexcused(
     alloc: Global,
     file: &File,
@@ -68,11 +70,11 @@ pub(crate) fn is_unexcused(
     endless: &EndlessRuns,
     schedule: &Schedule,
 ) -> Result<bool, AllocError>
-    requires { endless.now.complete ≡ true →
-        TellEndlessRuns (plain_file file.now) (plain_program program.now) (lists_of endless.now.runs.items) }
-    ensures { IfOk result (λ b. IsTrue b → (c : EventValue)
+    ensures { IfOk result (λ b. IsTrue b → (sfile : FileValue) (sprogram : ProgramValue) →
+        (endless.now.complete ≡ true → TellEndlessRuns sfile sprogram (lists_of endless.now.runs.items)) →
+        (c : EventValue)
         × IsPending (source_history (plain_file file.now) (plain_program program.now) schedule.now) c
-        × (NeverEndsSo (plain_file file.now) (plain_program program.now)
+        × (NeverEndsSo sfile sprogram
         (source_history (plain_file file.now) (plain_program program.now) schedule.now) c → ⊥)) }
 {
     runs_decide();

@@ -2,6 +2,8 @@
 
 ghost use Rattle.std.specs.Prelude.{◌≡◌, ◌<◌, ◌≤◌, IfNone, IfOk, IfSome, IsTrue, OnOk, Some, false, length};
 ghost use Rattle.std.specs.Prelude.{slice_get, true};
+ghost use Rattle.ls_checked.specs.CheckedTree.{File as FileValue};
+ghost use Rattle.ls_checked.specs.CheckedProgram.{Program as ProgramValue};
 ghost use Rattle.ls_checked.specs.Plain.{plain_file};
 ghost use Rattle.ls_checked.specs.PlainProgram.{plain_program};
 ghost use Rattle.ls_search.specs.declared.places.Node.{Node as NodeValue};
@@ -144,9 +146,9 @@ pub(crate) fn left_over(
     limit: usize,
 ) -> Result<Left, AllocError>
     requires room { 1 ≤ limit }
-    ensures { IfOk result (λ left. left ≡ Nothing →
-        AreEndlessRuns (plain_file file.now) (plain_program program.now) (lists_of runs.now) →
-        NoneTurnsUnexcused (plain_file file.now) (plain_program program.now)) }
+    ensures { IfOk result (λ left. left ≡ Nothing → (sfile : FileValue) (sprogram : ProgramValue) →
+        AreEndlessRuns sfile sprogram (lists_of runs.now) →
+        NoneTurnsUnexcused sfile sprogram (plain_file file.now) (plain_program program.now)) }
 {
     runs_decide();
     let histories = Histories;

@@ -31,8 +31,9 @@ module _ (file : File) (f : ℕ → ℕ) (p q : Program) (r : AreAlike f p q) wh
 
 -- if each history of a program is linearizable, so is each with two threads exchanged
 pub linearizable : ExchangedIsLinearizable
-linearizable file u v p q e all schedule =
+linearizable sfile file u v sp sq p q se e all schedule =
+    let s = alike u v sp sq se in
     let r = alike u v p q e in
-    subst (IsLinearizable file q) (history_is file (exchanged u v) p q r schedule)
-    (linearizable_other file (exchanged u v) p q r (source_history file p (map (exchanged u v) schedule))
+    subst (IsLinearizable sfile sq) (history_is file (exchanged u v) p q r schedule)
+    (linearizable_other sfile (exchanged u v) sp sq s (source_history file p (map (exchanged u v) schedule))
     (all (map (exchanged u v) schedule)))

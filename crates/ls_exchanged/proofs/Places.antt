@@ -8,10 +8,10 @@ use Rattle.std.proofs.lemmas.Option.{slice_get-map, slice_get_past}
 use Rattle.ls_checked.specs.CheckedProgram.{Program, ThreadProgram}
 use Rattle.ls_exchanged.specs.Exchanged.{exchanged, name_in}
 use Rattle.ls_meaning.specs.Threads.{calls_in}
-use Rattle.ls_exchanged.specs.Doubles.{AreDoubles, names_of}
+use Rattle.ls_exchanged.specs.Doubles.{HaveSameNames, names_of}
 use Rattle.ls_exchanged.specs.DoubleLaws.{DoublesAreExchanged, DoublesHaveNames}
 
-pub same_many : (p q : Program) → AreDoubles p q → length p.threads ≡ length q.threads
+same_many : (p q : Program) → HaveSameNames p q → length p.threads ≡ length q.threads
 same_many p q d =
     sym (length-map p.threads (λ (t : ThreadProgram). t.name)) ∙ ap length d.threads ∙
     length-map q.threads (λ (t : ThreadProgram). t.name)
@@ -30,8 +30,8 @@ name_at : (ts : List ThreadProgram) (t : ℕ) → text_in (slice_get (names_of t
 name_at ts t = ap text_in (slice_get-map (λ (u : ThreadProgram). u.name) ts t) ∙ in_names (slice_get ts t)
 
 pub doubles_have_names : DoublesHaveNames
-doubles_have_names p q d t =
-    sym (name_at q.threads t) ∙ ap (λ l. text_in (slice_get l t)) (sym d.threads) ∙ name_at p.threads t
+doubles_have_names u p q d t =
+    sym (name_at q.threads t) ∙ ap (λ l. text_in (slice_get l t)) (sym d.names.threads) ∙ name_at p.threads t
 
 -- ---- calls
 
@@ -48,25 +48,22 @@ stays u t past = first (nat_eq t u) refl
     first false e = second (nat_eq t (u + 1)) refl
 
 pub doubles_are_exchanged : DoublesAreExchanged
-doubles_are_exchanged p q d =
-    let u = d.calls.0 in
-    let many = same_many p q d in
+doubles_are_exchanged u p q d =
+    let many = same_many p q d.names in
+    let within = d.calls.within in
     let by_place : (t : ℕ) → (t < length p.threads) ⊎ (length p.threads ≤ t) →
     calls_in (slice_get q.threads (exchanged u (u + 1) t)) ≡ calls_in (slice_get p.threads t) =
     λ t place. elim place [
-      | inl lt ↦ sym (d.calls.3 t lt)
+      | inl lt ↦ sym (d.calls.calls t lt)
       | inr past ↦
-          ap (λ k. calls_in (slice_get q.threads k)) (stays u t (omega (arith, d.calls.2, past))) ∙
+          ap (λ k. calls_in (slice_get q.threads k)) (stays u t (omega (arith, within, past))) ∙
           ap calls_in (slice_get_past q.threads t (omega (arith, many, past)) ∙
           sym (slice_get_past p.threads t past))
-    ] in (
-      u,
-      record {
-        first = d.calls.1;
-        second = omega arith;
-        within = (omega (arith, d.calls.2), d.calls.2);
-        many = many;
-        names = d.names;
-        calls = λ t. by_place t (cases_lt t (length p.threads));
-      },
-    )
+    ] in record {
+      first = d.calls.some;
+      second = omega arith;
+      within = (omega (arith, within), within);
+      many = many;
+      names = d.names.names;
+      calls = λ t. by_place t (cases_lt t (length p.threads));
+    }

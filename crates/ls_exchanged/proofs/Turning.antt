@@ -35,10 +35,11 @@ module _ (file : File) (f : ℕ → ℕ) (p q : Program) (r : AreAlike f p q) (s
 -- If no threads of a program turn for ever in calls that end where calls run one at a time, none do with two threads
 -- exchanged.
 pub never_turns : ExchangedNeverTurns
-never_turns file u v p q e none schedule c turns pending =
+never_turns sfile file u v sp sq p q se e none schedule c turns pending =
     let f = exchanged u v in
+    let s = alike u v sp sq se in
     let r = alike u v p q e in
     let b = alike u v q p (back u v p q e) in
-    never_back file f p q r schedule c
+    never_back sfile sp sq file f p q s r schedule c
     (none (map f schedule) (other_event f c) (turns_other file f q p b schedule turns)
     (pending_there file f q p b schedule c pending))

@@ -74,13 +74,14 @@ module _ (file : File) (f : ℕ → ℕ) (p q : Program) (r : AreAlike f p q) wh
   }
 
 -- So it is of the second program's history, where it is of the first's.
-pub never_back : (file : File) (f : ℕ → ℕ) (p q : Program) (r : AreAlike f p q) (schedule : List ℕ) (c : Event) →
-    NeverEndsSo file p (source_history file p (map f schedule)) (other_event f c) →
-    NeverEndsSo file q (source_history file q schedule) c
-never_back file f p q r schedule c n =
-    subst (λ h. NeverEndsSo file q h c) (history_is file f p q r schedule)
-    (subst (NeverEndsSo file q (other_events f (source_history file p (map f schedule)))) (event_twice f r.twice c)
-    (never_other file f p q r (source_history file p (map f schedule)) (other_event f c) n))
+pub never_back : (sfile : File) (sp sq : Program) (file : File) (f : ℕ → ℕ) (p q : Program) (s : AreAlike f sp sq)
+    (r : AreAlike f p q) (schedule : List ℕ) (c : Event) →
+    NeverEndsSo sfile sp (source_history file p (map f schedule)) (other_event f c) →
+    NeverEndsSo sfile sq (source_history file q schedule) c
+never_back sfile sp sq file f p q s r schedule c n =
+    subst (λ h. NeverEndsSo sfile sq h c) (history_is file f p q r schedule)
+    (subst (NeverEndsSo sfile sq (other_events f (source_history file p (map f schedule)))) (event_twice f r.twice c)
+    (never_other sfile f sp sq s (source_history file p (map f schedule)) (other_event f c) n))
 
 -- a pending call of a history, with other numbers of threads
 pub pending_there : (file : File) (f : ℕ → ℕ) (p q : Program) (r : AreAlike f p q) (schedule : List ℕ) (c : Event) →
@@ -92,10 +93,11 @@ pending_there file f p q r schedule c pending =
 
 -- if no call of a program waits for ever, none does with two threads exchanged
 pub never_waits : ExchangedNeverWaits
-never_waits file u v p q e none schedule c over pending =
+never_waits sfile file u v sp sq p q se e none schedule c over pending =
     let f = exchanged u v in
+    let s = alike u v sp sq se in
     let r = alike u v p q e in
     let b = alike u v q p (back u v p q e) in
-    never_back file f p q r schedule c
+    never_back sfile sp sq file f p q s r schedule c
     (none (map f schedule) (other_event f c) (over_other file f q p b schedule over)
     (pending_there file f q p b schedule c pending))

@@ -6,9 +6,10 @@ use Rattle.ls_exchanged.specs.Doubles.{AreDoubles}
 
 -- a thread and the one after it are exchanged
 abbrev pub DoublesAreExchanged : Type 0
-DoublesAreExchanged = (p q : Program) → AreDoubles p q → (u : ℕ) × AreExchanged u (u + 1) p q
+DoublesAreExchanged = (u : ℕ) (p q : Program) → AreDoubles u p q → AreExchanged u (u + 1) p q
 
 -- at each place the threads have the same name
 abbrev pub DoublesHaveNames : Type 0
 DoublesHaveNames =
-    (p q : Program) → AreDoubles p q → (t : ℕ) → name_in (slice_get q.threads t) ≡ name_in (slice_get p.threads t)
+    (u : ℕ) (p q : Program) → AreDoubles u p q → (t : ℕ) →
+    name_in (slice_get q.threads t) ≡ name_in (slice_get p.threads t)

@@ -3,7 +3,7 @@ use Rattle.std.specs.Prelude.{◌≡◌, ℕ, List, map}
 use Rattle.ls_checked.specs.CheckedTree.{File}
 use Rattle.ls_checked.specs.CheckedProgram.{Program}
 use Rattle.ls_meaning.specs.Runs.{source_history, source_run, step}
-use Rattle.ls_source_judge.specs.Judged.{AllLinearizable}
+use Rattle.ls_source_judge.specs.Judged.{AllLike}
 use Rattle.ls_endless_calls.specs.Laws.{NoneWaitsForEver}
 use Rattle.ls_endless_calls.specs.Turning.{NoneTurnsUnexcused}
 use Rattle.ls_explore_reports.specs.Verdicts.{HasLegalOrder}
@@ -31,23 +31,24 @@ StepsAreExchanged =
 
 -- ---- verdicts
 
--- if each history of the first is linearizable, so is each of the second
+-- The specification of the second is that of the first with the same two threads exchanged. If each history of the
+-- first is linearizable to its specification, so is each of the second.
 abbrev pub ExchangedIsLinearizable : Type 0
 ExchangedIsLinearizable =
-    (file : File) (u v : ℕ) (p q : Program) → AreExchanged u v p q →
-    AllLinearizable file p → AllLinearizable file q
+    (sfile : File) (file : File) (u v : ℕ) (sp sq p q : Program) → AreExchanged u v sp sq → AreExchanged u v p q →
+    AllLike sfile sp file p → AllLike sfile sq file q
 
 -- if no call of the first waits for ever, none of the second does
 abbrev pub ExchangedNeverWaits : Type 0
 ExchangedNeverWaits =
-    (file : File) (u v : ℕ) (p q : Program) → AreExchanged u v p q →
-    NoneWaitsForEver file p → NoneWaitsForEver file q
+    (sfile : File) (file : File) (u v : ℕ) (sp sq p q : Program) → AreExchanged u v sp sq → AreExchanged u v p q →
+    NoneWaitsForEver sfile sp file p → NoneWaitsForEver sfile sq file q
 
 -- if no threads of the first turn for ever in calls that end where calls run one at a time, none of the second do
 abbrev pub ExchangedNeverTurns : Type 0
 ExchangedNeverTurns =
-    (file : File) (u v : ℕ) (p q : Program) → AreExchanged u v p q →
-    NoneTurnsUnexcused file p → NoneTurnsUnexcused file q
+    (sfile : File) (file : File) (u v : ℕ) (sp sq p q : Program) → AreExchanged u v sp sq → AreExchanged u v p q →
+    NoneTurnsUnexcused sfile sp file p → NoneTurnsUnexcused sfile sq file q
 
 -- If each history of the first has a legal order, so has each of the second. Legal orders tell threads apart by their
 -- names.

@@ -1,10 +1,11 @@
 // Programs with two threads exchanged.
 
-ghost use Rattle.std.specs.Prelude.{◌≡◌, ◌+◌, ◌<◌, ◌^◌, ℕ, length, map, slice_get, string_bytes};
+ghost use Rattle.std.specs.Prelude.{◌≡◌, ◌+◌, ◌<◌, ◌^◌, ℕ, IfNone, IfSome, length, map, slice_get, string_bytes};
 ghost use Rattle.std.specs.Bool.{Decides};
 ghost use Rattle.ls_checked.specs.PlainProgram.{plain_program, plain_thread};
 ghost use Rattle.ls_exchanged.specs.Exchanged.{exchanged};
-ghost use Rattle.ls_exchanged.specs.Doubles.{AreDoubles, AreExchangedAt, IsExchangedAt, HaveExchanged, names_of};
+ghost use Rattle.ls_exchanged.specs.Doubles.{AreDoubles, AreExchangedAt, HaveExchangedAt, HaveSameNames};
+ghost use Rattle.ls_exchanged.specs.Doubles.{IsExchangedAt, names_of};
 
 use crate::calls::{same_calls, same_names};
 use ls_checked::program::{Program, ThreadProgram};
@@ -77,30 +78,61 @@ fn are_exchanged_at(first: &[ThreadProgram], second: &[ThreadProgram], place: us
     true
 }
 
-/// Whether the calls of a thread, which isn't the first, and of the one after it are exchanged, and all others are the
-/// same.
-fn have_exchanged(first: &[ThreadProgram], second: &[ThreadProgram]) -> bool
+/// Whether a number is that of a thread, which isn't the first, with one after it; and their calls are exchanged, and
+/// all others are the same.
+fn have_exchanged_at(first: &[ThreadProgram], second: &[ThreadProgram], place: usize) -> bool
     requires { length first.now ≡ length second.now }
-    ensures { Decides result (HaveExchanged (map plain_thread first.now) (map plain_thread second.now)) }
+    ensures { Decides result (HaveExchangedAt (map plain_thread first.now) (map plain_thread second.now) place) }
 {
-    for place in 2..first.len() {
-        if are_exchanged_at(first, second, place - 1) {
-            return true;
-        }
+    if place == 0 || place >= first.len() || place + 1 == first.len() {
+        return false;
     }
-    false
+    are_exchanged_at(first, second, place)
 }
 
-/// Whether the second program is the first with the calls of a thread, which isn't the setup, and of the one after it
-/// exchanged. The names are the same.
-pub fn are_doubles(first: &Program, second: &Program) -> bool
-    ensures { Decides result (AreDoubles (plain_program first.now) (plain_program second.now)) }
+/// The first number of a thread, which isn't the first, whose calls and those of the one after it are exchanged, where
+/// all others are the same.
+fn exchanged_place(first: &[ThreadProgram], second: &[ThreadProgram]) -> Option<usize>
+    requires { length first.now ≡ length second.now }
+    ensures some { IfSome result (HaveExchangedAt (map plain_thread first.now) (map plain_thread second.now)) }
+    ensures none { IfNone result ((place : ℕ) →
+        HaveExchangedAt (map plain_thread first.now) (map plain_thread second.now) place → ⊥) }
 {
-    if !same_names(first.names.as_slice(), second.names.as_slice()) {
-        return false;
+    for place in 0..first.len() {
+        if have_exchanged_at(first, second, place) {
+            return Some(place);
+        }
     }
-    if !same_thread_names(first.threads.as_slice(), second.threads.as_slice()) {
-        return false;
+    None
+}
+
+/// Whether the names of two programs are the same, and those of their threads.
+fn same_all_names(first: &Program, second: &Program) -> bool
+    ensures { Decides result (HaveSameNames (plain_program first.now) (plain_program second.now)) }
+{
+    same_names(first.names.as_slice(), second.names.as_slice())
+        && same_thread_names(first.threads.as_slice(), second.threads.as_slice())
+}
+
+/// Whether the second program is the first with the calls of the thread of this number, which isn't the setup, and of
+/// the one after it exchanged. The names are the same.
+pub fn are_doubles_at(first: &Program, second: &Program, place: usize) -> bool
+    ensures { Decides result (AreDoubles place (plain_program first.now) (plain_program second.now)) }
+{
+    same_all_names(first, second)
+        && have_exchanged_at(first.threads.as_slice(), second.threads.as_slice(), place)
+}
+
+/// The first number of a thread so that the second program is the first with its calls, and those of the one after it
+/// exchanged.
+pub fn place_of_doubles(first: &Program, second: &Program) -> Option<usize>
+    ensures some { IfSome result (λ place.
+        AreDoubles place (plain_program first.now) (plain_program second.now)) }
+    ensures none { IfNone result ((place : ℕ) →
+        AreDoubles place (plain_program first.now) (plain_program second.now) → ⊥) }
+{
+    if !same_all_names(first, second) {
+        return None;
     }
-    have_exchanged(first.threads.as_slice(), second.threads.as_slice())
+    exchanged_place(first.threads.as_slice(), second.threads.as_slice())
 }

@@ -6,4 +6,4 @@ pub mod doubles;
 mod exchanges;
 pub mod laws;
 
-pub use exchanges::are_doubles;
+pub use exchanges::{are_doubles_at, place_of_doubles};

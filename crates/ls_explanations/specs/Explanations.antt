@@ -5,6 +5,7 @@ use Rattle.std.specs.Fmt.{decimal}
 use Rattle.std.specs.List.{flat_map, list_any}
 use Rattle.std.specs.Option.{option_map_or}
 use Rattle.ls_lexer.specs.declared.token.Span.{Span}
+use Rattle.ls_faults.specs.Faults.{lifted_compile}
 use Rattle.ls_faults.specs.declared.fault.ToolFault.{ToolFault}
 use Rattle.ls_faults.specs.declared.fault.ToolFault.TheVariants as faults
 use Rattle.ls_explanations.specs.declared.place.Part.{Part}
@@ -23,16 +24,19 @@ part_name parts.History = codes "history"
 part_name parts.Order = codes "order"
 part_name parts.Tallies = codes "tallies"
 part_name parts.Menu = codes "menu"
+part_name parts.Reference = codes "reference"
 
--- the number of the part, from 0, in an input of `count` parts; a history is the third of three, and an order the last
+-- The number of the part, from 0, in an input of `count` parts. A history is the third of three or more; an order is
+-- the last, and so is a reference.
 abbrev pub part_number : Part → ℕ → ℕ
 part_number parts.Classes count = 0
 part_number parts.Program count = 1
 part_number parts.Schedule count = 2
-part_number parts.History count = if count == 3 then 2 else 0
+part_number parts.History count = if nat_lt 2 count then 2 else 0
 part_number parts.Order count = count - 1
 part_number parts.Tallies count = 0
 part_number parts.Menu count = 1
+part_number parts.Reference count = count - 1
 
 -- a space below each character, a tab below a tab
 abbrev pub space_below : ℕ → Bytes
@@ -89,9 +93,19 @@ abbrev pub counted : ToolFault → ℕ → Bytes
 counted faults.WrongParts count = codes "parts of this input: " ++ (decimal count ++ codes "\n")
 counted _ count = []
 
+-- A fault of the reference is told as one of a class text: of the last part.
+abbrev pub told : ToolFault → ToolFault
+told (faults.Specification f) = lifted_compile f
+told f = f
+
+abbrev pub classes_of : ToolFault → List Bytes → Bytes
+classes_of (faults.Specification f) texts = part_text texts (length texts - 1)
+classes_of f texts = part_text texts 0
+
 -- what is wrong, and what to write in its place
 abbrev pub whole_sentence : ToolFault → List Bytes → Bytes
-whole_sentence f texts = sentence f (part_text texts 0) ++ details f (part_text texts 0) (part_text texts 1)
+whole_sentence f texts =
+    sentence (told f) (classes_of f texts) ++ details (told f) (classes_of f texts) (part_text texts 1)
 
 -- What is said of a fault of these parts: where it is, if it has a place, and what is wrong there.
 abbrev pub note : ToolFault → List Bytes → Bytes

@@ -91,7 +91,7 @@ class_limit class.NoMaking =
 class_limit class.NoCalls =
     codes "a method that isn't private must take and return only `int`, `boolean` or nothing: write one; or fill the menu\n"
 class_limit class.BadBounds =
-    codes "expected `--threads` 2 to 4, `--calls` 1 to 4, `--setup` at most 8, and `--values` and `--new` 1 to 9\n"
+    codes "expected `--threads` 1 to 4, `--calls` 1 to 4, `--setup` at most 8, and `--values` and `--new` 1 to 9\n"
 class_limit class.TooManyCalls =
     codes "too many lists of arguments: a method has at most 1,000, so take fewer `--values`\n"
 class_limit class.TooManyPrograms =

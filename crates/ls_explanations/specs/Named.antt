@@ -27,6 +27,9 @@ part_of_fault (faults.Aim f) = Some parts.Schedule
 part_of_fault (faults.History f) = Some parts.History
 part_of_fault (faults.Order f) = Some parts.Order
 part_of_fault (faults.BadEntry at) = Some parts.Menu
+part_of_fault (faults.Specification f) = Some parts.Reference
+part_of_fault (faults.LacksMethod span) = Some parts.Reference
+part_of_fault (faults.UnlikeSpecification at) = Some parts.Program
 part_of_fault _ = None
 
 -- the byte of an input of `count` parts with which a part begins

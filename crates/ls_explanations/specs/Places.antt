@@ -1,5 +1,8 @@
 -- The place of a fault.
 use Rattle.std.specs.Prelude.{ℕ, Option, Some, None}
+use Rattle.std.specs.Option.{option_map}
+use Rattle.ls_compiler.specs.declared.fault.CompileFault.{CompileFault}
+use Rattle.ls_compiler.specs.declared.fault.CompileFault.TheVariants as stopped
 use Rattle.ls_lexer.specs.declared.token.Span.{Span}
 use Rattle.ls_lexer.specs.declared.fault.TextFault.{TextFault}
 use Rattle.ls_lexer.specs.declared.fault.TextFault.TheVariants as text
@@ -78,6 +81,16 @@ tally_place (tally.BadTally at) = at_byte parts.Tallies at
 tally_place tally.CountTooGreat = None
 tally_place tally.OtherCount = None
 
+-- the same place in the reference
+abbrev pub in_reference : PartSpan → PartSpan
+in_reference place = record { part = parts.Reference; span = place.span }
+
+abbrev pub reference_place : CompileFault → Option PartSpan
+reference_place (stopped.Text f) = option_map in_reference (text_place f)
+reference_place (stopped.Check f) = option_map in_reference (check_place f)
+reference_place (stopped.Program f) = None
+reference_place (stopped.Build f) = None
+
 -- limits of whole texts, faults of a run and faults of the streams have no place
 abbrev pub place_of : ToolFault → Option PartSpan
 place_of (faults.Text f) = text_place f
@@ -89,4 +102,7 @@ place_of (faults.History f) = history_place f
 place_of (faults.Order f) = order_place f
 place_of (faults.Tally f) = tally_place f
 place_of (faults.BadEntry at) = at_byte parts.Menu at
+place_of (faults.Specification f) = reference_place f
+place_of (faults.UnlikeSpecification at) = at_byte parts.Program at
+place_of (faults.LacksMethod span) = at_span parts.Reference span
 place_of _ = None

@@ -96,4 +96,8 @@ sentence (faults.Tally (tally.BadTally at)) classes = codes
 sentence faults.BadOptions classes = codes "these options don't go together, or not with so many parts\n"
 sentence (faults.BadEntry at) classes =
     codes "expected calls of the class without the object, as `lock(#); unlock(#)`: `#` is the thread's number\n"
+sentence (faults.UnlikeSpecification at) classes =
+    codes "the reference has no such call, or it answers another type there: name a class text with the same methods\n"
+sentence (faults.LacksMethod span) classes =
+    codes "the class lacks this method of the reference, or takes or answers other types there\n"
 sentence f classes = limit_sentence f

@@ -4,7 +4,7 @@ ghost use Rattle.std.specs.Prelude.{◌≡◌, ◌++◌, IfOk, OnOk, length, map
 ghost use Rattle.std.specs.List.{flat_map, list_any};
 ghost use Rattle.ls_explanations.specs.Explanations.{counted, explanation, has_return, heading, hint, in_part, marks};
 ghost use Rattle.ls_explanations.specs.Explanations.{minds_returns, note, part_text, shown, space_below};
-ghost use Rattle.ls_explanations.specs.Explanations.{whole_sentence};
+ghost use Rattle.ls_explanations.specs.Explanations.{classes_of, told, whole_sentence};
 
 use crate::mismatch::push_details;
 use crate::place::{Part, PartSpan, place_of};
@@ -105,6 +105,26 @@ pub(crate) fn part_text(texts: &[String], number: usize) -> &str
     }
 }
 
+/// A fault of the reference as one of a class text.
+fn told(fault: ToolFault) -> ToolFault
+    ensures { result ≡ told fault }
+{
+    match fault {
+        ToolFault::Specification(fault) => ToolFault::from(fault),
+        other => other,
+    }
+}
+
+/// The class text of which a fault tells: the reference is the last part.
+fn classes_of(fault: ToolFault, texts: &[String]) -> &str
+    ensures { result.now ≡ classes_of fault (map string_bytes texts.now) }
+{
+    match fault {
+        ToolFault::Specification(_) => part_text(texts, count_of(texts).saturating_sub(1)),
+        _ => part_text(texts, 0),
+    }
+}
+
 /// What is wrong, and what to write in its place. The only refusal is that memory ran out.
 pub(crate) fn whole_sentence(
     alloc: Global,
@@ -114,7 +134,8 @@ pub(crate) fn whole_sentence(
     ensures { IfOk result (λ bytes. bytes.items ≡ whole_sentence fault (map string_bytes texts.now)) }
 {
     let mut out = Vec::new(alloc);
-    let classes = part_text(texts, 0);
+    let classes = classes_of(fault, texts);
+    let fault = told(fault);
     out.extend_from_slice(sentence(fault, classes.as_bytes()).as_bytes())?;
     push_details(alloc, &mut out, fault, classes, part_text(texts, 1))?;
     Ok(out)

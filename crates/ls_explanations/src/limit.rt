@@ -121,7 +121,7 @@ fn class_limit(fault: ClassFault) -> &'static str
         ClassFault::NoCalls =>
             "a method that isn't private must take and return only `int`, `boolean` or nothing: write one; or fill the menu\n",
         ClassFault::BadBounds =>
-            "expected `--threads` 2 to 4, `--calls` 1 to 4, `--setup` at most 8, and `--values` and `--new` 1 to 9\n",
+            "expected `--threads` 1 to 4, `--calls` 1 to 4, `--setup` at most 8, and `--values` and `--new` 1 to 9\n",
         ClassFault::TooManyCalls =>
             "too many lists of arguments: a method has at most 1,000, so take fewer `--values`\n",
         ClassFault::TooManyPrograms =>

@@ -28,6 +28,8 @@ fn part_of_fault(fault: ToolFault) -> Option<Part>
         ToolFault::History(_) => Some(Part::History),
         ToolFault::Order(_) => Some(Part::Order),
         ToolFault::BadEntry { at: _ } => Some(Part::Menu),
+        ToolFault::Specification(_) | ToolFault::LacksMethod(_) => Some(Part::Reference),
+        ToolFault::UnlikeSpecification { at: _ } => Some(Part::Program),
         _ => None,
     }
 }

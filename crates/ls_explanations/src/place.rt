@@ -1,13 +1,15 @@
 // The place of a fault.
 
 ghost use Rattle.std.specs.Prelude.{◌≡◌};
+ghost use Rattle.std.specs.Option.{option_map};
 ghost use Rattle.ls_explanations.specs.declared.place.Part.TheVariants as parts;
 ghost use Rattle.ls_explanations.specs.Places.{aim_place, at_byte as byte_place, at_span as span_place, check_place};
 ghost use Rattle.ls_explanations.specs.Places.{history_place, order_place, place_of, program_place, schedule_place};
-ghost use Rattle.ls_explanations.specs.Places.{tally_place, text_place};
+ghost use Rattle.ls_explanations.specs.Places.{in_reference, reference_place, tally_place, text_place};
 ghost use Rattle.ls_explanations.specs.Explanations.{part_name, part_number};
 
 use ls_aim::fault::AimFault;
+use ls_compiler::fault::CompileFault;
 use ls_faults::fault::ToolFault;
 use ls_lexer::fault::TextFault;
 use ls_lexer::token::Span;
@@ -29,6 +31,7 @@ pub enum Part {
     Order,
     Tallies,
     Menu,
+    Reference,
 }
 
 impl Clone for Part {
@@ -38,17 +41,17 @@ impl Clone for Part {
 }
 
 impl Part {
-    /// The number of the part, from 0, in an input of `count` parts. A history is the third of three parts. An order is
-    /// the last part.
+    /// The number of the part, from 0, in an input of `count` parts. A history is the third of three parts or
+    /// more. An order is the last part, and so is a reference.
     pub fn number(self, count: usize) -> usize
         ensures { result ≡ part_number self count }
     {
         match self {
             Part::Classes | Part::Tallies => 0,
-            Part::History => { if count == 3 { 2 } else { 0 } }
+            Part::History => { if count > 2 { 2 } else { 0 } }
             Part::Program | Part::Menu => 1,
             Part::Schedule => 2,
-            Part::Order => count.saturating_sub(1),
+            Part::Order | Part::Reference => count.saturating_sub(1),
         }
     }
 
@@ -64,6 +67,7 @@ impl Part {
             Part::Order => "order",
             Part::Tallies => "tallies",
             Part::Menu => "menu",
+            Part::Reference => "reference",
         }
     }
 }
@@ -181,6 +185,30 @@ fn tally_place(fault: TallyFault) -> Option<PartSpan>
     }
 }
 
+/// The same place in the reference.
+fn in_reference(place: Option<PartSpan>) -> Option<PartSpan>
+    ensures { result ≡ option_map in_reference place }
+{
+    match place {
+        Some(place) => Some(PartSpan {
+            part: Part::Reference,
+            span: place.span,
+        }),
+        None => None,
+    }
+}
+
+/// The place of a fault of the reference.
+fn reference_place(fault: CompileFault) -> Option<PartSpan>
+    ensures { result ≡ reference_place fault }
+{
+    match fault {
+        CompileFault::Text(fault) => in_reference(text_place(fault)),
+        CompileFault::Check(fault) => in_reference(check_place(fault)),
+        CompileFault::Program(_) | CompileFault::Build(_) => None,
+    }
+}
+
 /// The place of a fault in its part, or none. Faults of programs, schedules, histories, orders, tallies and menus are at one
 /// byte. Limits of whole texts, faults of a run and faults of the streams have no place.
 pub fn place_of(fault: ToolFault) -> Option<PartSpan>
@@ -196,6 +224,12 @@ pub fn place_of(fault: ToolFault) -> Option<PartSpan>
         ToolFault::Order(fault) => order_place(fault),
         ToolFault::Tally(fault) => tally_place(fault),
         ToolFault::BadEntry { at } => at_byte(Part::Menu, at),
+        ToolFault::Specification(fault) => reference_place(fault),
+        ToolFault::UnlikeSpecification { at } => at_byte(Part::Program, at),
+        ToolFault::LacksMethod(span) => Some(PartSpan {
+            part: Part::Reference,
+            span,
+        }),
         _ => None,
     }
 }

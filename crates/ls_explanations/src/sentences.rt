@@ -138,6 +138,12 @@ pub(crate) fn sentence(fault: ToolFault, classes: &[u8]) -> &'static str
         ToolFault::BadEntry { at: _ } => {
             "expected calls of the class without the object, as `lock(#); unlock(#)`: `#` is the thread's number\n"
         }
+        ToolFault::UnlikeSpecification { at: _ } => {
+            "the reference has no such call, or it answers another type there: name a class text with the same methods\n"
+        }
+        ToolFault::LacksMethod(_) => {
+            "the class lacks this method of the reference, or takes or answers other types there\n"
+        }
         ToolFault::BadOptions => "these options don't go together, or not with so many parts\n",
         other => limit_sentence(other),
     }

@@ -15,24 +15,26 @@ use Rattle.ls_faults.specs.Given.{GivesText}
 use Rattle.ls_explore_commands.specs.Verdicts.{Decided, IsRefusalOf, IsTold, TooLong}
 
 -- a schedule that is too long
-pub too_long : (i : Image) (limit : ℕ) (steps : List ℕ) (f : TranslationFault) → IsRefusalOf steps f →
+pub too_long : (sfile : File) (sprogram : Program) (i : Image) (limit : ℕ) (steps : List ℕ) (f : TranslationFault) →
+    IsRefusalOf steps f →
     ¬ AreBadStates limit →
-    IsTold i steps →
-    GivesText (Decided i limit) (Err (lifted_translation f))
-too_long i limit steps translation.Memory only good told = tt
-too_long i limit steps translation.BadCells (inl wrong) good told = absurd cc
-too_long i limit steps translation.BadCells (inr wrong) good told = let e = wrong.0 in absurd cc
-too_long i limit steps (translation.DoesNotFit step) (inl wrong) good told = absurd cc
-too_long i limit steps (translation.DoesNotFit step) (inr wrong) good told = let e = wrong.0 in absurd cc
-too_long i limit steps translation.ResultTooLong (inl wrong) good told = absurd cc
-too_long i limit steps translation.ResultTooLong (inr long) good told = TooLong steps good told long.1
+    IsTold sfile sprogram i steps →
+    GivesText (Decided sfile sprogram i limit) (Err (lifted_translation f))
+too_long sfile sprogram i limit steps translation.Memory only good told = tt
+too_long sfile sprogram i limit steps translation.BadCells (inl wrong) good told = absurd cc
+too_long sfile sprogram i limit steps translation.BadCells (inr wrong) good told = let e = wrong.0 in absurd cc
+too_long sfile sprogram i limit steps (translation.DoesNotFit step) (inl wrong) good told = absurd cc
+too_long sfile sprogram i limit steps (translation.DoesNotFit step) (inr wrong) good told = let e = wrong.0 in absurd cc
+too_long sfile sprogram i limit steps translation.ResultTooLong (inl wrong) good told = absurd cc
+too_long sfile sprogram i limit steps translation.ResultTooLong (inr long) good told = TooLong steps good told long.1
 
 pub not_both : {b : Bool} → b ≡ true → b ≡ false → ⊥
 not_both e f = cc
 
 -- an equal text says the same
-pub tells : (i : Image) (limit : ℕ) (t u : Text) → t ≡ u → Decided i limit (Ok u) → Decided i limit (Ok t)
-tells i limit t u e d = subst (λ x. Decided i limit (Ok x)) (sym e) d
+pub tells : (sfile : File) (sprogram : Program) (i : Image) (limit : ℕ) (t u : Text) → t ≡ u →
+    Decided sfile sprogram i limit (Ok u) → Decided sfile sprogram i limit (Ok t)
+tells sfile sprogram i limit t u e d = subst (λ x. Decided sfile sprogram i limit (Ok x)) (sym e) d
 
 -- of equal things an equal text is made
 pub same_text : (make : Names → List Text → List ℕ → ℕ → Bool → Text) (t : Text) (ns ns' : Names)

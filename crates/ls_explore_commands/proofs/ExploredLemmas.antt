@@ -39,7 +39,7 @@ use Rattle.ls_explore_reports.specs.Cuts.{IsExploredText, IsSo}
 use Rattle.ls_explore_commands.specs.Readable.{SourceRunsAreReadable}
 
 -- if a number of cells was asked for, complete rows tell of all schedules that fit
-all_that_fit : (file : File) (program : Program) (count : Option ℕ) (limit k : ℕ) (rows : List Told) (kept : ℕ)
+pub all_that_fit : (file : File) (program : Program) (count : Option ℕ) (limit k : ℕ) (rows : List Told) (kept : ℕ)
     (complete roomy : Bool) →
     TellBy count file program limit k rows kept complete roomy →
     (cells : ℕ) →

@@ -16,7 +16,7 @@ use Rattle.ls_commands.specs.Compiled.{AnswersOn, names_of_image}
 use Rattle.ls_fewest_switches.specs.Switches.{HasFewest, HasFewestStuck}
 use Rattle.ls_search_laws.specs.Stepping.{ActAll, SetsUp}
 use Rattle.ls_serial_search.specs.declared.telling.Doubt.{Doubt}
-use Rattle.ls_source_judge.specs.Judged.{AllLinearizable, IsBadRun, IsSimplestBad, IsStuckRun, IsUnjudged}
+use Rattle.ls_source_judge.specs.Judged.{AllLike, IsSimplestUnlike, IsStuckRun, IsUnjudgedRun, IsUnlikeRun}
 use Rattle.ls_spinning.specs.Turning.{NeverTurns, TurnsForEver}
 use Rattle.ls_search.specs.Verdicts.{AreAll, AreReached, IsCut, NeverStuck}
 use Rattle.ls_explore_reports.specs.ImageNames.{names_in}
@@ -36,40 +36,42 @@ pub record IsExtent (file : File) (program : Program) (limit states : ℕ) (comp
   pub reached : AreReached file program setup states
   pub all : complete ≡ true → AreAll file program setup states
 
--- What is told of a schedule: its history isn't linearizable, or it isn't known whether it is, or after it no thread
--- acts, and one waits for a lock.
-pub data IsTold (i : Image) (schedule : List ℕ) : Type 0 where
-  Bad : IsBadRun (file_of i) (program_of i) schedule → IsTold i schedule
-  Unjudged : (doubt : Doubt) → IsUnjudged (file_of i) (program_of i) doubt schedule → IsTold i schedule
-  Stuck : IsStuckRun (file_of i) (program_of i) schedule → IsTold i schedule
+-- What is told of a schedule: its history isn't linearizable to a specification, or it isn't known whether it is, or
+-- after it no thread acts, and one waits for a lock.
+pub data IsTold (sfile : File) (sprogram : Program) (i : Image) (schedule : List ℕ) : Type 0 where
+  Bad : IsUnlikeRun sfile sprogram (file_of i) (program_of i) schedule → IsTold sfile sprogram i schedule
+  Unjudged : (doubt : Doubt) → IsUnjudgedRun sfile sprogram (file_of i) (program_of i) doubt schedule →
+      IsTold sfile sprogram i schedule
+  Stuck : IsStuckRun (file_of i) (program_of i) schedule → IsTold sfile sprogram i schedule
 
 -- memory ran out, or these are more steps than a schedule may have
 abbrev pub IsRefusalOf : List ℕ → TranslationFault → Type 0
 IsRefusalOf steps f = (f ≡ translation.Memory) ⊎ ((f ≡ translation.ResultTooLong) × (most_steps < length steps))
 
--- The text of a verdict, or why there is none. If all states were kept, it is said of each schedule, of any length. If the
--- context switches of a run are printed, no schedule that is wrong so has fewer, of any length. Of a history of which it
--- isn't known whether it is linearizable, no schedule with this history has fewer. Each step of a schedule that is printed
--- acts, and the schedule is read as it is printed.
-pub data Decided (i : Image) (limit : ℕ) : Result Text ToolFault → Type 0 where
-  NoStates : AreBadStates limit → Decided i limit (Err (faults.Explore explore.BadStates))
+-- The text of a verdict by a specification, or why there is none. If all states were kept, it is said of each schedule,
+-- of any length. If the context switches of a run are printed, no schedule that is wrong so has fewer, of any length.
+-- Of a history of which it isn't known whether it is linearizable, no schedule with this history has fewer. Each step
+-- of a schedule that is printed acts, and the schedule is read as it is printed.
+pub data Decided (sfile : File) (sprogram : Program) (i : Image) (limit : ℕ) : Result Text ToolFault → Type 0 where
+  NoStates : AreBadStates limit → Decided sfile sprogram i limit (Err (faults.Explore explore.BadStates))
   -- the history of this schedule isn't linearizable
   IsBad : (schedule : List ℕ) (fewest : Bool) (states : ℕ) (complete : Bool) →
       ¬ AreBadStates limit →
       IsExtent (file_of i) (program_of i) limit states complete →
-      IsBadRun (file_of i) (program_of i) schedule →
+      IsUnlikeRun sfile sprogram (file_of i) (program_of i) schedule →
       IsReadBack i schedule →
-      (fewest ≡ true → IsSimplestBad (file_of i) (program_of i) schedule) →
-      Decided i limit (Ok (bad_text fewest (names_in i) (names_of_image i) schedule states complete))
+      (fewest ≡ true → IsSimplestUnlike sfile sprogram (file_of i) (program_of i) schedule) →
+      Decided sfile sprogram i limit (Ok (bad_text fewest (names_in i) (names_of_image i) schedule states complete))
   -- no serial history that was found explains it, and some may not have been found, for this reason
   IsDoubtful : (doubt : Doubt) (schedule : List ℕ) (fewest : Bool) (states : ℕ) (complete : Bool) →
       ¬ AreBadStates limit →
       IsExtent (file_of i) (program_of i) limit states complete →
-      IsUnjudged (file_of i) (program_of i) doubt schedule →
+      IsUnjudgedRun sfile sprogram (file_of i) (program_of i) doubt schedule →
       IsReadBack i schedule →
       (complete ≡ true → NeverStuck (file_of i) (program_of i)) →
       (fewest ≡ true → HasFewest false (file_of i) (program_of i) schedule) →
-      Decided i limit (Ok (doubtful_text doubt fewest (names_in i) (names_of_image i) schedule states complete))
+      Decided sfile sprogram i limit
+      (Ok (doubtful_text doubt fewest (names_in i) (names_of_image i) schedule states complete))
   -- the same of this schedule, and after the first no thread acts, and one waits for a lock
   IsStuckAndDoubtful : (stuck : List ℕ) (stuck_fewest : Bool) (doubt : Doubt) (schedule : List ℕ) (fewest : Bool)
       (states : ℕ) (complete : Bool) →
@@ -77,12 +79,13 @@ pub data Decided (i : Image) (limit : ℕ) : Result Text ToolFault → Type 0 wh
       IsExtent (file_of i) (program_of i) limit states complete →
       IsStuckRun (file_of i) (program_of i) stuck →
       IsReadBack i stuck →
-      IsUnjudged (file_of i) (program_of i) doubt schedule →
+      IsUnjudgedRun sfile sprogram (file_of i) (program_of i) doubt schedule →
       IsReadBack i schedule →
       (stuck_fewest ≡ true → HasFewestStuck (file_of i) (program_of i) stuck) →
       (fewest ≡ true → HasFewest false (file_of i) (program_of i) schedule) →
-      Decided i limit (Ok (stuck_and_doubtful_text stuck stuck_fewest doubt fewest (names_in i) (names_of_image i)
-      schedule states complete))
+      Decided sfile sprogram i limit
+      (Ok (stuck_and_doubtful_text stuck stuck_fewest doubt fewest (names_in i) (names_of_image i) schedule states
+      complete))
   -- after this schedule no thread acts, and one waits for a lock
   IsStuck : (schedule : List ℕ) (fewest : Bool) (states : ℕ) (complete : Bool) →
       ¬ AreBadStates limit →
@@ -90,8 +93,8 @@ pub data Decided (i : Image) (limit : ℕ) : Result Text ToolFault → Type 0 wh
       IsStuckRun (file_of i) (program_of i) schedule →
       IsReadBack i schedule →
       (fewest ≡ true → HasFewestStuck (file_of i) (program_of i) schedule) →
-      (complete ≡ true → AllLinearizable (file_of i) (program_of i)) →
-      Decided i limit (Ok (stuck_text fewest (names_in i) (names_of_image i) schedule states complete))
+      (complete ≡ true → AllLike sfile sprogram (file_of i) (program_of i)) →
+      Decided sfile sprogram i limit (Ok (stuck_text fewest (names_in i) (names_of_image i) schedule states complete))
   -- after this schedule some thread always acts, and no event comes any more
   IsTurning : (schedule : List ℕ) (states : ℕ) (complete : Bool) →
       ¬ AreBadStates limit →
@@ -99,29 +102,30 @@ pub data Decided (i : Image) (limit : ℕ) : Result Text ToolFault → Type 0 wh
       ActAll (file_of i) (program_of i) schedule →
       TurnsForEver (file_of i) (program_of i) schedule →
       IsReadBack i schedule →
-      (complete ≡ true → AllLinearizable (file_of i) (program_of i)) →
+      (complete ≡ true → AllLike sfile sprogram (file_of i) (program_of i)) →
       (complete ≡ true → NeverStuck (file_of i) (program_of i)) →
-      Decided i limit (Ok (turning_text false (names_in i) (names_of_image i) schedule states complete))
+      Decided sfile sprogram i limit (Ok (turning_text false (names_in i) (names_of_image i) schedule states complete))
   -- it isn't known whether threads can turn for ever
   IsUnsure : (states : ℕ) (complete : Bool) →
       ¬ AreBadStates limit →
       IsExtent (file_of i) (program_of i) limit states complete →
-      (complete ≡ true → AllLinearizable (file_of i) (program_of i)) →
+      (complete ≡ true → AllLike sfile sprogram (file_of i) (program_of i)) →
       (complete ≡ true → NeverStuck (file_of i) (program_of i)) →
-      Decided i limit (Ok (unsure_text states complete))
+      Decided sfile sprogram i limit (Ok (unsure_text states complete))
   IsFree : (states : ℕ) (complete : Bool) →
       ¬ AreBadStates limit →
       IsExtent (file_of i) (program_of i) limit states complete →
-      (complete ≡ true → AllLinearizable (file_of i) (program_of i)) →
+      (complete ≡ true → AllLike sfile sprogram (file_of i) (program_of i)) →
       (complete ≡ true → NeverStuck (file_of i) (program_of i)) →
       (complete ≡ true → NeverTurns (file_of i) (program_of i)) →
-      Decided i limit (Ok (free_text states complete))
+      Decided sfile sprogram i limit (Ok (free_text states complete))
   -- the schedule that was found has more steps than a schedule may have
   TooLong : (schedule : List ℕ) →
       ¬ AreBadStates limit →
-      IsTold i schedule →
+      IsTold sfile sprogram i schedule →
       most_steps < length schedule →
-      Decided i limit (Err (faults.Translation translation.ResultTooLong))
+      Decided sfile sprogram i limit (Err (faults.Translation translation.ResultTooLong))
 
 abbrev pub VerdictsTo : ℕ → Text → Text → Result Text ToolFault → Type 0
-VerdictsTo limit classes program answer = AnswersOn classes program (λ i. Decided i limit) answer
+VerdictsTo limit classes program answer =
+    AnswersOn classes program (λ i. Decided (file_of i) (program_of i) i limit) answer

@@ -1,11 +1,16 @@
 // What `explore --verdict` says.
 
 ghost use Rattle.std.specs.Prelude.{◌↔◌, ◌≡◌, ℕ, IfNone, IfOk, IfSome, IsTrue};
+ghost use Rattle.ls_checked.specs.CheckedTree.{File as FileValue};
+ghost use Rattle.ls_checked.specs.CheckedProgram.{Program as ProgramValue};
 ghost use Rattle.ls_explore.specs.Faults.{AreBadStates};
 ghost use Rattle.ls_faults.specs.Given.{GivesText};
 ghost use Rattle.ls_explore_commands.specs.Readable.{AreReadBack};
+ghost use Rattle.ls_commands.specs.Likeness.{AnswersLike};
+ghost use Rattle.ls_explore_commands.specs.Likeness.{VerdictsLike};
 ghost use Rattle.ls_explore_commands.specs.Verdicts.{Decided, IsExtent, VerdictsTo};
-ghost use Rattle.ls_source_judge.specs.Judged.{AllLinearizable, IsBadRun, IsStuckRun, IsUnjudged};
+ghost use Rattle.ls_source_judge.specs.Judged.{AllLike, IsStuckRun, IsUnjudgedRun, IsUnlikeRun};
+ghost use Rattle.ls_specification.specs.Specification.{spec_file, spec_program};
 ghost use Rattle.ls_spinning.specs.Told.{IsTurning};
 ghost use Rattle.ls_spinning.specs.Turning.{NeverTurns, TurnsForEver};
 ghost use Rattle.ls_search.specs.Verdicts.{NeverStuck};
@@ -25,6 +30,8 @@ use ls_faults::fault::ToolFault;
 use ls_image::image::Image;
 use ls_serial_search::telling::Doubt;
 use ls_source_judge::{Judged, judge_schedules};
+use ls_specification::Specification;
+use ls_specified::specified;
 use ls_spinning::{Turning, find_turning};
 use std::alloc::{AllocError, Global};
 
@@ -49,6 +56,7 @@ fn extent_of(judged: &Judged) -> Extent
 /// The text of a schedule whose history isn't linearizable.
 fn bad_answer(
     alloc: Global,
+    specification: Specification<'_>,
     image: &Image,
     judged: &Judged,
     steps: &[u8],
@@ -56,10 +64,11 @@ fn bad_answer(
     requires { AreReadBack image.now }
     ensures { (limit : ℕ) → ¬ AreBadStates limit →
         IsExtent (file_of image.now) (program_of image.now) limit judged.now.states judged.now.complete →
-        IsBadRun (file_of image.now) (program_of image.now) steps.now →
-        GivesText (Decided image.now limit) result }
+        IsUnlikeRun (spec_file specification.entry) (spec_program specification.entry)
+        (file_of image.now) (program_of image.now) steps.now →
+        GivesText (Decided (spec_file specification.entry) (spec_program specification.entry) image.now limit) result }
 {
-    let run = bad_run(alloc, image, steps)?;
+    let run = bad_run(alloc, specification, image, steps)?;
     let text = print_bad(alloc, names_in(image), &run, extent_of(judged))?;
     Ok(text)
 }
@@ -73,11 +82,11 @@ fn doubtful_answer(
     steps: &[u8],
 ) -> Result<String, ToolFault>
     requires { AreReadBack image.now }
-    ensures { (limit : ℕ) → ¬ AreBadStates limit →
+    ensures { (sfile : FileValue) (sprogram : ProgramValue) (limit : ℕ) → ¬ AreBadStates limit →
         IsExtent (file_of image.now) (program_of image.now) limit judged.now.states judged.now.complete →
-        IsUnjudged (file_of image.now) (program_of image.now) doubt steps.now →
+        IsUnjudgedRun sfile sprogram (file_of image.now) (program_of image.now) doubt steps.now →
         (IsTrue judged.now.complete → NeverStuck (file_of image.now) (program_of image.now)) →
-        GivesText (Decided image.now limit) result }
+        GivesText (Decided sfile sprogram image.now limit) result }
 {
     let run = run_along(alloc, image, steps)?;
     let text = print_doubtful(alloc, names_in(image), doubt, &run, extent_of(judged))?;
@@ -94,11 +103,11 @@ fn stuck_and_doubtful_answer(
     steps: &[u8],
 ) -> Result<String, ToolFault>
     requires { AreReadBack image.now }
-    ensures { (limit : ℕ) → ¬ AreBadStates limit →
+    ensures { (sfile : FileValue) (sprogram : ProgramValue) (limit : ℕ) → ¬ AreBadStates limit →
         IsExtent (file_of image.now) (program_of image.now) limit judged.now.states judged.now.complete →
         IsStuckRun (file_of image.now) (program_of image.now) stuck.now →
-        IsUnjudged (file_of image.now) (program_of image.now) doubt steps.now →
-        GivesText (Decided image.now limit) result }
+        IsUnjudgedRun sfile sprogram (file_of image.now) (program_of image.now) doubt steps.now →
+        GivesText (Decided sfile sprogram image.now limit) result }
 {
     let first = stuck_run(alloc, image, stuck)?;
     let run = run_along(alloc, image, steps)?;
@@ -115,11 +124,11 @@ fn stuck_answer(
     steps: &[u8],
 ) -> Result<String, ToolFault>
     requires { AreReadBack image.now }
-    ensures { (limit : ℕ) → ¬ AreBadStates limit →
+    ensures { (sfile : FileValue) (sprogram : ProgramValue) (limit : ℕ) → ¬ AreBadStates limit →
         IsExtent (file_of image.now) (program_of image.now) limit judged.now.states judged.now.complete →
         IsStuckRun (file_of image.now) (program_of image.now) steps.now →
-        (IsTrue judged.now.complete → AllLinearizable (file_of image.now) (program_of image.now)) →
-        GivesText (Decided image.now limit) result }
+        (IsTrue judged.now.complete → AllLike sfile sprogram (file_of image.now) (program_of image.now)) →
+        GivesText (Decided sfile sprogram image.now limit) result }
 {
     let run = stuck_run(alloc, image, steps)?;
     let text = print_stuck(alloc, names_in(image), &run, extent_of(judged))?;
@@ -128,25 +137,33 @@ fn stuck_answer(
 
 /// The text that no run is wrong.
 fn free_answer(alloc: Global, image: &Image, judged: &Judged) -> Result<String, ToolFault>
-    ensures { (limit : ℕ) → ¬ AreBadStates limit →
+    ensures { (sfile : FileValue) (sprogram : ProgramValue) (limit : ℕ) → ¬ AreBadStates limit →
         IsExtent (file_of image.now) (program_of image.now) limit judged.now.states judged.now.complete →
-        (IsTrue judged.now.complete → AllLinearizable (file_of image.now) (program_of image.now)) →
+        (IsTrue judged.now.complete → AllLike sfile sprogram (file_of image.now) (program_of image.now)) →
         (IsTrue judged.now.complete → NeverStuck (file_of image.now) (program_of image.now)) →
         (IsTrue judged.now.complete → NeverTurns (file_of image.now) (program_of image.now)) →
-        GivesText (Decided image.now limit) result }
+        GivesText (Decided sfile sprogram image.now limit) result }
 {
     let text = print_free(alloc, extent_of(judged))?;
     Ok(text)
 }
 
 /// What all schedules of an image's program tell, of which at most so many states are kept.
-fn judged_of(alloc: Global, image: &Image, states: usize) -> Result<Judged, AllocError>
+fn judged_of(
+    alloc: Global,
+    specification: Specification<'_>,
+    image: &Image,
+    states: usize,
+) -> Result<Judged, AllocError>
     ensures good { IfOk result (λ j. IsTrue j.complete → IfNone j.bad
-        (AllLinearizable (file_of image.now) (program_of image.now))) }
+        (AllLike (spec_file specification.entry) (spec_program specification.entry)
+        (file_of image.now) (program_of image.now))) }
     ensures bad { IfOk result (λ j. IfNone j.doubt (IfSome j.bad (λ s.
-        IsBadRun (file_of image.now) (program_of image.now) s.items))) }
+        IsUnlikeRun (spec_file specification.entry) (spec_program specification.entry)
+        (file_of image.now) (program_of image.now) s.items))) }
     ensures unjudged { IfOk result (λ j. IfSome j.doubt (λ d. IfSome j.bad (λ s.
-        IsUnjudged (file_of image.now) (program_of image.now) d s.items))) }
+        IsUnjudgedRun (spec_file specification.entry) (spec_program specification.entry)
+        (file_of image.now) (program_of image.now) d s.items))) }
     ensures free { IfOk result (λ j. IsTrue j.complete → IfNone j.stuck
         (NeverStuck (file_of image.now) (program_of image.now))) }
     ensures stuck { IfOk result (λ j. IfSome j.stuck (λ s.
@@ -154,7 +171,8 @@ fn judged_of(alloc: Global, image: &Image, states: usize) -> Result<Judged, Allo
     ensures extent { IfOk result (λ j.
         IsExtent (file_of image.now) (program_of image.now) states j.states j.complete) }
 {
-    let judged = judge_schedules(alloc, image.checked().file(), image.program(), states)?;
+    let file = image.checked().file();
+    let judged = judge_schedules(alloc, specification, file, image.program(), states)?;
     Ok(judged)
 }
 
@@ -167,13 +185,13 @@ fn doubted_answer(
     steps: &[u8],
 ) -> Result<String, ToolFault>
     requires { AreReadBack image.now }
-    ensures { (limit : ℕ) → ¬ AreBadStates limit →
+    ensures { (sfile : FileValue) (sprogram : ProgramValue) (limit : ℕ) → ¬ AreBadStates limit →
         IsExtent (file_of image.now) (program_of image.now) limit judged.now.states judged.now.complete →
-        IsUnjudged (file_of image.now) (program_of image.now) doubt steps.now →
+        IsUnjudgedRun sfile sprogram (file_of image.now) (program_of image.now) doubt steps.now →
         (IsTrue judged.now.complete → IfNone judged.now.stuck
         (NeverStuck (file_of image.now) (program_of image.now))) →
         IfSome judged.now.stuck (λ stuck. IsStuckRun (file_of image.now) (program_of image.now) stuck.items) →
-        GivesText (Decided image.now limit) result }
+        GivesText (Decided sfile sprogram image.now limit) result }
 {
     match &judged.stuck {
         Some(stuck) => stuck_and_doubtful_answer(
@@ -191,6 +209,7 @@ fn doubted_answer(
 /// The text of a schedule whose history no serial history explains that was found.
 fn wrong_answer(
     alloc: Global,
+    specification: Specification<'_>,
     image: &Image,
     judged: &Judged,
     steps: &[u8],
@@ -198,16 +217,18 @@ fn wrong_answer(
     requires { AreReadBack image.now }
     ensures { (limit : ℕ) → ¬ AreBadStates limit →
         IsExtent (file_of image.now) (program_of image.now) limit judged.now.states judged.now.complete →
-        IfNone judged.now.doubt (IsBadRun (file_of image.now) (program_of image.now) steps.now) →
-        IfSome judged.now.doubt (λ d. IsUnjudged (file_of image.now) (program_of image.now) d steps.now) →
+        IfNone judged.now.doubt (IsUnlikeRun (spec_file specification.entry) (spec_program specification.entry)
+        (file_of image.now) (program_of image.now) steps.now) →
+        IfSome judged.now.doubt (λ d. IsUnjudgedRun (spec_file specification.entry) (spec_program specification.entry)
+        (file_of image.now) (program_of image.now) d steps.now) →
         (IsTrue judged.now.complete → IfNone judged.now.stuck
         (NeverStuck (file_of image.now) (program_of image.now))) →
         IfSome judged.now.stuck (λ stuck. IsStuckRun (file_of image.now) (program_of image.now) stuck.items) →
-        GivesText (Decided image.now limit) result }
+        GivesText (Decided (spec_file specification.entry) (spec_program specification.entry) image.now limit) result }
 {
     match judged.doubt {
         Some(doubt) => doubted_answer(alloc, image, judged, doubt, steps),
-        None => bad_answer(alloc, image, judged, steps),
+        None => bad_answer(alloc, specification, image, judged, steps),
     }
 }
 
@@ -219,12 +240,12 @@ fn turning_answer(
     found: &Schedule,
 ) -> Result<String, ToolFault>
     requires { AreReadBack image.now }
-    ensures { (limit : ℕ) → ¬ AreBadStates limit →
+    ensures { (sfile : FileValue) (sprogram : ProgramValue) (limit : ℕ) → ¬ AreBadStates limit →
         IsExtent (file_of image.now) (program_of image.now) limit judged.now.states judged.now.complete →
         TurnsForEver (file_of image.now) (program_of image.now) found.now →
-        (IsTrue judged.now.complete → AllLinearizable (file_of image.now) (program_of image.now)) →
+        (IsTrue judged.now.complete → AllLike sfile sprogram (file_of image.now) (program_of image.now)) →
         (IsTrue judged.now.complete → NeverStuck (file_of image.now) (program_of image.now)) →
-        GivesText (Decided image.now limit) result }
+        GivesText (Decided sfile sprogram image.now limit) result }
 {
     let run = turning_run(alloc, image, found)?;
     let text = print_turning(alloc, names_in(image), &run, extent_of(judged))?;
@@ -243,11 +264,11 @@ fn turning_of(alloc: Global, image: &Image, states: usize) -> Result<Turning, Al
 
 /// The text where it isn't known whether threads can turn for ever.
 fn unsure_answer(alloc: Global, image: &Image, judged: &Judged) -> Result<String, ToolFault>
-    ensures { (limit : ℕ) → ¬ AreBadStates limit →
+    ensures { (sfile : FileValue) (sprogram : ProgramValue) (limit : ℕ) → ¬ AreBadStates limit →
         IsExtent (file_of image.now) (program_of image.now) limit judged.now.states judged.now.complete →
-        (IsTrue judged.now.complete → AllLinearizable (file_of image.now) (program_of image.now)) →
+        (IsTrue judged.now.complete → AllLike sfile sprogram (file_of image.now) (program_of image.now)) →
         (IsTrue judged.now.complete → NeverStuck (file_of image.now) (program_of image.now)) →
-        GivesText (Decided image.now limit) result }
+        GivesText (Decided sfile sprogram image.now limit) result }
 {
     let text = print_unsure(alloc, extent_of(judged))?;
     Ok(text)
@@ -261,11 +282,11 @@ fn quiet_answer(
     states: usize,
 ) -> Result<String, ToolFault>
     requires { AreReadBack image.now }
-    ensures { (limit : ℕ) → ¬ AreBadStates limit →
+    ensures { (sfile : FileValue) (sprogram : ProgramValue) (limit : ℕ) → ¬ AreBadStates limit →
         IsExtent (file_of image.now) (program_of image.now) limit judged.now.states judged.now.complete →
-        (IsTrue judged.now.complete → AllLinearizable (file_of image.now) (program_of image.now)) →
+        (IsTrue judged.now.complete → AllLike sfile sprogram (file_of image.now) (program_of image.now)) →
         (IsTrue judged.now.complete → NeverStuck (file_of image.now) (program_of image.now)) →
-        GivesText (Decided image.now limit) result }
+        GivesText (Decided sfile sprogram image.now limit) result }
 {
     if !judged.complete {
         return free_answer(alloc, image, judged);
@@ -278,16 +299,22 @@ fn quiet_answer(
 }
 
 /// The text of what all schedules of an image's program tell.
-fn decided(alloc: Global, image: &Image, states: usize) -> Result<String, ToolFault>
+fn decided(
+    alloc: Global,
+    specification: Specification<'_>,
+    image: &Image,
+    states: usize,
+) -> Result<String, ToolFault>
     requires { AreReadBack image.now }
-    ensures { GivesText (Decided image.now states) result }
+    ensures { GivesText (Decided (spec_file specification.entry) (spec_program specification.entry)
+        image.now states) result }
 {
     if are_bad_states(states) {
         return Err(ToolFault::Explore(ExploreFault::BadStates));
     }
-    let judged = judged_of(alloc, image, states)?;
+    let judged = judged_of(alloc, specification, image, states)?;
     match &judged.bad {
-        Some(steps) => wrong_answer(alloc, image, &judged, steps.as_slice()),
+        Some(steps) => wrong_answer(alloc, specification, image, &judged, steps.as_slice()),
         None => match &judged.stuck {
             Some(steps) => stuck_answer(alloc, image, &judged, steps.as_slice()),
             None => quiet_answer(alloc, image, &judged, states),
@@ -295,17 +322,50 @@ fn decided(alloc: Global, image: &Image, states: usize) -> Result<String, ToolFa
     }
 }
 
+/// The same by the program of another image.
+fn decided_like(
+    alloc: Global,
+    image: &Image,
+    like: &Image,
+    states: usize,
+) -> Result<String, ToolFault>
+    requires { AreReadBack image.now }
+    ensures { GivesText (Decided (file_of like.now) (program_of like.now) image.now states) result }
+{
+    let specification = Specification::own(like.checked().file(), like.program());
+    decided(alloc, specification, image, states)
+}
+
+/// The same by a class text, which specifies the program of a text.
+fn decided_by(
+    alloc: Global,
+    image: &Image,
+    like: &str,
+    program: &str,
+    states: usize,
+) -> Result<String, ToolFault>
+    requires { AreReadBack image.now }
+    ensures { GivesText (AnswersLike like.now program.now image.now
+        (λ s. Decided (file_of s) (program_of s) image.now states)) result }
+{
+    match specified(alloc, like, program, image.program()) {
+        Ok(specification) => decided_like(alloc, image, &specification, states),
+        Err(fault) => Err(ToolFault::from(fault)),
+    }
+}
+
 /// A wrong run of the compiled program, over all schedules of source steps, where at most so many states of the source
-/// are kept: its schedule and its history. Of the schedules with its history it is one with the fewest context switches,
-/// if at most 1,000,000 states are needed to find it. A run is wrong if its history isn't linearizable, or else if no
-/// thread acts after it and one waits. Else it is one after which threads turn for ever: some thread always acts, and no
-/// event comes any more. Or that there is none. The last line has how many states were kept, and whether these are all.
+/// are kept: its schedule and its history. Of the schedules with its history it is one with the fewest context
+/// switches, if at most 1,000,000 states are needed to find it. A run is wrong if its history isn't linearizable, or
+/// else if no thread acts after it and one waits. Else it is one after which threads turn for ever: some thread always
+/// acts, and no event comes any more. Or that there is none. The last line has how many states were kept, and whether
+/// these are all.
 ///
 /// A run after which threads turn for ever is looked for only where all states were kept, with at most twice as many
 /// states. If these don't suffice, it is said that threads may turn for ever.
 ///
-/// If serial histories lack, a run that none of the others explains is printed as not judged, with the reason; before it
-/// one after which threads wait, if there is such a run.
+/// If serial histories lack, a run that none of the others explains is printed as not judged, with the reason; before
+/// it one after which threads wait, if there is such a run.
 ///
 /// Refused as `compile` is; else with 61 if no states may be kept, or more than 16,777,216; and as a schedule of over
 /// 1,000,000 steps is.
@@ -319,5 +379,20 @@ pub fn verdict(
 {
     let image = compile(alloc, classes, program)?;
     verdicts_read_back();
-    decided(alloc, &image, states)
+    decided_like(alloc, &image, &image, states)
+}
+
+/// The same by a specification, whose class text is given. Refused also as that is with the program.
+pub fn verdict_like(
+    alloc: Global,
+    states: usize,
+    like: &str,
+    classes: &str,
+    program: &str,
+) -> Result<String, ToolFault>
+    ensures { GivesText (VerdictsLike states like.now classes.now program.now) result }
+{
+    let image = compile(alloc, classes, program)?;
+    verdicts_read_back();
+    decided_by(alloc, &image, like, program, states)
 }

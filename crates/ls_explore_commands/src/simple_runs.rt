@@ -1,12 +1,15 @@
 // Runs that are told, each with few context switches.
 
 ghost use Rattle.std.specs.Prelude.{◌≡◌, IfErr, IfOk, true, false};
+ghost use Rattle.ls_checked.specs.CheckedTree.{File as FileValue};
+ghost use Rattle.ls_checked.specs.CheckedProgram.{Program as ProgramValue};
 ghost use Rattle.ls_explore_commands.specs.Readable.{AreReadBack, IsReadBack};
 ghost use Rattle.ls_explore_commands.specs.Verdicts.{IsRefusalOf};
 ghost use Rattle.ls_fewest_switches.specs.Switches.{HasFewest, HasFewestStuck};
 ghost use Rattle.ls_search_laws.specs.Stepping.{ActAll};
 ghost use Rattle.ls_serial_search.specs.declared.telling.Doubt.{Doubt};
-ghost use Rattle.ls_source_judge.specs.Judged.{IsBadRun, IsSimplestBad, IsStuckRun, IsUnjudged};
+ghost use Rattle.ls_source_judge.specs.Judged.{IsSimplestUnlike, IsStuckRun, IsUnjudgedRun, IsUnlikeRun};
+ghost use Rattle.ls_specification.specs.Specification.{spec_file, spec_program};
 ghost use Rattle.ls_spinning.specs.Turning.{TurnsForEver};
 ghost use Rattle.ls_translation.specs.Texts.{file_of, program_of};
 
@@ -14,6 +17,7 @@ use ls_events::schedule::{MOST_STEPS, Schedule};
 use ls_fewest_switches::{SimpleRun, Target, acting_steps, simplest, simplest_stuck};
 use ls_image::image::Image;
 use ls_source_judge::simplest_unexplained;
+use ls_specification::Specification;
 use ls_translation::fault::TranslationFault;
 use std::alloc::{AllocError, Global};
 
@@ -40,8 +44,9 @@ pub(crate) fn run_along(
 ) -> Result<SimpleRun, TranslationFault>
     requires { AreReadBack image.now }
     ensures unjudged { IfOk result (λ r. (d : Doubt) →
-        IsUnjudged (file_of image.now) (program_of image.now) d steps.now →
-        IsUnjudged (file_of image.now) (program_of image.now) d r.schedule) }
+        (sfile : FileValue) (sprogram : ProgramValue) →
+        IsUnjudgedRun sfile sprogram (file_of image.now) (program_of image.now) d steps.now →
+        IsUnjudgedRun sfile sprogram (file_of image.now) (program_of image.now) d r.schedule) }
     ensures reads { IfOk result (λ r. ActAll (file_of image.now) (program_of image.now) steps.now →
         IsReadBack image.now r.schedule) }
     ensures fewest { IfOk result (λ r. r.fewest ≡ true →
@@ -62,21 +67,27 @@ pub(crate) fn run_along(
 /// A run whose history isn't linearizable, if that of these steps isn't, with the fewest context switches.
 pub(crate) fn bad_run(
     alloc: Global,
+    specification: Specification<'_>,
     image: &Image,
     steps: &[u8],
 ) -> Result<SimpleRun, TranslationFault>
     requires { AreReadBack image.now }
-    ensures bad { IfOk result (λ r. IsBadRun (file_of image.now) (program_of image.now) steps.now →
-        IsBadRun (file_of image.now) (program_of image.now) r.schedule) }
+    ensures bad { IfOk result (λ r.
+        IsUnlikeRun (spec_file specification.entry) (spec_program specification.entry)
+        (file_of image.now) (program_of image.now) steps.now →
+        IsUnlikeRun (spec_file specification.entry) (spec_program specification.entry)
+        (file_of image.now) (program_of image.now) r.schedule) }
     ensures reads { IfOk result (λ r. ActAll (file_of image.now) (program_of image.now) steps.now →
         IsReadBack image.now r.schedule) }
     ensures fewest { IfOk result (λ r. r.fewest ≡ true →
-        IsSimplestBad (file_of image.now) (program_of image.now) r.schedule) }
+        IsSimplestUnlike (spec_file specification.entry) (spec_program specification.entry)
+        (file_of image.now) (program_of image.now) r.schedule) }
     ensures only { IfErr result (IsRefusalOf steps.now) }
 {
     let found = schedule_of(alloc, steps)?;
     let file = image.checked().file();
-    let run = simplest_unexplained(alloc, file, image.program(), &found, MOST_OF_CHANGES)?;
+    let program = image.program();
+    let run = simplest_unexplained(alloc, specification, file, program, &found, MOST_OF_CHANGES)?;
     run.schedule.fits();
     Ok(run)
 }

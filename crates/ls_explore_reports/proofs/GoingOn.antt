@@ -1,12 +1,11 @@
 -- Schedules each of whose steps acts, one step more.
-use Rattle.std.proofs.Common.{◌≡◌, ◌∙◌, ◌+◌, ◌<◌, ◌≤◌, ◌&&◌, ◌++◌, ◌∷◌, ℕ, Bool, true, false, List, []}
-use Rattle.std.proofs.Common.{Option, None, Some, length, take, get_or, arith}
+use Rattle.std.proofs.Common.{◌≡◌, ◌≤◌, ◌&&◌, ◌++◌, ◌∷◌, ℕ, Bool, true, false, List, []}
+use Rattle.std.proofs.Common.{Option, None, Some, length, arith}
 use Rattle.std.specs.Prelude.{is_some}
-use Rattle.std.proofs.Common.{refl, sym, ap, subst}
+use Rattle.std.proofs.Common.{refl, sym, subst}
 use Rattle.ls_checked.specs.CheckedTree.{File}
 use Rattle.ls_checked.specs.CheckedProgram.{Program}
 use Rattle.ls_labels.specs.Names.{Names}
-use Rattle.ls_meaning.specs.declared.step.Did.{Did}
 use Rattle.ls_meaning.specs.Still.{IsActing}
 use Rattle.ls_search.specs.Runs.{progress_at}
 use Rattle.ls_source.specs.Progress.{Progress}

@@ -14,3 +14,4 @@ mod OrdersOfBeginnings
 mod RowsTold
 pub mod Collecting
 mod Flags
+mod RowsLike

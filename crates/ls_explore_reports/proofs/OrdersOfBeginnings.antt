@@ -4,7 +4,6 @@ use Rattle.std.proofs.Math.Seq.{take-append_seam}
 use Rattle.std.proofs.lemmas.List.{map-append, take-map}
 use Rattle.ls_events.specs.declared.event.Event.{Event as RunEvent}
 use Rattle.ls_checked.specs.CheckedProgram.{Program}
-use Rattle.ls_report.specs.Events.{Event}
 use Rattle.ls_report.specs.Printing.{named}
 use Rattle.ls_order_search.proofs.Beginnings.{beginning}
 use Rattle.ls_events.specs.Beginnings.{IsBeginning}

@@ -5,7 +5,7 @@ use Rattle.ls_checked.specs.CheckedTree.{File}
 use Rattle.ls_checked.specs.CheckedProgram.{Program}
 use Rattle.ls_events.specs.declared.event.Event.{Event}
 use Rattle.ls_explore.specs.Rows.{Told}
-use Rattle.ls_explore_reports.specs.Below.{IsBelow}
+use Rattle.ls_explore_reports.specs.Below.{HasNames, IsBelow}
 use Rattle.ls_report.specs.Events.{Text}
 use Rattle.ls_linearizable.specs.Linearizable.{IsLinearizable}
 use Rattle.ls_explore_reports.specs.Rows.{RowsExplain}
@@ -56,6 +56,14 @@ IsToldLinear file program whole rows j = IsLinearity file program whole rows j.r
 -- with orders it is what the command `order` tells of the row's history
 abbrev pub IsToldBelow : Bool → File → Program → Judged → Type 0
 IsToldBelow orders file program j = IsBelow orders file program j.row.history j.below
+
+-- the same by a specification, if the events of the history are calls of its program
+abbrev pub IsToldBelowLike : Bool → File → Program → Judged → Type 0
+IsToldBelowLike orders file program j = HasNames program j.row.history → IsToldBelow orders file program j
+
+-- nothing is said of the row's history as one of a set
+abbrev pub SaysNoSet : Judged → Type 0
+SaysNoSet j = j.verdict ≡ verdicts.NotOneSet
 
 abbrev pub AreMeant : File → Program → List Judged → Type 0
 AreMeant file program judged = All (λ (j : Judged). IsMeant file program usual j.row.history j.linearity) judged

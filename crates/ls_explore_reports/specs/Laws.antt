@@ -8,7 +8,9 @@ use Rattle.ls_meaning.specs.Runs.{State, asked, source_history}
 use Rattle.ls_meaning.specs.declared.step.Asked.TheVariants.{Asks}
 use Rattle.ls_meaning.specs.Still.{IsOver}
 use Rattle.ls_preservation.specs.Same.{Fits}
+use Rattle.ls_explore.specs.Rows.{Told}
 use Rattle.ls_explore.specs.Tellings.{TellAll, TellTruth, TellWhole}
+use Rattle.ls_explore_reports.specs.Linearizable.{RowsAreLinearizable}
 use Rattle.ls_explore_reports.specs.Verdicts.{HasLegalOrder}
 use Rattle.ls_explore_reports.specs.Waiting.{WaitsFor}
 use Rattle.ls_linearizable.specs.Linearizable.{IsLinearizable}
@@ -51,6 +53,31 @@ NoneIsNotLinearizable =
     are_known judged ≡ true → count_not_linearizable judged ≡ 0 → TellTruth file program k (rows_of judged)
     → TellWhole file program (rows_of judged) → (schedule : List ℕ) →
     IsLinearizable file program (source_history file program schedule)
+
+-- Of rows that are judged by a specification: where each is known, and none isn't linearizable to it, and they tell of
+-- every schedule, so is the history of each schedule.
+abbrev pub NoneIsUnlike : Type 0
+NoneIsUnlike =
+    (sfile : File) (sprogram : Program) (file : File) (program : Program) (judged : List Judged) →
+    AreMeant sfile sprogram judged → are_known judged ≡ true → count_not_linearizable judged ≡ 0
+    → TellWhole file program (rows_of judged) → (schedule : List ℕ) →
+    IsLinearizable sfile sprogram (source_history file program schedule)
+
+-- The same, where they tell of every schedule that fits the cells.
+abbrev pub NoneIsUnlikeThatFits : Type 0
+NoneIsUnlikeThatFits =
+    (sfile : File) (sprogram : Program) (file : File) (program : Program) (cells : ℕ) (judged : List Judged) →
+    AreMeant sfile sprogram judged → are_known judged ≡ true → count_not_linearizable judged ≡ 0
+    → TellAll file program cells (rows_of judged) → (schedule : List ℕ) → Fits file program cells schedule →
+    IsLinearizable sfile sprogram (source_history file program schedule)
+
+-- Where the rows tell of every schedule, and the history of each is linearizable to a specification, so is that of each
+-- schedule.
+abbrev pub EachIsLike : Type 0
+EachIsLike =
+    (sfile : File) (sprogram : Program) (file : File) (program : Program) (rows : List Told) →
+    TellWhole file program rows → RowsAreLinearizable sfile sprogram rows → (schedule : List ℕ) →
+    IsLinearizable sfile sprogram (source_history file program schedule)
 
 -- A row that is said to be linearizable is so, and one that is said not to be linearizable isn't.
 abbrev pub LinearityIsMeant : Type 0

@@ -1,7 +1,9 @@
 // What rows and the last line tell, as the contracts of functions that compute nothing.
 
-ghost use Rattle.ls_explore_reports.specs.Laws.{AllWaitForOthers, LinearityIsMeant, NoneIllegal, NoneIllegalThatFits};
-ghost use Rattle.ls_explore_reports.specs.Laws.{NoneIsNotLinearizable, NoneIsNotLinearizableThatFits};
+ghost use Rattle.ls_explore_reports.specs.Laws.{AllWaitForOthers, EachIsLike, LinearityIsMeant, NoneIllegal};
+ghost use Rattle.ls_explore_reports.specs.Laws.{NoneIllegalThatFits};
+ghost use Rattle.ls_explore_reports.specs.Laws.{NoneIsNotLinearizable, NoneIsNotLinearizableThatFits, NoneIsUnlike};
+ghost use Rattle.ls_explore_reports.specs.Laws.{NoneIsUnlikeThatFits};
 
 use crate::decided::{every_schedule_is_linearizable, rows_decide};
 use crate::legal::every_schedule_is_legal;
@@ -35,4 +37,13 @@ pub fn linearity_is_meant()
 /// If no thread acts any more, each thread that a row says to wait does so for what another thread owns.
 pub fn each_waits_for_another()
     ensures { AllWaitForOthers }
+{}
+
+/// If the history of each row of a complete exploration is linearizable to a specification, so is that of each schedule
+/// of the program. That is so if the rows are judged by it, and the last line says `not linearizable 0`. If it says
+/// `complete in these cells`, this is so of each schedule that fits the cells.
+pub fn none_is_unlike()
+    ensures rows { EachIsLike }
+    ensures fitting { NoneIsUnlikeThatFits }
+    ensures judged { NoneIsUnlike }
 {}

@@ -1,6 +1,6 @@
 // What is printed of an exploration.
 
-ghost use Rattle.std.specs.Prelude.{◌≡◌, ◌⊎◌, ◌&&◌, All, IfErr, IfOk, IsErrOf, string_bytes, true};
+ghost use Rattle.std.specs.Prelude.{◌≡◌, ◌⊎◌, ◌&&◌, ◌++◌, All, IfErr, IfOk, IsErrOf, string_bytes, true};
 ghost use Rattle.ls_checked.specs.Plain.{plain_file};
 ghost use Rattle.ls_checked.specs.PlainProgram.{plain_program};
 ghost use Rattle.ls_labels.specs.Names.{names_of};
@@ -10,7 +10,7 @@ ghost use Rattle.ls_explore.specs.Tellings.{TellWhole};
 ghost use Rattle.ls_explore_reports.specs.Cuts.{IsExploredText, IsOfLeast, IsPrinted, IsSo, schedules_of};
 ghost use Rattle.ls_explore_reports.specs.Judged.{rows_of};
 ghost use Rattle.ls_explore_reports.specs.Long.{HasLong};
-ghost use Rattle.ls_explore_reports.specs.Printing.{rows_text, shown};
+ghost use Rattle.ls_explore_reports.specs.Printing.{last_text, rows_text, shown};
 ghost use Rattle.ls_translation.specs.declared.fault.TranslationFault.TheVariants.{Memory, ResultTooLong};
 
 use crate::cutting::{beginning, first_steps, least_if, whole_row};
@@ -129,6 +129,25 @@ pub fn print_exploration(
     ensures long { IsErrOf result ResultTooLong → HasLong found.now.setup (rows_of judged.now) }
 {
     let mut out = printed_rows(alloc, names, found, judged, exploring)?;
+    push_last(&mut out, found.states, judged, found.complete, found.roomy)?;
+    Ok(out)
+}
+
+/// The text of an exploration, each of whose rows is judged alone. Refused as `print_exploration` is.
+pub fn print_rows(
+    alloc: Global,
+    names: Names<'_>,
+    found: &ImageExploration,
+    judged: &[JudgedRow<'_>],
+    exploring: Exploring,
+) -> Result<String, TranslationFault>
+    ensures text { IfOk result (λ text. string_bytes text ≡
+        rows_text (names_of names.entry) (thread_names names.entry.program.now) found.now.setup
+        (shown exploring judged.now) ++ last_text found.now.states judged.now found.now.complete found.now.roomy) }
+    ensures only { IfErr result (λ e. (e ≡ Memory) ⊎ (e ≡ ResultTooLong)) }
+    ensures long { IsErrOf result ResultTooLong → HasLong found.now.setup (rows_of judged.now) }
+{
+    let mut out = shown_rows(alloc, names, found.setup, judged, exploring)?;
     push_last(&mut out, found.states, judged, found.complete, found.roomy)?;
     Ok(out)
 }

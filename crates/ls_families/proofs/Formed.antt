@@ -7,7 +7,7 @@ use Rattle.std.proofs.Math.Nat.{mul-le-mul_right}
 use Rattle.std.proofs.lemmas.Bool.{eq-eqb, eqb-true, true≢false}
 use Rattle.std.proofs.lemmas.List.Elements.{All-contains, All-weaker}
 use Rattle.std.proofs.lemmas.List.Sums.{sum_by-cons, sum_by-le}
-use Rattle.ls_families.specs.Shapes.{Shape, calls_of, fits, rises, shape_of, shapes, with_calls, with_setup, but_setup}
+use Rattle.ls_families.specs.Shapes.{Shape, but_setup, calls_of, fewest, fits, rises, shape_of, shapes, with_calls, with_setup}
 use Rattle.ls_families.specs.Shapes.{with_threads}
 use Rattle.ls_families.specs.Belonging.{IsShapeOf}
 use Rattle.ls_families.specs.declared.shapes.Bounds.{Bounds}
@@ -59,22 +59,22 @@ from_threads b total p k s some h =
 from_setup : (b : Bounds) (total p : ℕ) (s : Shape) →
     0 < b.calls →
     In (with_setup b total p) s →
-    (k : ℕ) × ((2 ≤ k) × (k < 2 + (b.threads + 1 - 2))) × Known b total p k s
+    (k : ℕ) × ((fewest b ≤ k) × (k < fewest b + (b.threads + 1 - fewest b))) × Known b total p k s
 from_setup b total p s some h =
-    let from = from_piece (with_threads b total p) (range_with_len 2 (b.threads + 1 - 2)) s h in
-    (from.0, from_range 2 (b.threads + 1 - 2) from.0 from.1, from_threads b total p from.0 s some from.2)
+    let from = from_piece (with_threads b total p) (range_with_len (fewest b) (b.threads + 1 - fewest b)) s h in
+    (from.0, from_range (fewest b) (b.threads + 1 - fewest b) from.0 from.1, from_threads b total p from.0 s some from.2)
 
 from_calls : (b : Bounds) (total : ℕ) (s : Shape) →
     0 < b.calls →
     In (with_calls b total) s →
-    (p : ℕ) × (p < b.setup + 1) × ((k : ℕ) × ((2 ≤ k) × (k < 2 + (b.threads + 1 - 2))) × Known b total p k s)
+    (p : ℕ) × (p < b.setup + 1) × ((k : ℕ) × ((fewest b ≤ k) × (k < fewest b + (b.threads + 1 - fewest b))) × Known b total p k s)
 from_calls b total s some h =
     let from = from_piece (but_setup b total) (range_with_len 0 (b.setup + 1 - 0)) s h in
     (b.setup - from.0, omega arith, from_setup b total (b.setup - from.0) s some from.2)
 
 pub from_shapes : (b : Bounds) (s : Shape) → 0 < b.calls → In (shapes b) s → IsShapeOf b s
 from_shapes b s some h =
-    let from = from_piece (with_calls b) (range_with_len 2 (b.setup + b.threads * b.calls + 1 - 2)) s h in
+    let from = from_piece (with_calls b) (range_with_len (fewest b) (b.setup + b.threads * b.calls + 1 - fewest b)) s h in
     let calls = from_calls b from.0 s some from.2 in
     let known = calls.2.2 in
     record {
@@ -113,14 +113,14 @@ to_shapes b s is =
     (All-weaker (IsChoice b.calls) (λ c. c ≤ b.calls) (λ c choice. choice.1) s.threads is.calls) in
     let scaled = mul-le-mul_right b.calls is.threads in
     let back : s.setup ≡ b.setup - (b.setup - s.setup) = omega (arith, is.setup) in
-    to_piece (with_calls b) (range_with_len 2 (b.setup + b.threads * b.calls + 1 - 2)) (calls_of s) s
-    (to_range 2 (b.setup + b.threads * b.calls + 1 - 2) (calls_of s) (omega (arith, low, is.two))
+    to_piece (with_calls b) (range_with_len (fewest b) (b.setup + b.threads * b.calls + 1 - fewest b)) (calls_of s) s
+    (to_range (fewest b) (b.setup + b.threads * b.calls + 1 - fewest b) (calls_of s) (omega (arith, low, is.two))
     (omega (arith, most, scaled, is.setup, low, is.two)))
     (to_piece (but_setup b (calls_of s)) (range_with_len 0 (b.setup + 1 - 0)) (b.setup - s.setup) s
     (to_range 0 (b.setup + 1 - 0) (b.setup - s.setup) (omega arith) (omega arith))
     (subst (λ p. In (with_setup b (calls_of s) p) s) back
-    (to_piece (with_threads b (calls_of s) s.setup) (range_with_len 2 (b.threads + 1 - 2)) (length s.threads) s
-    (to_range 2 (b.threads + 1 - 2) (length s.threads) is.two (omega (arith, is.threads, is.two)))
+    (to_piece (with_threads b (calls_of s) s.setup) (range_with_len (fewest b) (b.threads + 1 - fewest b)) (length s.threads) s
+    (to_range (fewest b) (b.threads + 1 - fewest b) (length s.threads) is.two (omega (arith, is.threads, is.two)))
     fitting)))
 
 -- ---- none stands twice, and fewer calls come first
@@ -141,8 +141,8 @@ apart_threads b total p k some =
 
 apart_setup : (b : Bounds) (total p : ℕ) → 0 < b.calls → Pairs Differ (with_setup b total p)
 apart_setup b total p some =
-    pairs_pieces (λ i j. i < j) Differ (with_threads b total p) (range_with_len 2 (b.threads + 1 - 2))
-    (pairs_range 2 (b.threads + 1 - 2)) (λ k h. apart_threads b total p k some)
+    pairs_pieces (λ i j. i < j) Differ (with_threads b total p) (range_with_len (fewest b) (b.threads + 1 - fewest b))
+    (pairs_range (fewest b) (b.threads + 1 - fewest b)) (λ k h. apart_threads b total p k some)
     (λ i j s t below hs ht same.
     let first = from_threads b total p i s some hs in
     let second = from_threads b total p j t some ht in
@@ -168,8 +168,8 @@ InOrder s t = (s ≢ t) × (calls_of s ≤ calls_of t)
 
 pub shapes_in_order : (b : Bounds) → 0 < b.calls → Pairs InOrder (shapes b)
 shapes_in_order b some =
-    pairs_pieces (λ i j. i < j) InOrder (with_calls b) (range_with_len 2 (b.setup + b.threads * b.calls + 1 - 2))
-    (pairs_range 2 (b.setup + b.threads * b.calls + 1 - 2))
+    pairs_pieces (λ i j. i < j) InOrder (with_calls b) (range_with_len (fewest b) (b.setup + b.threads * b.calls + 1 - fewest b))
+    (pairs_range (fewest b) (b.setup + b.threads * b.calls + 1 - fewest b))
     (λ total h. pairs_weaker Differ InOrder (with_calls b total) (apart_calls b total some)
     (λ s t hs ht differ.
     let first = from_calls b total s some hs in

@@ -14,7 +14,7 @@ pub enum FamilyFault {
     /// There is no call to choose from.
     #[error("no calls to choose from")]
     NoCalls,
-    /// Fewer than 2 threads or more than 4, no calls of a thread or more than 4, or more than 8 of the setup.
+    /// No threads or more than 4, no calls of a thread or more than 4, or more than 8 of the setup.
     #[error("bad bounds of programs")]
     BadBounds,
     /// There are more than 1,000,000 programs.

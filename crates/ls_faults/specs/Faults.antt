@@ -25,6 +25,8 @@ use Rattle.ls_linker.specs.declared.fault.BuildFault.{BuildFault}
 use Rattle.ls_linker.specs.declared.fault.BuildFault.TheVariants as build
 use Rattle.ls_compiler.specs.declared.fault.CompileFault.{CompileFault}
 use Rattle.ls_compiler.specs.declared.fault.CompileFault.TheVariants as stopped
+use Rattle.ls_specified.specs.declared.fault.SpecificationFault.{SpecificationFault}
+use Rattle.ls_specified.specs.declared.fault.SpecificationFault.TheVariants as specified
 use Rattle.ls_machine.specs.declared.fault.LoadFault.{LoadFault}
 use Rattle.ls_machine.specs.declared.fault.LoadFault.TheVariants as load
 use Rattle.ls_schedule.specs.declared.fault.ScheduleFault.{ScheduleFault}
@@ -101,6 +103,11 @@ lifted_compile (stopped.Check f) = lifted_check f
 lifted_compile (stopped.Program f) = lifted_program f
 lifted_compile (stopped.Build f) = lifted_build f
 
+-- this fault of the reference, unless memory ran out
+abbrev pub unless_memory : ToolFault → CompileFault → ToolFault
+unless_memory faults.Memory f = faults.Memory
+unless_memory _ f = faults.Specification f
+
 abbrev pub lifted_cells : LoadFault → ToolFault
 lifted_cells load.Memory = faults.Memory
 lifted_cells load.BadCells = faults.BadCells
@@ -140,6 +147,28 @@ abbrev pub lifted_entry : EntryFault → ToolFault
 lifted_entry entry.Memory = faults.Memory
 lifted_entry (entry.NotCalls at) = faults.BadEntry at
 lifted_entry (entry.NotCompiled f) = lifted_compile f
+
+-- A text that is a program of the class and none of the reference: the fault has its place in the program. A program
+-- with too much is a fault of the reference.
+abbrev pub lifted_unlike : ProgramFault → ToolFault
+lifted_unlike program.Memory = faults.Memory
+lifted_unlike (program.BadProgram at) = faults.UnlikeSpecification at
+lifted_unlike (program.UnknownThing at) = faults.UnlikeSpecification at
+lifted_unlike (program.ReferenceResult at) = faults.UnlikeSpecification at
+lifted_unlike program.ProgramLimit = faults.Specification (stopped.Program program.ProgramLimit)
+
+-- any other fault of the reference, unless memory ran out
+abbrev pub lifted_reference : CompileFault → ToolFault
+lifted_reference (stopped.Text f) = unless_memory (lifted_text f) (stopped.Text f)
+lifted_reference (stopped.Check f) = unless_memory (lifted_check f) (stopped.Check f)
+lifted_reference (stopped.Program f) = lifted_unlike f
+lifted_reference (stopped.Build f) = unless_memory (lifted_build f) (stopped.Build f)
+
+-- why a class text doesn't specify a program
+abbrev pub lifted_specification : SpecificationFault → ToolFault
+lifted_specification specified.Memory = faults.Memory
+lifted_specification (specified.NotCompiled f) = lifted_reference f
+lifted_specification specified.OtherResult = faults.UnlikeSpecification 0
 
 -- `fault N Name`
 abbrev pub plain : List ℕ → List ℕ
@@ -195,6 +224,12 @@ build_line (build.Emit emit.Memory) = plain (codes "1 Memory")
 build_line (build.Emit emit.CodeTooLong) = plain (codes "32 CodeTooLong")
 build_line (build.Link link.Memory) = plain (codes "1 Memory")
 build_line (build.Link link.CodeTooLong) = plain (codes "33 CodeTooLong")
+
+abbrev pub compile_line : CompileFault → List ℕ
+compile_line (stopped.Text f) = text_line f
+compile_line (stopped.Check f) = check_line f
+compile_line (stopped.Program f) = program_line f
+compile_line (stopped.Build f) = build_line f
 
 abbrev pub schedule_line : ScheduleFault → List ℕ
 schedule_line schedule.Memory = plain (codes "1 Memory")
@@ -285,6 +320,9 @@ fault_line (faults.Class f) = class_line f
 fault_line faults.BadNumbers = plain (codes "70 BadNumbers")
 fault_line faults.BadOptions = plain (codes "71 BadOptions")
 fault_line (faults.BadEntry at) = placed (codes "72 BadEntry") at
+fault_line (faults.Specification f) = compile_line f
+fault_line (faults.UnlikeSpecification at) = placed (codes "73 UnlikeSpecification") at
+fault_line (faults.LacksMethod span) = spanned (codes "74 LacksMethod") span
 fault_line (faults.Aim f) = aim_line f
 fault_line (faults.History f) = history_line f
 fault_line (faults.Order f) = order_line f

@@ -2,10 +2,10 @@
 
 ghost use Rattle.std.specs.Prelude.{◌≡◌};
 ghost use Rattle.ls_faults.specs.Faults.{lifted_aim, lifted_batch, lifted_build, lifted_cells, lifted_check};
-ghost use Rattle.ls_faults.specs.Faults.{lifted_class, lifted_entry};
+ghost use Rattle.ls_faults.specs.Faults.{lifted_class, lifted_entry, lifted_reference, lifted_specification};
 ghost use Rattle.ls_faults.specs.Faults.{lifted_compile, lifted_explore, lifted_history, lifted_live, lifted_order};
 ghost use Rattle.ls_faults.specs.Faults.{lifted_program, lifted_schedule, lifted_search, lifted_tally, lifted_text};
-ghost use Rattle.ls_faults.specs.Faults.{lifted_translation, lifted_turns};
+ghost use Rattle.ls_faults.specs.Faults.{lifted_translation, lifted_turns, lifted_unlike, unless_memory};
 ghost use Rattle.ls_faults.specs.declared.fault.ToolFault.TheVariants.{Memory};
 
 use ls_aim::fault::AimFault;
@@ -15,6 +15,7 @@ use ls_compiler::fault::CompileFault;
 use ls_emit::fault::EmitFault;
 use ls_explore::ExploreFault;
 use ls_lexer::fault::TextFault;
+use ls_lexer::token::Span;
 use ls_linker::fault::{BuildFault, LinkFault};
 use ls_live::{FollowFault, LiveFault, PlayFault as LivePlayFault, TapeFault as TurnsPlayFault};
 use ls_lowered::fault::LowerFault;
@@ -23,6 +24,7 @@ use ls_order_search::SearchFault;
 use ls_orders::OrderFault;
 use ls_report::HistoryFault;
 use ls_schedule::fault::ScheduleFault;
+use ls_specified::SpecificationFault;
 use ls_tallies::TallyFault;
 use ls_translation::fault::TranslationFault;
 use ls_types_checked::checked::CheckFault;
@@ -63,6 +65,16 @@ pub enum ToolFault {
     BadNumbers,
     #[error("these options don't go together")]
     BadOptions,
+    /// The specification isn't compiled, with the fault of its class text.
+    #[error(transparent)]
+    Specification(CompileFault),
+    /// The program isn't one of the specification too, at this byte: a class, constructor or method isn't there, takes
+    /// other arguments, or answers another type.
+    #[error("the call isn't one of the specification")]
+    UnlikeSpecification { at: usize },
+    /// The class lacks this constructor or method of the specification, or has it with other types.
+    #[error("the class lacks a method of the specification")]
+    LacksMethod(Span),
     /// The entry of a menu whose line begins at this byte isn't calls of the class.
     #[error("an entry of the menu isn't calls of the class")]
     BadEntry { at: usize },
@@ -321,6 +333,53 @@ impl From<EntryFault> for ToolFault {
             EntryFault::Memory => ToolFault::Memory,
             EntryFault::NotCalls { at } => ToolFault::BadEntry { at },
             EntryFault::NotCompiled(fault) => ToolFault::from(fault),
+        }
+    }
+}
+
+/// A fault of the reference, unless memory ran out.
+fn unless_memory(lifted: ToolFault, fault: CompileFault) -> ToolFault
+    ensures { result ≡ unless_memory lifted fault }
+{
+    match lifted {
+        ToolFault::Memory => ToolFault::Memory,
+        _ => ToolFault::Specification(fault),
+    }
+}
+
+/// The fault of a text that is a program of the class and none of the reference.
+fn unlike(fault: ProgramFault) -> ToolFault
+    ensures { result ≡ lifted_unlike fault }
+{
+    match fault {
+        ProgramFault::Memory => ToolFault::Memory,
+        ProgramFault::BadProgram { at }
+        | ProgramFault::UnknownThing { at }
+        | ProgramFault::ReferenceResult { at } => ToolFault::UnlikeSpecification { at },
+        ProgramFault::ProgramLimit => {
+            ToolFault::Specification(CompileFault::Program(ProgramFault::ProgramLimit))
+        }
+    }
+}
+
+/// The fault where the reference isn't compiled with a text that is a program of the class.
+fn of_reference(fault: CompileFault) -> ToolFault
+    ensures { result ≡ lifted_reference fault }
+{
+    match fault {
+        CompileFault::Program(fault) => unlike(fault),
+        other => unless_memory(ToolFault::from(other), other),
+    }
+}
+
+impl From<SpecificationFault> for ToolFault {
+    ghost from_gives = { λ f e. e ≡ lifted_specification f };
+
+    fn from(fault: SpecificationFault) -> ToolFault {
+        match fault {
+            SpecificationFault::Memory => ToolFault::Memory,
+            SpecificationFault::NotCompiled(fault) => of_reference(fault),
+            SpecificationFault::OtherResult => ToolFault::UnlikeSpecification { at: 0 },
         }
     }
 }

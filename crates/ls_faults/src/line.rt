@@ -2,6 +2,7 @@
 
 ghost use Rattle.std.specs.Prelude.{◌≡◌, ◌≤◌, length};
 ghost use Rattle.ls_faults.specs.Faults.{aim_line, batch_line, build_line, cells_line, check_line, class_line};
+ghost use Rattle.ls_faults.specs.Faults.{compile_line};
 ghost use Rattle.ls_faults.specs.Faults.{explore_line};
 ghost use Rattle.ls_faults.specs.Faults.{fault_line, live_line, placed, plain, program_line, rule_name};
 ghost use Rattle.ls_faults.specs.Faults.{schedule_line, spanned, tally_line, text_line, translation_line, turns_line};
@@ -10,6 +11,7 @@ use crate::fault::ToolFault;
 use ls_aim::fault::AimFault;
 use ls_batch::BatchFault;
 use ls_class_programs::ClassFault;
+use ls_compiler::fault::CompileFault;
 use ls_emit::fault::EmitFault;
 use ls_explore::ExploreFault;
 use ls_lexer::fault::TextFault;
@@ -321,6 +323,17 @@ fn class_line(fault: ClassFault) -> Line
     }
 }
 
+fn compile_line(fault: CompileFault) -> Line
+    ensures { result ≡ compile_line fault }
+{
+    match fault {
+        CompileFault::Text(fault) => text_line(fault),
+        CompileFault::Check(fault) => check_line(fault),
+        CompileFault::Program(fault) => program_line(fault),
+        CompileFault::Build(fault) => build_line(fault),
+    }
+}
+
 /// The line of the fault on the standard error.
 pub fn fault_line(fault: ToolFault) -> Line
     ensures { result ≡ fault_line fault }
@@ -344,6 +357,9 @@ pub fn fault_line(fault: ToolFault) -> Line
         ToolFault::BadNumbers => plain("70 BadNumbers"),
         ToolFault::BadOptions => plain("71 BadOptions"),
         ToolFault::BadEntry { at } => placed("72 BadEntry", at),
+        ToolFault::Specification(fault) => compile_line(fault),
+        ToolFault::UnlikeSpecification { at } => placed("73 UnlikeSpecification", at),
+        ToolFault::LacksMethod(span) => spanned("74 LacksMethod", span),
         ToolFault::Aim(fault) => aim_line(fault),
         ToolFault::History(HistoryFault::BadHistory { at }) => placed("77 BadHistory", at),
         ToolFault::Order(OrderFault::BadOrder { at }) => placed("78 BadOrder", at),

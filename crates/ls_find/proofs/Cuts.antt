@@ -7,21 +7,22 @@ use Rattle.ls_explore.specs.Faults.{AreBadStates}
 use Rattle.ls_explore.specs.Sources.{IsOfSource, IsSourceEndless}
 use Rattle.ls_explore.specs.declared.fault.ExploreFault.{ExploreFault}
 use Rattle.ls_explore.specs.declared.fault.ExploreFault.TheVariants.{BadCells, BadStates, Memory, Setup, SetupEndless}
+use Rattle.ls_specification.specs.Specification.{Given}
 use Rattle.ls_find.specs.Said.{IsCutShort, NoStates, SetupGoesOn}
 
 -- if it is refused, and memory hasn't run out
-pub fault_cuts : {X : Type 0} (states : ℕ) (file : File) (program : Program) (e : ExploreFault) →
+pub fault_cuts : {X : Type 0} (states : ℕ) (given : Given) (file : File) (program : Program) (e : ExploreFault) →
     (e ≡ Memory → ⊥) →
     IsOfSource e →
     (IsErrOf {T = X} (Err e) BadStates → AreBadStates states) →
     IsErrOf {T = X} (Err e) Memory ⊎ (IsErrOf {T = X} (Err e) SetupEndless ↔ IsSourceEndless file program states) →
-    IsCutShort states file program
-fault_cuts states file program Memory other only bad endless = absurd (other refl)
-fault_cuts states file program BadStates other only bad endless = NoStates (bad refl)
-fault_cuts {X} states file program SetupEndless other only bad (inl none) = absurd (not none)
+    IsCutShort states given file program
+fault_cuts states given file program Memory other only bad endless = absurd (other refl)
+fault_cuts states given file program BadStates other only bad endless = NoStates (bad refl)
+fault_cuts {X} states given file program SetupEndless other only bad (inl none) = absurd (not none)
   where
     not : IsErrOf {T = X} (Err SetupEndless) Memory → ⊥
     not e = cc
-fault_cuts states file program SetupEndless other only bad (inr goes) = SetupGoesOn (goes.0 refl).goes
-fault_cuts states file program BadCells other only bad endless = absurd only
-fault_cuts states file program (Setup f) other only bad endless = absurd only
+fault_cuts states given file program SetupEndless other only bad (inr goes) = SetupGoesOn (goes.0 refl).goes
+fault_cuts states given file program BadCells other only bad endless = absurd only
+fault_cuts states given file program (Setup f) other only bad endless = absurd only

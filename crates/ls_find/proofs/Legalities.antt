@@ -7,9 +7,10 @@ use Rattle.ls_events.specs.declared.event.Event.{Event}
 use Rattle.ls_explore.specs.Rows.{Told}
 use Rattle.ls_explore.specs.Tellings.{TellTruth, TellWhole, schedule_of}
 use Rattle.ls_explore_reports.specs.Verdicts.{EachIsLegal, HasLegalOrder}
+use Rattle.ls_specification.specs.Specification.{Given}
 use Rattle.ls_find.specs.Said.{IsVerdict, LongSchedule}
 use Rattle.ls_find.specs.Sought.{AllLegal, AllNamed, AreNamed, Cut, HasUnjudged, IsLegalVerdict, IsSetVerdict}
-use Rattle.ls_find.specs.Sought.{IsTurningVerdict, IsUnknown, IsVerdictFor, Turns, Unjudged, Waits}
+use Rattle.ls_find.specs.Sought.{IsTurningVerdict, IsUnknown, IsVerdictFor, Turns, Unexplained, Unjudged, Waits}
 use Rattle.ls_find.specs.Verdicts.{IsAsked, IsBadSchedule, IsGood, ShowsRow}
 use Rattle.ls_find.specs.declared.sought.Sought.{Sought}
 use Rattle.ls_find.specs.declared.verdict.Reason.{Reason}
@@ -59,10 +60,11 @@ module _ (file : File) (program : Program) (k : ℕ) (rows : List Told) (truth :
   -- the row that is shown isn't legal, so neither is the history of its schedule
   pub shown_illegal : (at : ℕ) →
       (r : Told) × (slice_get rows at ≡ Some r) × sets.IsVerdict program r.history Illegal →
-      (v : ProgramVerdict) → ShowsRow reasons.Illegal k rows at v → (states : ℕ) → IsSetVerdict states file program v
-  shown_illegal at is v shows states = by_verdict v shows
+      (v : ProgramVerdict) → ShowsRow reasons.Illegal k rows at v → (given : Given) (states : ℕ) →
+      IsSetVerdict states given file program v
+  shown_illegal at is v shows given states = by_verdict v shows
     where
-      illegal : IsBadSchedule reasons.Illegal file program (schedule_of k is.0)
+      illegal : IsBadSchedule reasons.Illegal given file program (schedule_of k is.0)
       illegal =
           let there = got_there rows at is.0 is.1 in
           record {
@@ -70,7 +72,8 @@ module _ (file : File) (program : Program) (k : ℕ) (rows : List Told) (truth :
             acts = truth.acts is.0 there;
           }
 
-      by_verdict : (v : ProgramVerdict) → ShowsRow reasons.Illegal k rows at v → IsSetVerdict states file program v
+      by_verdict : (v : ProgramVerdict) → ShowsRow reasons.Illegal k rows at v →
+          IsSetVerdict states given file program v
       by_verdict verdicts.Good shows = absurd shows
       by_verdict verdicts.Unknown shows =
           inl (LongSchedule reasons.Illegal (schedule_of k is.0) illegal (shows is.0 is.1))
@@ -78,43 +81,47 @@ module _ (file : File) (program : Program) (k : ℕ) (rows : List Told) (truth :
           let row : is.0 ≡ shows.0 = some_is (sym is.1 ∙ shows.1) in
           record {
             reason_is = shows.3;
-            schedule_is = subst (λ (said : Reason). IsBadSchedule said file program schedule) (sym shows.3)
-                (subst (IsBadSchedule reasons.Illegal file program) (ap (schedule_of k) row ∙ sym shows.2) illegal);
+            schedule_is = subst (λ (said : Reason). IsBadSchedule said given file program schedule) (sym shows.3)
+                (subst (IsBadSchedule reasons.Illegal given file program) (ap (schedule_of k) row ∙ sym shows.2)
+                illegal);
           }
 
 -- what isn't known of a program isn't known of all that is looked for
-pub unknown_for : (sought : Sought) (states : ℕ) (file : File) (program : Program) →
-    IsVerdict states sought file program verdicts.Unknown → IsUnknown sought states file program
-unknown_for sought states file program (inl cut) = Cut cut
-unknown_for sought states file program (inr waits) = Waits waits
+pub unknown_for : (sought : Sought) (states : ℕ) (given : Given) (file : File) (program : Program) →
+    IsVerdict states sought given file program verdicts.Unknown → IsUnknown sought states given file program
+unknown_for sought states given file program (inl cut) = Cut cut
+unknown_for sought states given file program (inr (inl waits)) = Waits waits
+unknown_for sought states given file program (inr (inr unexplained)) = Unexplained unexplained
 
 -- what is said of sets, where they are looked for
-pub of_set : (sought : Sought) (states : ℕ) (file : File) (program : Program) (v : ProgramVerdict) → sought.set ≡ true →
-    IsSetVerdict states file program v → IsLegalVerdict sought states file program v
-of_set sought states file program verdicts.Good asked legal = λ e. legal
-of_set sought states file program verdicts.Unknown asked none = (asked, none)
-of_set sought states file program (verdicts.Bad reason schedule) asked shown = record {
+pub of_set : (sought : Sought) (states : ℕ) (given : Given) (file : File) (program : Program) (v : ProgramVerdict) →
+    sought.set ≡ true → IsSetVerdict states given file program v → IsLegalVerdict sought states given file program v
+of_set sought states given file program verdicts.Good asked legal = λ e. legal
+of_set sought states given file program verdicts.Unknown asked none = (asked, none)
+of_set sought states given file program (verdicts.Bad reason schedule) asked shown = record {
   asked = subst (IsAsked sought) (sym shown.reason_is) asked;
   schedule_is = shown.schedule_is;
 }
 
 -- what is said where all else is well
-pub with_turning : (sought : Sought) (states : ℕ) (file : File) (program : Program) (v : ProgramVerdict) →
-    IsGood sought.waiting file program → (sought.set ≡ true → AllLegal file program) →
-    IsTurningVerdict sought file program v → IsVerdictFor sought states file program v
-with_turning sought states file program verdicts.Good good legal never =
+pub with_turning : (sought : Sought) (states : ℕ) (given : Given) (file : File) (program : Program)
+    (v : ProgramVerdict) →
+    IsGood sought.waiting given file program → (sought.set ≡ true → AllLegal file program) →
+    IsTurningVerdict sought given file program v → IsVerdictFor sought states given file program v
+with_turning sought states given file program verdicts.Good good legal never =
     record { ends = record { good = good; legal = legal }; turns = never }
-with_turning sought states file program verdicts.Unknown good legal asked = Turns asked good (λ up. inl (legal up))
-with_turning sought states file program (verdicts.Bad reason schedule) good legal shown = shown
+with_turning sought states given file program verdicts.Unknown good legal asked =
+    Turns asked good (λ up. inl (legal up))
+with_turning sought states given file program (verdicts.Bad reason schedule) good legal shown = shown
 
 -- where histories can't be judged as those of a set
-pub unjudged_for : (sought : Sought) (states : ℕ) (file : File) (program : Program) →
-    IsGood sought.waiting file program →
-    IsLegalVerdict sought states file program verdicts.Unknown → (v : ProgramVerdict) →
-    (v ≡ verdicts.Good) ⊎ (v ≡ verdicts.Unknown) → IsTurningVerdict sought file program v →
-    IsUnknown sought states file program
-unjudged_for sought states file program good (asked, inl cut) v is said = Cut cut
-unjudged_for sought states file program good (asked, inr unjudged) v (inl is) said =
-    Unjudged asked good unjudged (subst (IsTurningVerdict sought file program) is said)
-unjudged_for sought states file program good (asked, inr unjudged) v (inr is) said =
-    Turns (subst (IsTurningVerdict sought file program) is said) good (λ up. inr unjudged)
+pub unjudged_for : (sought : Sought) (states : ℕ) (given : Given) (file : File) (program : Program) →
+    IsGood sought.waiting given file program →
+    IsLegalVerdict sought states given file program verdicts.Unknown → (v : ProgramVerdict) →
+    (v ≡ verdicts.Good) ⊎ (v ≡ verdicts.Unknown) → IsTurningVerdict sought given file program v →
+    IsUnknown sought states given file program
+unjudged_for sought states given file program good (asked, inl cut) v is said = Cut cut
+unjudged_for sought states given file program good (asked, inr unjudged) v (inl is) said =
+    Unjudged asked good unjudged (subst (IsTurningVerdict sought given file program) is said)
+unjudged_for sought states given file program good (asked, inr unjudged) v (inr is) said =
+    Turns (subst (IsTurningVerdict sought given file program) is said) good (λ up. inr unjudged)

@@ -9,3 +9,4 @@ pub mod Simpler
 pub mod Followed
 pub mod ReadBack
 pub mod Turned
+pub mod Likenesses

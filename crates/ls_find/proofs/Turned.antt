@@ -12,8 +12,9 @@ use Rattle.ls_meaning.specs.Still.{IsActing}
 use Rattle.ls_search_laws.proofs.Stepping.{run-append, trace-append}
 use Rattle.ls_spinning.specs.Turning.{TurnsForEver}
 use Rattle.ls_endless_calls.specs.Laws.{NeverEndsSo}
-use Rattle.ls_endless_calls.specs.Turning.{HasTurning}
 use Rattle.ls_endless_calls.specs.Waits.{IsPending}
+use Rattle.ls_specification.specs.Specification.{Given, given_file, given_program}
+use Rattle.ls_find.specs.Verdicts.{HasTurns}
 
 module _ (file : File) (program : Program) where
   history_on : (schedule more : List ℕ) → source_history file program (schedule ++ more) ≡
@@ -51,12 +52,14 @@ module _ (file : File) (program : Program) where
       silent = λ more. same_history more ∙ turns.silent more ∙ sym history;
     }
 
-    pub still_turning : HasTurning file program found → HasTurning file program steps
-    still_turning (c, t) = (
+    pub still_turning : (given : Given) → HasTurns given file program found → HasTurns given file program steps
+    still_turning given (c, t) = (
       c,
       record {
         turns = turns_too t.turns;
         pending = subst (λ (h : List Event). IsPending h c) (sym history) t.pending;
-        alone = λ so. t.alone (subst (λ (h : List Event). NeverEndsSo file program h c) history so);
+        alone = λ so. t.alone (subst (λ (h : List Event). NeverEndsSo (given_file given file)
+            (given_program given program) h c)
+            history so);
       },
     )

@@ -1,5 +1,5 @@
 -- Whether a thread waits for ever, by the rows of a whole exploration.
-use Rattle.std.proofs.Common.{◌≡◌, ◌∙◌, ℕ, Bool, List, [], Some, true, ap, inl, inr, refl, sym, subst, arith}
+use Rattle.std.proofs.Common.{◌≡◌, ◌∙◌, ℕ, List, [], Some, true, ap, inl, inr, refl, sym, subst, arith}
 use Rattle.std.specs.Prelude.{◌≢◌, Contains, slice_get}
 use Rattle.ls_checked.specs.CheckedTree.{File}
 use Rattle.ls_checked.specs.CheckedProgram.{Program}
@@ -10,10 +10,12 @@ use Rattle.ls_explore.specs.declared.rows.Ending.{Ending}
 use Rattle.ls_explore.specs.declared.rows.Ending.TheVariants.{GoesOn, NotSeen, OutOfCells, Over}
 use Rattle.ls_explore.specs.Tellings.{TellTruth, TellWhole, schedule_of}
 use Rattle.ls_serial_search.specs.Endless.{AreEndlessRuns, TellEndlessRuns}
-use Rattle.ls_endless_calls.specs.Laws.{AmongNeverEnds, NoneWaitsForEver, NeverEndsSo, NeverEndsIsAmong}
+use Rattle.ls_endless_calls.specs.Laws.{AmongNeverEnds, NeverEndsSo, NeverEndsIsAmong}
 use Rattle.ls_endless_calls.specs.Waits.{IsPending}
 use Rattle.ls_find.specs.Said.{HasWaitingCall, IsVerdict, IsVerdictIfAny, IsWaitingVerdict, LongSchedule}
-use Rattle.ls_find.specs.Verdicts.{AllExcused, AllLinearizable, HasWaiting, IsAsked, IsBadSchedule, ShowsRow, WaitsAt}
+use Rattle.ls_specification.specs.Specification.{Given, given_file, given_program}
+use Rattle.ls_find.specs.Verdicts.{AllExcused, AllLinearizable, HasWaiting, IsAsked, IsBadSchedule, NoneWaits, ShowsRow}
+use Rattle.ls_find.specs.Verdicts.{WaitsAt}
 use Rattle.ls_find.specs.declared.sought.Sought.{Sought}
 use Rattle.ls_find.specs.declared.verdict.Reason.{Reason}
 use Rattle.ls_find.specs.declared.verdict.Reason.TheVariants.{Waits}
@@ -28,14 +30,17 @@ pub none_endless : (file : File) (program : Program) → AreEndlessRuns file pro
 none_endless file program run there = absurd (omega (arith, there.1))
 
 -- if each call that is pending where a row ends is the last of a run in which it waits, none waits for ever
-pub none_waits : (file : File) (program : Program) (rows : List Told) (runs : List (List Event)) → AmongNeverEnds →
-    TellWhole file program rows → AreEndlessRuns file program runs → AllExcused runs rows →
-    NoneWaitsForEver file program
-none_waits file program rows runs among whole are excused schedule c over pending =
+pub none_waits : (given : Given) (file : File) (program : Program) (rows : List Told) (runs : List (List Event)) →
+    AmongNeverEnds → TellWhole file program rows →
+    AreEndlessRuns (given_file given file) (given_program given program) runs → AllExcused runs rows →
+    NoneWaits given file program
+none_waits given file program rows runs among whole are excused schedule c over pending =
+    let sfile = given_file given file in
+    let sprogram = given_program given program in
     let e = whole.ended schedule over in
     let here = subst (λ (h : List Event). IsPending h c) (sym e.same) pending in
-    subst (λ (h : List Event). NeverEndsSo file program h c) e.same
-    (among file program runs e.row.history c are (excused e.row e.there e.ends c here))
+    subst (λ (h : List Event). NeverEndsSo sfile sprogram h c) e.same
+    (among sfile sprogram runs e.row.history c are (excused e.row e.there e.ends c here))
 
 module _ (file : File) (program : Program) (k : ℕ) (rows : List Told) (runs : List (List Event)) (at : ℕ)
     (truth : TellTruth file program k rows) (w : WaitsAt runs rows at) where
@@ -63,61 +68,69 @@ module _ (file : File) (program : Program) (k : ℕ) (rows : List Told) (runs : 
       is_over NotSeen ends not = absurd ends
 
   -- if the runs are all, and a call that is pending where a row is over is the last of none, it waits for ever
-  row_waits : NeverEndsIsAmong → TellEndlessRuns file program runs → w.row.ending ≡ Over →
-      HasWaiting file program (schedule_of k w.row)
-  row_waits all tell over = (
+  row_waits : (given : Given) → NeverEndsIsAmong →
+      TellEndlessRuns (given_file given file) (given_program given program) runs → w.row.ending ≡ Over →
+      HasWaiting given file program (schedule_of k w.row)
+  row_waits given all tell over = (
     w.waits.unexcused.call,
     record {
       over = truth.over w.row there over;
       pending = pending;
-      alone = λ so. w.waits.unexcused.unexcused (all file program runs w.row.history w.waits.unexcused.call tell
-          (subst (λ (h : List Event). NeverEndsSo file program h w.waits.unexcused.call) (sym (truth.told w.row there))
-          so));
+      alone = λ so. w.waits.unexcused.unexcused
+          (all (given_file given file) (given_program given program) runs w.row.history w.waits.unexcused.call tell
+          (subst (λ (h : List Event).
+          NeverEndsSo (given_file given file) (given_program given program) h w.waits.unexcused.call)
+          (sym (truth.told w.row there)) so));
     },
   )
 
-  pub one_waits : NeverEndsIsAmong → TellEndlessRuns file program runs →
-      (r : Told) × (slice_get rows at ≡ Some r) × (r.ending ≡ Over) → (v : ProgramVerdict) → ShowsRow Waits k rows at v →
-      (states : ℕ) → IsWaitingVerdict states file program v
-  one_waits all tell over v shows states = by_verdict v shows
+  pub one_waits : (given : Given) → NeverEndsIsAmong →
+      TellEndlessRuns (given_file given file) (given_program given program) runs →
+      (r : Told) × (slice_get rows at ≡ Some r) × (r.ending ≡ Over) → (v : ProgramVerdict) →
+      ShowsRow Waits k rows at v →
+      (states : ℕ) → IsWaitingVerdict states given file program v
+  one_waits given all tell over v shows states = by_verdict v shows
     where
       same : over.0 ≡ w.row
       same = some_is (sym over.1 ∙ w.is)
 
-      bad : IsBadSchedule Waits file program (schedule_of k w.row)
+      bad : IsBadSchedule Waits given file program (schedule_of k w.row)
       bad = record {
-        bad = row_waits all tell (subst (λ (q : Told). q.ending ≡ Over) same over.2);
+        bad = row_waits given all tell (subst (λ (q : Told). q.ending ≡ Over) same over.2);
         acts = truth.acts w.row there;
       }
 
-      by_verdict : (v : ProgramVerdict) → ShowsRow Waits k rows at v → IsWaitingVerdict states file program v
+      by_verdict : (v : ProgramVerdict) → ShowsRow Waits k rows at v → IsWaitingVerdict states given file program v
       by_verdict Good shows = absurd shows
       by_verdict Unknown shows = inl (LongSchedule Waits (schedule_of k w.row) bad (shows w.row w.is))
       by_verdict (Bad reason schedule) shows =
           let row : w.row ≡ shows.0 = some_is (sym w.is ∙ shows.1) in
           record {
             reason_is = shows.3;
-            schedule_is = subst (λ (said : Reason). IsBadSchedule said file program schedule) (sym shows.3)
-                (subst (IsBadSchedule Waits file program) (ap (schedule_of k) row ∙ sym shows.2) bad);
+            schedule_is = subst (λ (said : Reason). IsBadSchedule said given file program schedule) (sym shows.3)
+                (subst (IsBadSchedule Waits given file program) (ap (schedule_of k) row ∙ sym shows.2) bad);
           }
 
 -- both verdicts together
-pub both_verdicts : (file : File) (program : Program) (states : ℕ) (sought : Sought) (v : ProgramVerdict) →
-    sought.waiting ≡ true → AllLinearizable file program → IsWaitingVerdict states file program v →
-    IsVerdict states sought file program v
-both_verdicts file program states sought Good asked linear none = record { linearizable = linear; waits = λ e. none }
-both_verdicts file program states sought Unknown asked linear (inl cut) = inl cut
-both_verdicts file program states sought Unknown asked linear (inr waits) =
-    inr (record { asked = asked; linearizable = linear; waits = waits })
-both_verdicts file program states sought (Bad reason schedule) asked linear shown = record {
+pub both_verdicts : (given : Given) (file : File) (program : Program) (states : ℕ) (sought : Sought)
+    (v : ProgramVerdict) →
+    sought.waiting ≡ true → AllLinearizable given file program → IsWaitingVerdict states given file program v →
+    IsVerdict states sought given file program v
+both_verdicts given file program states sought Good asked linear none =
+    record { linearizable = linear; waits = λ e. none }
+both_verdicts given file program states sought Unknown asked linear (inl cut) = inl cut
+both_verdicts given file program states sought Unknown asked linear (inr waits) =
+    inr (inl (record { asked = asked; linearizable = linear; waits = waits }))
+both_verdicts given file program states sought (Bad reason schedule) asked linear shown = record {
   asked = subst (IsAsked sought) (sym shown.reason_is) asked;
   schedule_is = shown.schedule_is;
 }
 
 -- what isn't decided by the states is said as by the rows
-pub either_verdict : (file : File) (program : Program) (states : ℕ) (sought : Sought) (v : ProgramVerdict) →
-    IsVerdictIfAny sought file program v → IsVerdict states sought file program Unknown →
-    IsVerdict states sought file program v
-either_verdict file program states sought Good said unknown = said
-either_verdict file program states sought Unknown said unknown = unknown
-either_verdict file program states sought (Bad reason schedule) said unknown = said
+pub either_verdict : (given : Given) (file : File) (program : Program) (states : ℕ) (sought : Sought)
+    (v : ProgramVerdict) →
+    IsVerdictIfAny sought given file program v → IsVerdict states sought given file program Unknown →
+    IsVerdict states sought given file program v
+either_verdict given file program states sought Good said unknown = said
+either_verdict given file program states sought Unknown said unknown = unknown
+either_verdict given file program states sought (Bad reason schedule) said unknown = said

@@ -1,5 +1,5 @@
 -- What is found of the programs of a class.
-use Rattle.std.specs.Prelude.{◌≡◌, ◌++◌, ℕ, Bool, true, List, Err, Ok, codes, string_bytes}
+use Rattle.std.specs.Prelude.{◌≡◌, ◌++◌, ℕ, Bool, true, List, Option, Some, None, Err, Ok, codes, string_bytes}
 use Rattle.ls_compiler.specs.Answers.{CompilesTo}
 use Rattle.ls_explore_reports.specs.ImageNames.{names_in}
 use Rattle.ls_explore_reports.specs.Waiting.{waiting}
@@ -8,6 +8,7 @@ use Rattle.ls_image.specs.declared.image.Image.{Image}
 use Rattle.ls_labels.specs.Names.{Names}
 use Rattle.ls_state.specs.Scene.{scene_of}
 use Rattle.ls_translation.specs.Texts.{file_of, program_of}
+use Rattle.ls_specification.specs.Specification.{Given}
 use Rattle.ls_fewest_switches.specs.Wording.{switches_text}
 use Rattle.ls_find.specs.Fewest.{IsFewest}
 use Rattle.ls_find.specs.Sought.{IsGoodFor, IsUnknown}
@@ -24,15 +25,28 @@ use Rattle.ls_find.specs.declared.verdict.Reason.TheVariants as reasons
 abbrev pub Text : Type 0
 Text = List ℕ
 
--- with this program the class text compiles, and it is good for what is looked for
-abbrev pub IsSound : Sought → Text → Text → Type 0
-IsSound sought classes program =
-    (i : Image) × Compiles classes program i × IsGoodFor sought (file_of i) (program_of i)
+-- what a class text that is given specifies of this program: with it, it compiles to this; else nothing
+abbrev pub IsGivenBy : Option Text → Text → Given → Type 0
+IsGivenBy None program given = given ≡ None
+IsGivenBy (Some specification) program given =
+    (s : Image) × Compiles specification program s × (given ≡ Some (file_of s, program_of s))
+
+-- With this program the class text compiles, and it is good for what is looked for, by the class text that specifies
+-- it, if one is given.
+pub record IsSound (sought : Sought) (specification : Option Text) (classes program : Text) : Type 0 where
+  pub image : Image
+  pub compiles : Compiles classes program image
+  pub given : Given
+  pub is_given : IsGivenBy specification program given
+  pub good : IsGoodFor sought given (file_of image) (program_of image)
 
 -- with this program it compiles, and nothing is said of it, for a reason
-abbrev pub IsCut : Sought → ℕ → Text → Text → Type 0
-IsCut sought states classes program =
-    (i : Image) × Compiles classes program i × IsUnknown sought states (file_of i) (program_of i)
+pub record IsCut (sought : Sought) (states : ℕ) (specification : Option Text) (classes program : Text) : Type 0 where
+  pub image : Image
+  pub compiles : Compiles classes program image
+  pub given : Given
+  pub is_given : IsGivenBy specification program given
+  pub unknown : IsUnknown sought states given (file_of image) (program_of image)
 
 -- why a schedule is shown; of threads that wait it is said for what they do
 abbrev pub reason_text : Reason → Names → List Text → List ℕ → Text
@@ -47,25 +61,30 @@ abbrev pub why_text : Reason → Bool → Names → List Text → List ℕ → T
 why_text reason fewest names threads schedule =
     reason_text reason names threads schedule ++ switches_text fewest schedule
 
--- With this program it compiles, and a schedule is bad for a reason that is looked for. Each of its steps acts. These are the
--- texts of the reason and of the schedule, and the schedule is read as it is printed. If its context switches are told, no
--- schedule with which it is compared has fewer.
-pub record IsBadProgram (sought : Sought) (classes program because text : Text) : Type 0 where
-  pub image : Image
-  pub compiles : Compiles classes program image
-  pub reason : Reason
-  pub schedule : List ℕ
-  pub asked : IsAsked sought reason
-  pub bad : IsBad reason (file_of image) (program_of image) schedule
-  pub acts : ActAll (file_of image) (program_of image) schedule
-  pub is_fewest : Bool
-  pub fewest : is_fewest ≡ true → IsFewest reason (file_of image) (program_of image) schedule
-  pub why : because ≡ why_text reason is_fewest (names_in image) (thread_names (program_of_image image)) schedule
-  pub said : text ≡ schedule_text (thread_names (program_of_image image)) schedule
-  pub reads : schedule_of (thread_names (program_of_image image)) text ≡ Ok schedule
+-- With this program it compiles, and a schedule is bad for a reason that is looked for. Each of its steps acts. These
+-- are the texts of the reason and of the schedule, and the schedule is read as it is printed. If its context switches
+-- are told, no schedule with which it is compared has fewer.
+pub record IsBadProgram (sought : Sought) (specification : Option Text) (classes program because text : Text) : Type 0
+  where
+    pub image : Image
+    pub compiles : Compiles classes program image
+    pub given : Given
+    pub is_given : IsGivenBy specification program given
+    pub reason : Reason
+    pub schedule : List ℕ
+    pub asked : IsAsked sought reason
+    pub bad : IsBad reason given (file_of image) (program_of image) schedule
+    pub acts : ActAll (file_of image) (program_of image) schedule
+    pub is_fewest : Bool
+    pub fewest : is_fewest ≡ true → IsFewest reason given (file_of image) (program_of image) schedule
+    pub why : because ≡ why_text reason is_fewest (names_in image) (thread_names (program_of_image image)) schedule
+    pub said : text ≡ schedule_text (thread_names (program_of_image image)) schedule
+    pub reads : schedule_of (thread_names (program_of_image image)) text ≡ Ok schedule
 
--- so it is; or it doesn't compile
-abbrev pub IsWhy : Sought → Text → Text → Why → Type 0
-IsWhy sought classes program (whys.Bad why text) =
-    IsBadProgram sought classes program (string_bytes why) (string_bytes text)
-IsWhy sought classes program (whys.NotCompiled f) = CompilesTo classes program (Err f)
+-- so it is; or it doesn't compile, or what specifies it doesn't
+abbrev pub IsWhy : Sought → Option Text → Text → Text → Why → Type 0
+IsWhy sought specification classes program (whys.Bad why text) =
+    IsBadProgram sought specification classes program (string_bytes why) (string_bytes text)
+IsWhy sought specification classes program (whys.NotCompiled f) = CompilesTo classes program (Err f)
+IsWhy sought None classes program (whys.NotSpecified f) = ⊥
+IsWhy sought (Some specification) classes program (whys.NotSpecified f) = CompilesTo specification program (Err f)

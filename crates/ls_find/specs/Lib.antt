@@ -5,3 +5,4 @@ pub mod Said
 pub mod Sought
 pub mod Fewest
 pub mod Doubles
+pub mod Likeness

@@ -4,6 +4,7 @@ ghost use Rattle.std.specs.Prelude.{ℕ, IfOk};
 ghost use Rattle.ls_checked.specs.PlainProgram.{plain_program};
 ghost use Rattle.ls_explore.specs.Tellings.{TellTruth, TellWhole};
 ghost use Rattle.ls_find.specs.Sought.{AllNamed, AreNamed, IsLegality, IsSetVerdict};
+ghost use Rattle.ls_specification.specs.Specification.{Given};
 ghost use Rattle.ls_translation.specs.Texts.{file_of, program_of};
 
 use crate::verdict::{ProgramVerdict, Reason, bad_row, unknown_by};
@@ -55,7 +56,8 @@ fn whole_legality(
     requires named { AllNamed (file_of image.now) (program_of image.now) }
     requires truth { TellTruth (file_of image.now) (program_of image.now) setup rows.now }
     requires whole { TellWhole (file_of image.now) (program_of image.now) rows.now }
-    ensures { IfOk result (λ v. (states : ℕ) → IsSetVerdict states (file_of image.now) (program_of image.now) v) }
+    ensures { IfOk result (λ v. (given : Given) (states : ℕ) →
+        IsSetVerdict states given (file_of image.now) (program_of image.now) v) }
 {
     every_schedule_is_legal();
     match rows_legality(alloc, rows, image.program())? {
@@ -73,7 +75,8 @@ pub(crate) fn set_verdict(
     states: usize,
 ) -> Result<ProgramVerdict, AllocError>
     requires { AllNamed (file_of image.now) (program_of image.now) }
-    ensures { IfOk result (IsSetVerdict states (file_of image.now) (program_of image.now)) }
+    ensures { IfOk result (λ v. (given : Given) →
+        IsSetVerdict states given (file_of image.now) (program_of image.now) v) }
 {
     match explore_source(alloc, image, states, &mut Nobody) {
         Ok(found) => {

@@ -5,9 +5,11 @@
 mod explorer;
 pub mod laws;
 mod legal;
+mod likeness;
 mod reasons;
 mod simplifying;
 mod sought;
+mod specified;
 mod states;
 mod verdict;
 mod waiting;

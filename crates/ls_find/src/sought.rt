@@ -1,18 +1,20 @@
 // What is looked for in a program.
 
 ghost use Rattle.std.specs.Prelude.{IfOk};
-ghost use Rattle.ls_endless_calls.specs.Turning.{HasTurning};
 ghost use Rattle.ls_find.specs.Sought.{AllNamed, IsLegalVerdict, IsTurningVerdict, IsVerdictFor};
-ghost use Rattle.ls_find.specs.Verdicts.{IsBadSchedule, IsGood};
+ghost use Rattle.ls_find.specs.Verdicts.{HasTurns, IsBadSchedule, IsGood};
 ghost use Rattle.ls_find.specs.declared.verdict.Reason.TheVariants.{Turns};
+ghost use Rattle.ls_specification.specs.Specification.{Given, given_of};
 ghost use Rattle.ls_translation.specs.Texts.{file_of, program_of};
 
 use crate::legal::set_verdict;
+use crate::specified::specification_of;
 use crate::verdict::{ProgramVerdict, Reason, verdict_on};
 use ls_endless_calls::{Endless, find_endless};
 use ls_events::schedule::Schedule;
 use ls_fewest_switches::acting_steps;
 use ls_image::image::Image;
+use ls_specification::Specification;
 use std::alloc::{AllocError, Global};
 
 /// What is looked for in programs, besides a history that isn't linearizable.
@@ -40,7 +42,8 @@ fn legal_verdict(
     sought: Sought,
 ) -> Result<ProgramVerdict, AllocError>
     requires { AllNamed (file_of image.now) (program_of image.now) }
-    ensures { IfOk result (IsLegalVerdict sought states (file_of image.now) (program_of image.now)) }
+    ensures { IfOk result (λ v. (given : Given) →
+        IsLegalVerdict sought states given (file_of image.now) (program_of image.now) v) }
 {
     if sought.set {
         return set_verdict(alloc, image, states);
@@ -50,8 +53,8 @@ fn legal_verdict(
 
 /// The steps of a schedule that act. If threads turn for ever after the schedule, they do so after these.
 fn acting_schedule(alloc: Global, image: &Image, found: &Schedule) -> Result<Schedule, AllocError>
-    ensures { IfOk result (λ s. HasTurning (file_of image.now) (program_of image.now) found.now →
-        IsBadSchedule Turns (file_of image.now) (program_of image.now) s) }
+    ensures { IfOk result (λ s. (given : Given) → HasTurns given (file_of image.now) (program_of image.now) found.now →
+        IsBadSchedule Turns given (file_of image.now) (program_of image.now) s) }
 {
     found.fits();
     let file = image.checked().file();
@@ -63,11 +66,13 @@ fn acting_schedule(alloc: Global, image: &Image, found: &Schedule) -> Result<Sch
 /// that is looked for.
 fn turning_verdict(
     alloc: Global,
+    given: Option<Specification<'_>>,
     image: &Image,
     states: usize,
     sought: Sought,
 ) -> Result<ProgramVerdict, AllocError>
-    ensures { IfOk result (IsTurningVerdict sought (file_of image.now) (program_of image.now)) }
+    ensures { IfOk result
+        (IsTurningVerdict sought (given_of given.entry) (file_of image.now) (program_of image.now)) }
 {
     if !sought.turning {
         return Ok(ProgramVerdict::Good);
@@ -75,7 +80,9 @@ fn turning_verdict(
     if states == 0 {
         return Ok(ProgramVerdict::Unknown);
     }
-    match find_endless(alloc, image.checked().file(), image.program(), states)? {
+    let specification = specification_of(given, image);
+    let file = image.checked().file();
+    match find_endless(alloc, specification, file, image.program(), states)? {
         Endless::Never => Ok(ProgramVerdict::Good),
         Endless::Unknown => Ok(ProgramVerdict::Unknown),
         Endless::After(found) => {
@@ -89,17 +96,19 @@ fn turning_verdict(
 /// looked for. If a history can't be judged as one of a set, threads that turn for ever are looked for all the same.
 fn well_verdict(
     alloc: Global,
+    given: Option<Specification<'_>>,
     image: &Image,
     states: usize,
     sought: Sought,
 ) -> Result<ProgramVerdict, AllocError>
-    requires good { IsGood sought.waiting (file_of image.now) (program_of image.now) }
+    requires good { IsGood sought.waiting (given_of given) (file_of image.now) (program_of image.now) }
     requires named { AllNamed (file_of image.now) (program_of image.now) }
-    ensures { IfOk result (IsVerdictFor sought states (file_of image.now) (program_of image.now)) }
+    ensures { IfOk result
+        (IsVerdictFor sought states (given_of given.entry) (file_of image.now) (program_of image.now)) }
 {
     match legal_verdict(alloc, image, states, sought)? {
-        ProgramVerdict::Good => turning_verdict(alloc, image, states, sought),
-        ProgramVerdict::Unknown => match turning_verdict(alloc, image, states, sought)? {
+        ProgramVerdict::Good => turning_verdict(alloc, given, image, states, sought),
+        ProgramVerdict::Unknown => match turning_verdict(alloc, given, image, states, sought)? {
             ProgramVerdict::Good | ProgramVerdict::Unknown => Ok(ProgramVerdict::Unknown),
             ProgramVerdict::Bad(reason, schedule) => Ok(ProgramVerdict::Bad(reason, schedule)),
         },
@@ -113,15 +122,17 @@ fn well_verdict(
 /// The only refusal is that memory ran out.
 pub fn sought_verdict(
     alloc: Global,
+    given: Option<Specification<'_>>,
     image: &Image,
     states: usize,
     sought: Sought,
 ) -> Result<ProgramVerdict, AllocError>
     requires { AllNamed (file_of image.now) (program_of image.now) }
-    ensures { IfOk result (IsVerdictFor sought states (file_of image.now) (program_of image.now)) }
+    ensures { IfOk result
+        (IsVerdictFor sought states (given_of given.entry) (file_of image.now) (program_of image.now)) }
 {
-    match verdict_on(alloc, image, states, sought)? {
-        ProgramVerdict::Good => well_verdict(alloc, image, states, sought),
+    match verdict_on(alloc, given, image, states, sought)? {
+        ProgramVerdict::Good => well_verdict(alloc, given, image, states, sought),
         ProgramVerdict::Unknown => Ok(ProgramVerdict::Unknown),
         ProgramVerdict::Bad(reason, schedule) => Ok(ProgramVerdict::Bad(reason, schedule)),
     }

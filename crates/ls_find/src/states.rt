@@ -2,15 +2,18 @@
 
 ghost use Rattle.std.specs.Prelude.{◌≡◌, IfNone, IfOk, IfSome, IsTrue, None, true};
 ghost use Rattle.ls_find.specs.Said.{IsVerdictIfAny};
-ghost use Rattle.ls_source_judge.specs.Judged.{IsBadRun};
+ghost use Rattle.ls_source_judge.specs.Judged.{IsUnlikeRun};
+ghost use Rattle.ls_specification.specs.Specification.{Given, given_file, given_of, given_program};
 ghost use Rattle.ls_translation.specs.Texts.{file_of, program_of};
 
 use crate::sought::Sought;
+use crate::specified::specification_of;
 use crate::verdict::{ProgramVerdict, Reason};
 use ls_endless_calls::laws::pending_calls_wait;
 use ls_events::schedule::{MOST_STEPS, Schedule};
 use ls_image::image::Image;
 use ls_source_judge::{Judged, judge_schedules};
+use ls_specification::Specification;
 use std::alloc::{AllocError, Global};
 
 /// Whether all states were kept, no history is bad, and no thread waits if that is looked for.
@@ -40,9 +43,10 @@ fn bad_verdict(
     judged: &Judged,
     sought: Sought,
 ) -> Result<ProgramVerdict, AllocError>
-    requires { IfNone judged.now.doubt (IfSome judged.now.bad (λ steps.
-        IsBadRun (file_of image.now) (program_of image.now) steps.items)) }
-    ensures { IfOk result (IsVerdictIfAny sought (file_of image.now) (program_of image.now)) }
+    ensures { IfOk result (λ v. (given : Given) → IfNone judged.now.doubt (IfSome judged.now.bad (λ steps.
+        IsUnlikeRun (given_file given (file_of image.now)) (given_program given (program_of image.now))
+        (file_of image.now) (program_of image.now) steps.items)) →
+        IsVerdictIfAny sought given (file_of image.now) (program_of image.now) v) }
 {
     if judged.doubt.is_some() {
         return Ok(ProgramVerdict::Unknown);
@@ -60,14 +64,17 @@ fn bad_verdict(
 /// ran out.
 pub(crate) fn verdict_by_states(
     alloc: Global,
+    given: Option<Specification<'_>>,
     image: &Image,
     states: usize,
     sought: Sought,
 ) -> Result<ProgramVerdict, AllocError>
-    ensures { IfOk result (IsVerdictIfAny sought (file_of image.now) (program_of image.now)) }
+    ensures { IfOk result (IsVerdictIfAny sought (given_of given.entry) (file_of image.now) (program_of image.now)) }
 {
     pending_calls_wait();
-    let judged = judge_schedules(alloc, image.checked().file(), image.program(), states)?;
+    let specification = specification_of(given, image);
+    let file = image.checked().file();
+    let judged = judge_schedules(alloc, specification, file, image.program(), states)?;
     if is_good(&judged, sought.waiting) {
         return Ok(ProgramVerdict::Good);
     }

@@ -1,6 +1,6 @@
 // What an exploration says of a program.
 
-ghost use Rattle.std.specs.Prelude.{◌≡◌, ◌≢◌, ◌<◌, ℕ, IfNone, IfOk, IfSome, length, not, position};
+ghost use Rattle.std.specs.Prelude.{◌≡◌, ◌≢◌, ◌<◌, ℕ, IfNone, IfOk, IfSome, None, length, not, position};
 ghost use Rattle.ls_explore.specs.Tellings.{TellTruth, TellWhole, schedule_of};
 ghost use Rattle.ls_events.specs.Limits.{most_steps};
 ghost use Rattle.ls_explore.specs.Rows.{NoneEnds};
@@ -9,8 +9,10 @@ ghost use Rattle.ls_explore.specs.declared.fault.ExploreFault.TheVariants.{Memor
 ghost use Rattle.ls_find.specs.Said.{IsVerdict};
 ghost use Rattle.ls_find.specs.declared.verdict.ProgramVerdict.TheVariants.{Unknown};
 ghost use Rattle.ls_find.specs.Verdicts.{ShowsRow};
+ghost use Rattle.ls_specification.specs.Specification.{given_of};
 ghost use Rattle.ls_translation.specs.Texts.{file_of, program_of};
 
+use crate::likeness::like_verdict;
 use crate::sought::Sought;
 use crate::states::verdict_by_states;
 use crate::waiting::waiting_verdict;
@@ -19,6 +21,7 @@ use ls_explore::{ExploreFault, Nobody, Row, explore_source};
 use ls_explore_reports::decided::none_is_unexplained;
 use ls_explore_reports::explained_rows;
 use ls_image::image::Image;
+use ls_specification::Specification;
 use std::alloc::{AllocError, Global};
 
 /// Why a schedule is bad.
@@ -94,8 +97,9 @@ pub(crate) fn bad_row(
     }
 }
 
-/// What a whole exploration says, of a setup of so many steps.
-fn whole_verdict(
+/// What a whole exploration says of a program whose own calls specify it: its rows have their serial histories. The
+/// setup has so many steps.
+fn own_verdict(
     alloc: Global,
     image: &Image,
     setup: usize,
@@ -106,18 +110,39 @@ fn whole_verdict(
     requires whole { TellWhole (file_of image.now) (program_of image.now) rows.now }
     requires cells { NoneEnds OutOfCells rows.now }
     ensures { IfOk result (λ v. (states : ℕ) →
-        IsVerdict states sought (file_of image.now) (program_of image.now) v) }
+        IsVerdict states sought None (file_of image.now) (program_of image.now) v) }
 {
     none_is_unexplained();
     let flags = explained_rows(alloc, rows)?;
     match first_unexplained(flags.as_slice()) {
         None => {
             if sought.waiting {
-                return waiting_verdict(alloc, image, setup, rows);
+                return waiting_verdict(alloc, None, image, setup, rows);
             }
             Ok(ProgramVerdict::Good)
         }
         Some(at) => bad_row(alloc, Reason::NotLinearizable, setup, rows, at),
+    }
+}
+
+/// What a whole exploration says, of a setup of so many steps.
+fn whole_verdict(
+    alloc: Global,
+    given: Option<Specification<'_>>,
+    image: &Image,
+    setup: usize,
+    rows: &[Row],
+    sought: Sought,
+) -> Result<ProgramVerdict, AllocError>
+    requires truth { TellTruth (file_of image.now) (program_of image.now) setup rows.now }
+    requires whole { TellWhole (file_of image.now) (program_of image.now) rows.now }
+    requires cells { NoneEnds OutOfCells rows.now }
+    ensures { IfOk result (λ v. (states : ℕ) →
+        IsVerdict states sought (given_of given.entry) (file_of image.now) (program_of image.now) v) }
+{
+    match given {
+        Some(specification) => like_verdict(alloc, specification, image, setup, rows, sought),
+        None => own_verdict(alloc, image, setup, rows, sought),
     }
 }
 
@@ -134,44 +159,54 @@ pub(crate) fn unknown_by(fault: ExploreFault) -> Result<ProgramVerdict, AllocErr
 /// Explores the program of an image by the histories of its source, and keeps at most so many states.
 fn explored_verdict(
     alloc: Global,
+    given: Option<Specification<'_>>,
     image: &Image,
     states: usize,
     sought: Sought,
 ) -> Result<ProgramVerdict, AllocError>
-    ensures { IfOk result (IsVerdict states sought (file_of image.now) (program_of image.now)) }
+    ensures { IfOk result (IsVerdict states sought (given_of given.entry) (file_of image.now) (program_of image.now)) }
 {
     match explore_source(alloc, image, states, &mut Nobody) {
         Ok(found) => {
             if !found.complete {
                 return Ok(ProgramVerdict::Unknown);
             }
-            whole_verdict(alloc, image, found.setup, found.rows.as_slice(), sought)
+            whole_verdict(
+                alloc,
+                given,
+                image,
+                found.setup,
+                found.rows.as_slice(),
+                sought,
+            )
         }
         Err(fault) => unknown_by(fault),
     }
 }
 
-/// Says of the program of an image whether the history of each schedule is linearizable; and if that is asked for,
-/// whether no thread waits for ever. If not, it shows a schedule, each of whose steps acts. The states of the source are
-/// searched first. If they don't say that all is well, they are kept once more, each with its history. Of each at most
-/// so many states are kept. Unknown comes if neither decides: if more states are needed, or the setup is too long. It
-/// also comes if a thread waits for ever, and it isn't known of too many calls whether they end where calls run one at
-/// a time.
+/// Says of the program of an image whether the history of each schedule is linearizable, to a specification if one is
+/// given; and if that is asked for, whether no thread waits for ever. If not, it shows a schedule, each of whose steps
+/// acts. The states of the source are searched first. If they don't say that all is well, they are kept once more,
+/// each with its history. Of each at most so many states are kept. Unknown comes if neither decides: if more states
+/// are needed, or the setup is too long. It also comes if a thread waits for ever, and it isn't known of too many
+/// calls whether they end where calls run one at a time. With a specification it comes if not all of its serial
+/// histories are known, and none that is explains one of the program.
 ///
 /// The only refusal is that memory ran out.
 pub fn verdict_on(
     alloc: Global,
+    given: Option<Specification<'_>>,
     image: &Image,
     states: usize,
     sought: Sought,
 ) -> Result<ProgramVerdict, AllocError>
-    ensures { IfOk result (IsVerdict states sought (file_of image.now) (program_of image.now)) }
+    ensures { IfOk result (IsVerdict states sought (given_of given.entry) (file_of image.now) (program_of image.now)) }
 {
-    let searched = verdict_by_states(alloc, image, states, sought)?;
+    let searched = verdict_by_states(alloc, given, image, states, sought)?;
     if let ProgramVerdict::Good = searched {
         return Ok(searched);
     }
-    match explored_verdict(alloc, image, states, sought)? {
+    match explored_verdict(alloc, given, image, states, sought)? {
         ProgramVerdict::Unknown => Ok(searched),
         ProgramVerdict::Good => Ok(ProgramVerdict::Good),
         ProgramVerdict::Bad(reason, schedule) => Ok(ProgramVerdict::Bad(reason, schedule)),

@@ -7,9 +7,11 @@ ghost use Rattle.ls_explore.specs.Tellings.{TellTruth, TellWhole};
 ghost use Rattle.ls_find.specs.Said.{IsWaitingVerdict};
 ghost use Rattle.ls_find.specs.Verdicts.{AllExcused, HasUnexcused, WaitsAt};
 ghost use Rattle.ls_serial_search.specs.Histories.{lists_of};
+ghost use Rattle.ls_specification.specs.Specification.{given_of};
 ghost use Rattle.ls_translation.specs.Texts.{file_of, program_of};
 ghost use Rattle.ls_endless_calls.specs.Waits.{AreExcused};
 
+use crate::specified::specification_of;
 use crate::verdict::{ProgramVerdict, Reason, bad_row};
 use ls_endless_calls::first_unexcused;
 use ls_endless_calls::laws::runs_decide;
@@ -18,6 +20,7 @@ use ls_explore::{Ending, Row};
 use ls_image::image::Image;
 use ls_serial_search::endless::endless_runs;
 use ls_serial_search::telling::Bounds;
+use ls_specification::Specification;
 use std::alloc::{AllocError, Global};
 
 /// The most steps in which a call is followed that runs alone.
@@ -84,6 +87,7 @@ fn is_quiet(alloc: Global, rows: &[Row]) -> bool
 /// Whether a thread waits for ever in a program whose rows are whole, as it does in no calls that run one at a time.
 pub(crate) fn waiting_verdict(
     alloc: Global,
+    given: Option<Specification<'_>>,
     image: &Image,
     setup: usize,
     rows: &[Row],
@@ -92,7 +96,7 @@ pub(crate) fn waiting_verdict(
     requires whole { TellWhole (file_of image.now) (program_of image.now) rows.now }
     requires cells { NoneEnds OutOfCells rows.now }
     ensures { IfOk result (λ v. (states : ℕ) →
-        IsWaitingVerdict states (file_of image.now) (program_of image.now) v) }
+        IsWaitingVerdict states (given_of given.entry) (file_of image.now) (program_of image.now) v) }
 {
     runs_decide();
     if is_quiet(alloc, rows) {
@@ -102,7 +106,8 @@ pub(crate) fn waiting_verdict(
         steps: MOST_STEPS_ALONE,
         orders: MOST_ORDERS,
     };
-    let endless = endless_runs(alloc, image.checked().file(), image.program(), &bounds)?;
+    let specification = specification_of(given, image);
+    let endless = endless_runs(alloc, specification.file, specification.program, &bounds)?;
     match first_waiting(endless.runs.as_slice(), rows) {
         None => Ok(ProgramVerdict::Good),
         Some(at) => {

@@ -21,21 +21,24 @@ got_within (y ∷ xs) zero x got = omega arith
 got_within (y ∷ xs) (suc n) x got = omega (arith, got_within xs n x got)
 
 -- what the search has passed ends within the family
-pub last_within : (sought : Sought) (states : ℕ) (classes : Text) (p : Programs) (from to : ℕ) (f : Finding Why) →
-    IsFound sought states classes p from to f → to ≤ length (plans p.family) → from + length f.passed.items ≤ length (plans p.family)
-last_within sought states classes p from to f found within = by_end f.halted found.ends
+pub last_within : (sought : Sought) (states : ℕ) (reference : Option Text) (classes : Text) (p : Programs)
+    (from to : ℕ) (f : Finding Why) →
+    IsFound sought states reference classes p from to f → to ≤ length (plans p.family) →
+    from + length f.passed.items ≤ length (plans p.family)
+last_within sought states reference classes p from to f found within = by_end f.halted found.ends
   where
-    by_end : (h : Option (Halted Why)) → EndsSo p (IsWhy sought classes) (from + length f.passed.items) to h →
+    by_end : (h : Option (Halted Why)) → EndsSo p (IsWhy sought reference classes) (from + length f.passed.items) to h →
         from + length f.passed.items ≤ length (plans p.family)
     by_end None ends = omega (arith, ends)
     by_end (Some h) ends = omega (arith, got_within (plans p.family) (from + length f.passed.items) ends.0 ends.1)
 
-pub next_under : (sought : Sought) (states : ℕ) (classes : Text) (p : Programs) (from to : ℕ) (f : Finding Why) →
-    IsFound sought states classes p from to f → length (plans p.family) < 18446744073709551616 →
+pub next_under : (sought : Sought) (states : ℕ) (reference : Option Text) (classes : Text) (p : Programs)
+    (from to : ℕ) (f : Finding Why) →
+    IsFound sought states reference classes p from to f → length (plans p.family) < 18446744073709551616 →
     IfSome f.halted (λ h. from + length f.passed.items + 1 < 18446744073709551616)
-next_under sought states classes p from to f found few = by_end f.halted found.ends
+next_under sought states reference classes p from to f found few = by_end f.halted found.ends
   where
-    by_end : (h : Option (Halted Why)) → EndsSo p (IsWhy sought classes) (from + length f.passed.items) to h →
+    by_end : (h : Option (Halted Why)) → EndsSo p (IsWhy sought reference classes) (from + length f.passed.items) to h →
         IfSome h (λ h. from + length f.passed.items + 1 < 18446744073709551616)
     by_end None ends = tt
     by_end (Some h) ends = omega (arith, few, got_within (plans p.family) (from + length f.passed.items) ends.0 ends.1)

@@ -36,10 +36,14 @@ why_text : (before to count : ℕ) (ps : List Passed) (program : Text) (w : Why)
     }))
 why_text before to count ps program (whys.Bad why schedule) shown = refl
 why_text before to count ps program (whys.NotCompiled fault) shown = absurd shown
+why_text before to count ps program (whys.NotSpecified fault) shown = absurd shown
 
 pub printed_by : (before to count : ℕ) (ps : List Passed) (halted : Option (Halted Why)) → AreShown halted →
     halted_answer before to count ps halted ≡
-    Ok (report_text (record { figures = figures_of before to count ps; found = found_of (before + length ps + 1) halted }))
+    Ok (report_text (record {
+      figures = figures_of before to count ps;
+      found = found_of (before + length ps + 1) halted;
+    }))
 printed_by before to count ps None shown = refl
 printed_by before to count ps (Some h) shown = why_text before to count ps (string_bytes h.program) h.halt shown
 
@@ -164,99 +168,117 @@ reports_add before mid to count ps qs (Some h) k is = some_adds before mid to co
 -- ---- both searches
 
 -- what is passed so in a range is passed so in one that begins before it
-from_before : (sought : Sought) (states : ℕ) (classes : Text) (p : Programs) (from mid n : ℕ) (said : Passed) →
+from_before : (sought : Sought) (states : ℕ) (reference : Option Text) (classes : Text) (p : Programs)
+    (from mid n : ℕ) (said : Passed) →
     from ≤ mid →
-    PassesAt p (IsSound sought classes) (IsCut sought states classes) mid n said →
-    PassesAt p (IsSound sought classes) (IsCut sought states classes) from n said
-from_before sought states classes p from mid n said before (plan, there, is) = (plan, there, by_said said is)
+    PassesAt p (IsSound sought reference classes) (IsCut sought states reference classes) mid n said →
+    PassesAt p (IsSound sought reference classes) (IsCut sought states reference classes) from n said
+from_before sought states reference classes p from mid n said before (plan, there, is) = (plan, there, by_said said is)
   where
-    known : StandsFrom p mid n plan ⊎ IsSound sought classes (text_of p plan) →
-        StandsFrom p from n plan ⊎ IsSound sought classes (text_of p plan)
+    known : StandsFrom p mid n plan ⊎ IsSound sought reference classes (text_of p plan) →
+        StandsFrom p from n plan ⊎ IsSound sought reference classes (text_of p plan)
     known (inl s) =
         inl (record { number = s.number; first = omega (arith, s.first, before); before = s.before; there = s.there })
     known (inr good) = inr good
 
-    by_said : (said : Passed) → IsPassed p (IsSound sought classes) (IsCut sought states classes) mid n plan said →
-        IsPassed p (IsSound sought classes) (IsCut sought states classes) from n plan said
+    by_said : (said : Passed) → IsPassed p (IsSound sought reference classes) (IsCut sought states reference classes)
+        mid n plan said →
+        IsPassed p (IsSound sought reference classes) (IsCut sought states reference classes) from n plan said
     by_said passed.Double double = record { follows = double.follows; known = known double.known }
     by_said passed.Good good = good
     by_said passed.Cut cut = cut
 
-passed_all : (sought : Sought) (states : ℕ) (classes : Text) (p : Programs) (from mid : ℕ) (ps qs : List Passed) →
+passed_all : (sought : Sought) (states : ℕ) (reference : Option Text) (classes : Text) (p : Programs) (from mid : ℕ)
+    (ps qs : List Passed) →
     from + length ps ≡ mid →
     ((k : ℕ) (said : Passed) → slice_get ps k ≡ Some said →
-    PassesAt p (IsSound sought classes) (IsCut sought states classes) from (from + k) said) →
+    PassesAt p (IsSound sought reference classes) (IsCut sought states reference classes) from (from + k) said) →
     ((k : ℕ) (said : Passed) → slice_get qs k ≡ Some said →
-    PassesAt p (IsSound sought classes) (IsCut sought states classes) mid (mid + k) said) →
+    PassesAt p (IsSound sought reference classes) (IsCut sought states reference classes) mid (mid + k) said) →
     (k : ℕ) (said : Passed) → slice_get (ps ++ qs) k ≡ Some said →
-    PassesAt p (IsSound sought classes) (IsCut sought states classes) from (from + k) said
-passed_all sought states classes p from mid ps qs is first next =
-    each_of_both (λ k said. PassesAt p (IsSound sought classes) (IsCut sought states classes) from (from + k) said) ps qs
+    PassesAt p (IsSound sought reference classes) (IsCut sought states reference classes) from (from + k) said
+passed_all sought states reference classes p from mid ps qs is first next =
+    each_of_both (λ k said. PassesAt p (IsSound sought reference classes) (IsCut sought states reference classes) from
+    (from + k) said) ps qs
     first
     (λ k said at. let e : mid + k ≡ from + (length ps + k) = omega (arith, is) in
-    subst (λ n. PassesAt p (IsSound sought classes) (IsCut sought states classes) from n said) e
-    (from_before sought states classes p from mid (mid + k) said (omega (arith, is)) (next k said at)))
+    subst (λ n. PassesAt p (IsSound sought reference classes) (IsCut sought states reference classes) from n said) e
+    (from_before sought states reference classes p from mid (mid + k) said (omega (arith, is)) (next k said at)))
 
-ends_on : (sought : Sought) (classes : Text) (p : Programs) (from mid to : ℕ) (ps qs : List Passed)
+ends_on : (sought : Sought) (reference : Option Text) (classes : Text) (p : Programs) (from mid to : ℕ)
+    (ps qs : List Passed)
     (h : Option (Halted Why)) →
-    from + length ps ≡ mid → EndsSo p (IsWhy sought classes) (mid + length qs) to h →
-    EndsSo p (IsWhy sought classes) (from + length (ps ++ qs)) to h
-ends_on sought classes p from mid to ps qs h is ends =
+    from + length ps ≡ mid → EndsSo p (IsWhy sought reference classes) (mid + length qs) to h →
+    EndsSo p (IsWhy sought reference classes) (from + length (ps ++ qs)) to h
+ends_on sought reference classes p from mid to ps qs h is ends =
     let e : mid + length qs ≡ from + length (ps ++ qs) = omega (arith, is, length-append ps qs) in
-    subst (λ n. EndsSo p (IsWhy sought classes) n to h) e ends
+    subst (λ n. EndsSo p (IsWhy sought reference classes) n to h) e ends
 
 -- where the first search ends with no program
-pub none_first : (sought : Sought) (states : ℕ) (classes : Text) (p : Programs) (from mid to : ℕ) (f g all : Finding Why) →
-    IsFound sought states classes p from mid f → IsFound sought states classes p mid to g → f.halted ≡ None →
-    all.passed.items ≡ f.passed.items ++ g.passed.items → all.halted ≡ g.halted → IsFound sought states classes p from to all
-none_first sought states classes p from mid to f g all first next none passed halted =
+pub none_first : (sought : Sought) (states : ℕ) (reference : Option Text) (classes : Text) (p : Programs)
+    (from mid to : ℕ) (f g all : Finding Why) →
+    IsFound sought states reference classes p from mid f → IsFound sought states reference classes p mid to g →
+    f.halted ≡ None →
+    all.passed.items ≡ f.passed.items ++ g.passed.items → all.halted ≡ g.halted →
+    IsFound sought states reference classes p from to all
+none_first sought states reference classes p from mid to f g all first next none passed halted =
     let is : from + length f.passed.items ≡ mid =
-    subst (EndsSo p (IsWhy sought classes) (from + length f.passed.items) mid) none first.ends in
+    subst (EndsSo p (IsWhy sought reference classes) (from + length f.passed.items) mid) none first.ends in
     record {
       passed = subst (λ xs. (k : ℕ) (said : Passed) → slice_get xs k ≡ Some said →
-          PassesAt p (IsSound sought classes) (IsCut sought states classes) from (from + k) said) (sym passed)
-          (passed_all sought states classes p from mid f.passed.items g.passed.items is first.passed next.passed);
-      ends = subst (λ (h : Option (Halted Why)). EndsSo p (IsWhy sought classes) (from + length all.passed.items) to h)
+          PassesAt p (IsSound sought reference classes) (IsCut sought states reference classes) from (from + k) said)
+          (sym passed)
+          (passed_all sought states reference classes p from mid f.passed.items g.passed.items is first.passed
+          next.passed);
+      ends = subst (λ (h : Option (Halted Why)). EndsSo p (IsWhy sought reference classes)
+          (from + length all.passed.items) to h)
           (sym halted)
-          (subst (λ xs. EndsSo p (IsWhy sought classes) (from + length xs) to g.halted) (sym passed)
-          (ends_on sought classes p from mid to f.passed.items g.passed.items g.halted is next.ends));
+          (subst (λ xs. EndsSo p (IsWhy sought reference classes) (from + length xs) to g.halted) (sym passed)
+          (ends_on sought reference classes p from mid to f.passed.items g.passed.items g.halted is next.ends));
     }
 
 -- where it ends with one
-some_first : (sought : Sought) (states : ℕ) (classes : Text) (p : Programs) (from mid to : ℕ) (f all : Finding Why) (h : Halted Why) →
-    IsFound sought states classes p from mid f → f.halted ≡ Some h → all.passed.items ≡ f.passed.items → all.halted ≡ Some h →
-    IsFound sought states classes p from to all
-some_first sought states classes p from mid to f all h first some passed halted =
-    let halts : HaltsAt p (IsWhy sought classes) (from + length f.passed.items) h =
-    subst (EndsSo p (IsWhy sought classes) (from + length f.passed.items) mid) some first.ends in
+some_first : (sought : Sought) (states : ℕ) (reference : Option Text) (classes : Text) (p : Programs)
+    (from mid to : ℕ) (f all : Finding Why) (h : Halted Why) →
+    IsFound sought states reference classes p from mid f → f.halted ≡ Some h → all.passed.items ≡ f.passed.items →
+    all.halted ≡ Some h →
+    IsFound sought states reference classes p from to all
+some_first sought states reference classes p from mid to f all h first some passed halted =
+    let halts : HaltsAt p (IsWhy sought reference classes) (from + length f.passed.items) h =
+    subst (EndsSo p (IsWhy sought reference classes) (from + length f.passed.items) mid) some first.ends in
     record {
       passed = subst (λ xs. (k : ℕ) (said : Passed) → slice_get xs k ≡ Some said →
-          PassesAt p (IsSound sought classes) (IsCut sought states classes) from (from + k) said) (sym passed)
+          PassesAt p (IsSound sought reference classes) (IsCut sought states reference classes) from (from + k) said)
+          (sym passed)
           first.passed;
-      ends = subst (λ (o : Option (Halted Why)). EndsSo p (IsWhy sought classes) (from + length all.passed.items) to o)
+      ends = subst (λ (o : Option (Halted Why)). EndsSo p (IsWhy sought reference classes)
+          (from + length all.passed.items) to o)
           (sym halted)
-          (subst (λ xs. HaltsAt p (IsWhy sought classes) (from + length xs) h) (sym passed) halts);
+          (subst (λ xs. HaltsAt p (IsWhy sought reference classes) (from + length xs) h) (sym passed) halts);
     }
 
-pub found_in_both : (sought : Sought) (states : ℕ) (classes : Text) (p : Programs) (from mid to : ℕ) (f g all : Finding Why) →
-    IsFound sought states classes p from mid f → IsFound sought states classes p mid to g → AreOne f g all →
-    IsFound sought states classes p from to all
-found_in_both sought states classes p from mid to f g all first next one = by_end f.halted refl
+pub found_in_both : (sought : Sought) (states : ℕ) (reference : Option Text) (classes : Text) (p : Programs)
+    (from mid to : ℕ) (f g all : Finding Why) →
+    IsFound sought states reference classes p from mid f → IsFound sought states reference classes p mid to g →
+    AreOne f g all →
+    IsFound sought states reference classes p from to all
+found_in_both sought states reference classes p from mid to f g all first next one = by_end f.halted refl
   where
-    by_end : (h : Option (Halted Why)) → f.halted ≡ h → IsFound sought states classes p from to all
+    by_end : (h : Option (Halted Why)) → f.halted ≡ h → IsFound sought states reference classes p from to all
     by_end None e =
-        none_first sought states classes p from mid to f g all first next e
+        none_first sought states reference classes p from mid to f g all first next e
         (one.passed ∙ ap (λ (o : Option (Halted Why)). passed_by o f.passed.items g.passed.items) e)
         (one.halted ∙ ap (λ (o : Option (Halted Why)). halted_by o g.halted) e)
     by_end (Some h) e =
-        some_first sought states classes p from mid to f all h first e
+        some_first sought states reference classes p from mid to f all h first e
         (one.passed ∙ ap (λ (o : Option (Halted Why)). passed_by o f.passed.items g.passed.items) e)
         (one.halted ∙ ap (λ (o : Option (Halted Why)). halted_by o g.halted) e)
 
-pub sums_agree : (sought : Sought) (states : ℕ) (classes : Text) (p : Programs) (from mid to count : ℕ) (f g all : Finding Why) →
-    IsFound sought states classes p from mid f → AreOne f g all →
+pub sums_agree : (sought : Sought) (states : ℕ) (reference : Option Text) (classes : Text) (p : Programs)
+    (from mid to count : ℕ) (f g all : Finding Why) →
+    IsFound sought states reference classes p from mid f → AreOne f g all →
     joined (report_of from mid count f) (report_of mid to count g) ≡ report_of from to count all
-sums_agree sought states classes p from mid to count f g all first one =
+sums_agree sought states reference classes p from mid to count f g all first one =
     reports_add from mid to count f.passed.items g.passed.items f.halted g.halted
-    (λ none. subst (EndsSo p (IsWhy sought classes) (from + length f.passed.items) mid) none first.ends) ∙
+    (λ none. subst (EndsSo p (IsWhy sought reference classes) (from + length f.passed.items) mid) none first.ends) ∙
     (λ i. report from to count (sym one.passed i) (sym one.halted i))

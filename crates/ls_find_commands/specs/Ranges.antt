@@ -19,6 +19,8 @@ abbrev pub told : ℕ → Text → Why → Found
 told number program (whys.Bad why schedule) =
     record { number = number; reason = string_bytes why; program = program; schedule = string_bytes schedule }
 told number program (whys.NotCompiled fault) = record { number = number; reason = []; program = program; schedule = [] }
+told number program (whys.NotSpecified fault) =
+    record { number = number; reason = []; program = program; schedule = [] }
 
 abbrev pub found_of : ℕ → Option (Halted Why) → Option Found
 found_of number None = None
@@ -35,6 +37,7 @@ report_of before to count f = record {
 abbrev pub IsShown : Why → Type 0
 IsShown (whys.Bad why schedule) = Unit {0}
 IsShown (whys.NotCompiled fault) = ⊥
+IsShown (whys.NotSpecified fault) = ⊥
 
 abbrev pub AreShown : Option (Halted Why) → Type 0
 AreShown None = Unit {0}
@@ -59,11 +62,13 @@ pub record AreOne (f g all : Finding Why) : Type 0 where
   pub passed : all.passed.items ≡ passed_by f.halted f.passed.items g.passed.items
   pub halted : all.halted ≡ halted_by f.halted g.halted
 
--- Of two ranges, one after the other, both searches together are one of all numbers, and the sum of their reports is its
--- report.
+-- Of two ranges, one after the other, both searches together are one of all numbers, and the sum of their reports is
+-- its report.
 abbrev pub RangesAddUp : Type 0
 RangesAddUp =
-    (sought : Sought) (states : ℕ) (classes : Text) (p : Programs) (from mid to count : ℕ) (f g all : Finding Why) →
-    IsFound sought states classes p from mid f → IsFound sought states classes p mid to g → AreOne f g all →
-    IsFound sought states classes p from to all ×
+    (sought : Sought) (states : ℕ) (reference : Option Text) (classes : Text) (p : Programs) (from mid to count : ℕ)
+    (f g all : Finding Why) →
+    IsFound sought states reference classes p from mid f → IsFound sought states reference classes p mid to g →
+    AreOne f g all →
+    IsFound sought states reference classes p from to all ×
     (joined (report_of from mid count f) (report_of mid to count g) ≡ report_of from to count all)

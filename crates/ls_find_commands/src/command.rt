@@ -19,6 +19,7 @@ use ls_family_search::{Finding, Halted, Numbers, Programs};
 use ls_faults::fault::ToolFault;
 use ls_find::{Explorer, Sought, Why};
 use ls_find_reports::{Figures, Shown, figures_of, print_found, print_none};
+use ls_specified::SpecificationFault;
 use std::alloc::{AllocError, Global};
 use std::thread::Threads;
 
@@ -77,6 +78,7 @@ fn why_text(
             Ok(text)
         }
         Why::NotCompiled(fault) => Err(ToolFault::from(fault)),
+        Why::NotSpecified(fault) => Err(ToolFault::from(SpecificationFault::NotCompiled(fault))),
     }
 }
 
@@ -108,12 +110,13 @@ fn finding_text(
 fn found<W: Watch>(
     rt: &(impl Threads + Sync),
     alloc: Global,
-    classes: &str,
+    texts: Texts<'_>,
     programs: &Programs<'_>,
     range: Range,
     watch: &mut W,
 ) -> Result<String, ToolFault>
-    ensures gives { GivesText (FindsIn classes.now programs.now range) result }
+    ensures gives { GivesText (FindsIn (option_map plain_text texts.entry.reference) texts.entry.classes.now
+        programs.now range) result }
     ensures watched { GoesOn W.Since watch.old watch.new }
 {
     let count = programs.family().count();
@@ -124,7 +127,8 @@ fn found<W: Watch>(
     let to = range.to.min(count);
     let numbers = Numbers { from, to };
     let explorer = Explorer {
-        classes,
+        specification: texts.reference,
+        classes: texts.classes,
         states: range.states,
         sought: range.sought,
     };
@@ -133,15 +137,17 @@ fn found<W: Watch>(
 }
 
 /// The first program of a class text, by numbers of a range, that has a history that isn't linearizable; or, if these
-/// are looked for, threads that wait or turn for ever, or a history that is illegal as one of a set. Its number and
-/// the reason, how the programs before it were passed, its text, and as another part the schedule. Or that there is
-/// none. A program that isn't explored whole is counted as cut.
+/// are looked for, threads that wait or turn for ever, or a history that is illegal as one of a set. Its number and the
+/// reason, how the programs before it were passed, its text, and as another part the schedule. Or that there is none. A
+/// program that isn't explored whole is counted as cut.
 ///
-/// If no range is asked for, each call of the class runs alone, under one lock, and that decides what is looked for,
-/// this is said at once, whatever the bounds.
+/// By a reference, if one is given, its calls, run one at a time, say which histories are right, and which calls end.
 ///
-/// Refused with 61 as `explore` is; else as `programs_of` is; else as `check_entries` is, if a menu is given; else
-/// with 70 if no program has the first number, or the last number comes before it; else as `compile` is for a program.
+/// If no range is asked for and no reference is given, each call of the class runs alone, under one lock, and that
+/// decides what is looked for, this is said at once, whatever the bounds.
+///
+/// Refused with 61 as `explore` is; else as `programs_for` is; else with 70 if no program has the first number, or the
+/// last number comes before it; else as `compile` is for a program.
 ///
 /// Programs are explored side by side. The answer is the one of a single thread.
 pub fn find<W: Watch>(
@@ -152,8 +158,8 @@ pub fn find<W: Watch>(
     texts: Texts<'_>,
     watch: &mut W,
 ) -> Result<String, ToolFault>
-    ensures gives { GivesText (FindsTo choosing range texts.entry.classes.now
-        (option_map plain_text texts.entry.menu)) result }
+    ensures gives { GivesText (FindsTo choosing range (option_map plain_text texts.entry.reference)
+        texts.entry.classes.now (option_map plain_text texts.entry.menu)) result }
     ensures watched { GoesOn W.Since watch.old watch.new }
 {
     if are_bad_states(range.states) {
@@ -164,21 +170,20 @@ pub fn find<W: Watch>(
     }
     let made = programs_for(alloc, choosing, texts)?;
     let programs = made.programs();
-    found(rt, alloc, texts.classes, &programs, range, watch)
+    found(rt, alloc, texts, &programs, range, watch)
 }
 
 /// The text of the program of a number, from 1, of a class text.
 ///
-/// Refused as `programs_of` is; else as `check_entries` is, if a menu is given; else with 70 if no program has the
-/// number.
+/// Refused as `programs_for` is; else with 70 if no program has the number.
 pub fn print_program(
     alloc: Global,
     choosing: Choosing,
     number: u64,
     texts: Texts<'_>,
 ) -> Result<String, ToolFault>
-    ensures { GivesText (PrintsTo choosing number texts.entry.classes.now
-        (option_map plain_text texts.entry.menu)) result }
+    ensures { GivesText (PrintsTo choosing number (option_map plain_text texts.entry.reference)
+        texts.entry.classes.now (option_map plain_text texts.entry.menu)) result }
 {
     let made = programs_for(alloc, choosing, texts)?;
     let programs = made.programs();

@@ -2,6 +2,7 @@
 #![tactic(auto)]
 
 mod command;
+mod lacking;
 pub mod laws;
 mod menus;
 mod noting;

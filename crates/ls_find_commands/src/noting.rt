@@ -1,6 +1,7 @@
 // Who watches explorations is told of programs.
 
-ghost use Rattle.std.specs.Prelude.{◌≤◌, IfOk, length};
+ghost use Rattle.std.specs.Prelude.{◌≤◌, IfOk, length, option_map};
+ghost use Rattle.ls_items.specs.Cutting.{plain_text};
 ghost use Rattle.ls_explore.specs.Watching.{GoesOn};
 ghost use Rattle.ls_families.specs.Families.{plans};
 ghost use Rattle.ls_find.specs.Family.{IsFound, PassedAreSound};
@@ -51,8 +52,10 @@ pub(crate) fn searched<W: Watch>(
     requires order { numbers.from ≤ numbers.to }
     requires there { numbers.to ≤ length (plans programs.now.family) }
     ensures finding { IfOk result (IsFound explorer.now.sought explorer.now.states
-        explorer.now.classes.now programs.now numbers.from numbers.to) }
-    ensures sound { IfOk result (PassedAreSound explorer.now.sought explorer.now.classes.now programs.now numbers.from) }
+        (option_map plain_text explorer.now.specification) explorer.now.classes.now programs.now numbers.from
+        numbers.to) }
+    ensures sound { IfOk result (PassedAreSound explorer.now.sought (option_map plain_text explorer.now.specification)
+        explorer.now.classes.now programs.now numbers.from) }
     ensures watched { GoesOn W.Since watch.old watch.new }
 {
     let mut noting = Noting::new(watch);

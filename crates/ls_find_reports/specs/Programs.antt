@@ -14,14 +14,18 @@ is_end None = false
 is_end (Some []) = true
 is_end (Some (b ∷ text)) = false
 
--- what stands behind the lines of the setup, A and B
-abbrev pub behind_two : Text → Option Text
-behind_two text =
-    behind_line (codes "thread B { ") (behind_line (codes "thread A { ") (behind_line (codes "setup { ") (Some text)))
+-- what stands behind the lines of the setup and A
+abbrev pub behind_one : Text → Option Text
+behind_one text = behind_line (codes "thread A { ") (behind_line (codes "setup { ") (Some text))
 
--- Whether the lines of a text are those of a setup and of two threads, of three or of four, in order. Of each line it
--- is said how it begins.
+-- and of B
+abbrev pub behind_two : Text → Option Text
+behind_two text = behind_line (codes "thread B { ") (behind_one text)
+
+-- Whether the lines of a text are those of a setup and of one thread to four, in order. Of each line it is said how it
+-- begins.
 abbrev pub are_lines : Text → Bool
 are_lines text =
-    is_end (behind_two text) || (is_end (behind_line (codes "thread C { ") (behind_two text)) ||
-    is_end (behind_line (codes "thread D { ") (behind_line (codes "thread C { ") (behind_two text))))
+    is_end (behind_one text) || (is_end (behind_two text) ||
+    (is_end (behind_line (codes "thread C { ") (behind_two text)) ||
+    is_end (behind_line (codes "thread D { ") (behind_line (codes "thread C { ") (behind_two text)))))

@@ -1,7 +1,7 @@
 // The lines of a program that is found.
 
 ghost use Rattle.std.specs.Prelude.{◌≡◌, Some, option_map};
-ghost use Rattle.ls_find_reports.specs.Programs.{are_lines, behind_line, behind_two, is_end};
+ghost use Rattle.ls_find_reports.specs.Programs.{are_lines, behind_line, behind_one, is_end};
 
 use crate::statuses::begins;
 use ls_report::cuts::cut;
@@ -22,13 +22,12 @@ fn behind_line<'a>(front: &str, text: Option<&'a str>) -> Option<&'a str>
     }
 }
 
-/// What stands behind the lines of the setup and of the first two threads.
-fn behind_two(text: &str) -> Option<&str>
-    ensures { option_map (λ t. t.now) result ≡ behind_two text.now }
+/// What stands behind the lines of the setup and of the first thread.
+fn behind_one(text: &str) -> Option<&str>
+    ensures { option_map (λ t. t.now) result ≡ behind_one text.now }
 {
     let setup = behind_line("setup { ", Some(text));
-    let first = behind_line("thread A { ", setup);
-    behind_line("thread B { ", first)
+    behind_line("thread A { ", setup)
 }
 
 /// Whether a text is there, and nothing stands in it.
@@ -41,12 +40,13 @@ fn is_end(text: Option<&str>) -> bool
     }
 }
 
-/// Whether the lines of a text are those of a setup and of two threads, of three or of four, in order.
+/// Whether the lines of a text are those of a setup and of one thread to four, in order.
 pub(crate) fn are_lines(text: &str) -> bool
     ensures { result ≡ are_lines text.now }
 {
-    let two = behind_two(text);
+    let one = behind_one(text);
+    let two = behind_line("thread B { ", one);
     let three = behind_line("thread C { ", two);
     let four = behind_line("thread D { ", three);
-    is_end(two) || is_end(three) || is_end(four)
+    is_end(one) || is_end(two) || is_end(three) || is_end(four)
 }

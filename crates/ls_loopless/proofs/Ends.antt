@@ -202,4 +202,5 @@ never_turn file program none = never file program none
 
 -- so each that turns is excused
 pub none_turns : LooplessTurnExcused
-none_turns file program none schedule c turns pending = absurd (never file program none schedule turns)
+none_turns sfile sprogram file program none schedule c turns pending =
+    absurd (never file program none schedule turns)

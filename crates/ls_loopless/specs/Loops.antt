@@ -43,6 +43,8 @@ HasNoLoops file = HaveNoLoops file.methods
 abbrev pub LooplessNeverTurn : Type 0
 LooplessNeverTurn = (file : File) (program : Program) → HasNoLoops file → NeverTurns file program
 
--- so none do in calls that end where calls run one at a time
+-- so none do in calls that end where calls of a specification run one at a time
 abbrev pub LooplessTurnExcused : Type 0
-LooplessTurnExcused = (file : File) (program : Program) → HasNoLoops file → NoneTurnsUnexcused file program
+LooplessTurnExcused =
+    (sfile : File) (sprogram : Program) (file : File) (program : Program) → HasNoLoops file →
+    NoneTurnsUnexcused sfile sprogram file program

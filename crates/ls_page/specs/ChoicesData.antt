@@ -3,6 +3,8 @@ use Rattle.std.specs.Prelude.{◌≡◌, ◌≢◌, ◌↔◌, ◌≤◌, ℕ, �
 use Rattle.std.specs.Prelude.{codes, length, map}
 use Rattle.std.specs.Fmt.{decimal}
 use Rattle.ls_events.specs.declared.event.Event.{Event}
+use Rattle.ls_checked.specs.CheckedTree.{File}
+use Rattle.ls_checked.specs.CheckedProgram.{Program}
 use Rattle.ls_report.specs.Events.{Text}
 use Rattle.ls_serial.specs.Serial.{IsExplainedBy}
 use Rattle.ls_linearizable.specs.Linearizable.{AreTrue, IsLinearizable, TellSerial}
@@ -14,6 +16,8 @@ use Rattle.ls_labels.specs.Names.{Names}
 use Rattle.ls_state.specs.State.{state_text}
 use Rattle.ls_page.specs.Data.{Texts, field, texts_text}
 use Rattle.ls_page.specs.Quoted.{quoted}
+use Rattle.ls_page.specs.declared.parts.Reference.{Reference as GivenReference}
+use Rattle.ls_specification.specs.Specification.{spec_file, spec_program}
 use Rattle.ls_choices.specs.Rows.{AreCut, Graph, HaveRows, IsGraphFrom, rows_of_threads}
 use Rattle.ls_choices.specs.Walks.{numbered, words_along}
 use Rattle.ls_choices.specs.Laws.{whole_trace}
@@ -23,6 +27,20 @@ use Rattle.ls_choices.specs.declared.reach.Reach.TheVariants as reaches
 use Rattle.ls_page.specs.Lists.{listed, lists_text}
 use Rattle.ls_page.specs.Numbers.{AreAllNumbers, event_lines, row_words}
 use Rattle.ls_page.specs.States.{ends_text, targets_text}
+
+-- a reference: its class text, and the file and the program whose calls, run one at a time, are right
+pub record Reference : Type 0 where
+  pub text : Text
+  pub file : File
+  pub program : Program
+
+abbrev pub reference_of : Option GivenReference → Option Reference
+reference_of None = None
+reference_of (Some r) = Some (record {
+  text = r.text.now;
+  file = spec_file r.specification;
+  program = spec_program r.specification;
+})
 
 -- ---- the text
 
@@ -66,23 +84,39 @@ serial_text t = codes ",\"serial\":" ++ (lists_text t.serial ++ doubt_text t.dou
 abbrev pub tables_text : Names → Graph → Reach → Tables → Text
 tables_text names g reach t = lines_text t ++ (graph_text names g reach ++ serial_text t)
 
-abbrev pub head_text : Names → Texts → List ℕ → Text
-head_text names texts first = codes "{\"listset\":1,\"choose\":1" ++ (texts_text texts ++ first_text names first)
+-- the text of a reference, if one is given
+abbrev pub reference_text : Option Reference → Text
+reference_text None = []
+reference_text (Some r) = field (codes "reference") r.text
 
-abbrev pub data_text : Names → Texts → List ℕ → Graph → Reach → Tables → Text
-data_text names texts first g reach t = head_text names texts first ++ (tables_text names g reach t ++ codes "}\n")
+abbrev pub head_text : Names → Texts → Option Reference → List ℕ → Text
+head_text names texts reference first =
+    codes "{\"listset\":1,\"choose\":1" ++ (texts_text texts ++ (reference_text reference ++ first_text names first))
+
+abbrev pub data_text : Names → Texts → Option Reference → List ℕ → Graph → Reach → Tables → Text
+data_text names texts reference first g reach t =
+    head_text names texts reference first ++ (tables_text names g reach t ++ codes "}\n")
 
 -- ---- what it says
 
--- Serial histories of the program. If there is no doubt, they are all, and a history is linearizable exactly if a
--- beginning of one of them explains it. A doubt is so.
-pub record AreSerialHistories (names : Names) (histories : List (List Event)) (doubt : Option Doubt) : Type 0 where
+-- Serial histories of a program of a file. If there is no doubt, they are all, and a history is linearizable exactly if
+-- a beginning of one of them explains it. A doubt is so.
+pub record AreSerialHistories (file : File) (program : Program) (histories : List (List Event)) (doubt : Option Doubt)
+    : Type 0 where
   pub serial : AreSerialRuns histories
-  pub truth : AreTrue names.file names.program histories
-  pub all : IfNone doubt (TellSerial names.file names.program histories)
-  pub decide : IfNone doubt
-      ((h : List Event) → IsLinearizable names.file names.program h ↔ IsExplainedBy histories h)
-  pub why : IfSome doubt (IsDoubt names.file names.program usual)
+  pub truth : AreTrue file program histories
+  pub all : IfNone doubt (TellSerial file program histories)
+  pub decide : IfNone doubt ((h : List Event) → IsLinearizable file program h ↔ IsExplainedBy histories h)
+  pub why : IfSome doubt (IsDoubt file program usual)
+
+-- whose these are: the reference's, if one is given, and else the program's own
+abbrev pub serial_file : Option Reference → Names → File
+serial_file None names = names.file
+serial_file (Some r) names = r.file
+
+abbrev pub serial_program : Option Reference → Names → Program
+serial_program None names = names.program
+serial_program (Some r) names = r.program
 
 -- The graph is one of the program's states from the end of the first steps on, of at most so many states. Each has a
 -- row for each thread. A step leads to no state that is kept only if so many are kept. The lines along each walk are
@@ -104,13 +138,15 @@ pub record AreTables (names : Names) (g : Graph) (histories : List (List Event))
   pub serial : AreAllNumbers t.texts t.serial (map (event_lines names.program) histories)
   pub once : AllPairs (λ (p q : Text). p ≢ q) t.texts
 
--- these are the data of such a graph, with serial histories of the program
-pub record IsData (names : Names) (texts : Texts) (first : List ℕ) (most : ℕ) (text : Text) : Type 0 where
+-- these are the data of such a graph, with serial histories of the reference, if one is given, and else of the program
+pub record IsData (names : Names) (texts : Texts) (reference : Option Reference) (first : List ℕ) (most : ℕ)
+    (text : Text) : Type 0 where
   pub graph : Graph
   pub reach : Reach
   pub histories : List (List Event)
   pub tables : Tables
   pub choice : IsChoice names first most graph reach
-  pub verdicts : AreSerialHistories names histories tables.doubt
+  pub verdicts : AreSerialHistories (serial_file reference names) (serial_program reference names) histories
+      tables.doubt
   pub told : AreTables names graph histories tables
-  pub text_is : text ≡ data_text names texts first graph reach tables
+  pub text_is : text ≡ data_text names texts reference first graph reach tables

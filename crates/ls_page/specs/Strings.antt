@@ -1,5 +1,5 @@
 -- What JSON reads as a string.
-use Rattle.std.specs.Prelude.{◌≡◌, ◌==◌, ◌+◌, ◌*◌, ◌-◌, ℕ, Bool, true, false, not, ◌&&◌, ◌||◌, nat_le, nat_lt, List, []}
+use Rattle.std.specs.Prelude.{◌≡◌, ◌==◌, ◌+◌, ◌*◌, ◌-◌, ℕ, Bool, true, false, not, ◌&&◌, ◌||◌, nat_le, nat_lt, []}
 use Rattle.std.specs.Prelude.{◌∷◌, ◌++◌, Option, Some, None, encode_utf8, if◌then◌else◌}
 use Rattle.std.specs.Char.{digit_value, is_digit}
 use Rattle.ls_page.specs.Quoted.{Text}

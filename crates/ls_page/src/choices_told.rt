@@ -5,14 +5,15 @@ ghost use Rattle.ls_labels.specs.Names.{names_of};
 ghost use Rattle.ls_page.specs.Data.{texts_of, texts_text};
 ghost use Rattle.ls_choices.specs.Seen.{graph_of};
 ghost use Rattle.ls_page.specs.ChoicesData.{IsData, data_text, doubt_text, first_text, graph_text, head_text};
-ghost use Rattle.ls_page.specs.ChoicesData.{lines_text, reach_text, serial_text, tables_text};
+ghost use Rattle.ls_page.specs.ChoicesData.{lines_text, reach_text, reference_of, reference_text, serial_text};
+ghost use Rattle.ls_page.specs.ChoicesData.{tables_text};
 ghost use Rattle.ls_page.specs.Tabled.{tables_of};
 
-use crate::Texts;
 use crate::choices_parts::{push_field, whole_trace};
 use crate::lists::{push_lists, push_targets, push_texts as push_table};
 use crate::states::push_ends;
 use crate::tables::{Tables, serial_of, tables_of};
+use crate::{Reference, Texts};
 use ls_choices::graph::{Choices, all_choices};
 use ls_choices::reach::{Reach, reach_of};
 use ls_labels::names::Names;
@@ -41,19 +42,32 @@ fn push_first(alloc: Global, out: &mut String, names: Names, first: &[u8]) -> Re
     push_field(out, "setup", setup.as_str())
 }
 
+// Adds the text of a reference, if one is given.
+fn push_reference(out: &mut String, reference: Option<Reference<'_>>) -> Result<(), AllocError>
+    ensures { OnOk result (string_bytes out.new ≡ string_bytes out.old ++
+        reference_text (reference_of reference.entry)) }
+{
+    match reference {
+        Some(reference) => push_field(out, "reference", reference.text),
+        None => Ok(()),
+    }
+}
+
 // Adds the texts and the first steps.
 fn push_head(
     alloc: Global,
     out: &mut String,
     names: Names,
     texts: Texts,
+    reference: Option<Reference<'_>>,
     first: &[u8],
 ) -> Result<(), AllocError>
     ensures { OnOk result (string_bytes out.new ≡ string_bytes out.old ++
-        head_text (names_of names.entry) (texts_of texts.entry) first.now) }
+        head_text (names_of names.entry) (texts_of texts.entry) (reference_of reference.entry) first.now) }
 {
     out.push_str("{\"listset\":1,\"choose\":1")?;
     push_texts(out, texts)?;
+    push_reference(out, reference)?;
     push_first(alloc, out, names, first)?;
     Ok(())
 }
@@ -150,15 +164,16 @@ fn data_of(
     alloc: Global,
     names: Names,
     texts: Texts,
+    reference: Option<Reference<'_>>,
     first: &[u8],
     told: &Told,
 ) -> Result<String, AllocError>
     ensures { IfOk result (λ text. string_bytes text ≡
-        data_text (names_of names.entry) (texts_of texts.entry) first.now (graph_of told.now.choices.now) told.now.reach
-        (tables_of told.now.tables.now)) }
+        data_text (names_of names.entry) (texts_of texts.entry) (reference_of reference.entry) first.now
+        (graph_of told.now.choices.now) told.now.reach (tables_of told.now.tables.now)) }
 {
     let mut out = String::new(alloc);
-    push_head(alloc, &mut out, names, texts, first)?;
+    push_head(alloc, &mut out, names, texts, reference, first)?;
     push_tables(
         alloc,
         &mut out,
@@ -172,26 +187,29 @@ fn data_of(
 }
 
 /// The data of a page on which one chooses who steps next, after the first steps, whose numbers are those of threads:
-/// a JSON object in one line. So many states are kept at most. The only refusal is that memory ran out.
+/// a JSON object in one line. If a reference is given, it has its text, and the serial histories are those of the
+/// reference. So many states are kept at most. The only refusal is that memory ran out.
 pub fn choices_data(
     alloc: Global,
     names: Names,
     texts: Texts,
+    reference: Option<Reference<'_>>,
     first: &[u8],
     most: usize,
 ) -> Result<String, AllocError>
     ensures { 0 < most → IfOk result (λ text.
-        IsData (names_of names.entry) (texts_of texts.entry) first.now most (string_bytes text)) }
+        IsData (names_of names.entry) (texts_of texts.entry) (reference_of reference.entry) first.now most
+        (string_bytes text)) }
 {
     let choices = all_choices(alloc, names, first, most)?;
     let reach = reach_of(alloc, &choices, names.program.threads.len())?;
-    let serial = serial_of(alloc, names)?;
+    let serial = serial_of(alloc, reference, names)?;
     let tables = tables_of(alloc, names, &choices, &serial)?;
     let told = Told {
         choices: &choices,
         reach,
         tables: &tables,
     };
-    let text = data_of(alloc, names, texts, first, &told)?;
+    let text = data_of(alloc, names, texts, reference, first, &told)?;
     Ok(text)
 }

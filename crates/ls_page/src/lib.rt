@@ -17,6 +17,6 @@ mod tables;
 pub use changes::changes_fill;
 pub use choices_told::choices_data;
 pub use data::{first_steps, history, page_data, page_data_with_order};
-pub use parts::{Judged, Texts, Window};
+pub use parts::{Judged, Reference, Texts, Window};
 pub use quoted::{push_quoted, quoted_reads_back};
 pub use setup::setup_steps;

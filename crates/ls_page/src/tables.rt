@@ -4,9 +4,11 @@ ghost use Rattle.std.specs.Prelude.{◌≡◌, IfOk};
 ghost use Rattle.ls_labels.specs.Names.{names_of};
 ghost use Rattle.ls_choices.specs.Seen.{graph_of};
 ghost use Rattle.ls_serial_search.specs.Histories.{lists_of};
-ghost use Rattle.ls_page.specs.ChoicesData.{AreSerialHistories, AreTables};
+ghost use Rattle.ls_page.specs.ChoicesData.{AreSerialHistories, AreTables, reference_of, serial_file, serial_program};
+ghost use Rattle.ls_specification.specs.Specification.{spec_file, spec_program};
 ghost use Rattle.ls_page.specs.Tabled.{tables_of};
 
+use crate::Reference;
 use crate::numbers::{numbers_of_histories, numbers_of_states};
 use crate::table::Table;
 use ls_choices::graph::Choices;
@@ -14,6 +16,7 @@ use ls_labels::names::Names;
 use ls_linearizable::laws::serial_runs_decide;
 use ls_serial_search::histories::{SerialHistories, serial_histories};
 use ls_serial_search::telling::{Bounds, Doubt};
+use ls_specification::Specification;
 use std::alloc::{AllocError, Global};
 
 /// Texts by number, the numbers of the words of each row and of the lines of each serial history, and why these may not
@@ -26,12 +29,30 @@ pub(crate) struct Tables {
     pub(crate) doubt: Option<Doubt>,
 }
 
-/// Serial histories of the program, as far as the usual bounds go. The only refusal is that memory ran out.
-pub(crate) fn serial_of(alloc: Global, names: Names) -> Result<SerialHistories, AllocError>
-    ensures { IfOk result (λ s. AreSerialHistories (names_of names.entry) (lists_of s.histories.items) s.doubt) }
+/// What says how calls are right: the reference, or else the program's own calls.
+fn specification_in<'a>(reference: Option<Reference<'a>>, names: Names<'a>) -> Specification<'a>
+    ensures file { spec_file result ≡ serial_file (reference_of reference.entry) (names_of names.entry) }
+    ensures program { spec_program result ≡ serial_program (reference_of reference.entry) (names_of names.entry) }
+{
+    match reference {
+        Some(reference) => reference.specification,
+        None => Specification::own(names.file, names.program),
+    }
+}
+
+/// Serial histories of the reference, or else of the program, as far as the usual bounds go. The only refusal is that
+/// memory ran out.
+pub(crate) fn serial_of(
+    alloc: Global,
+    reference: Option<Reference<'_>>,
+    names: Names,
+) -> Result<SerialHistories, AllocError>
+    ensures { IfOk result (λ s. AreSerialHistories (serial_file (reference_of reference.entry) (names_of names.entry))
+        (serial_program (reference_of reference.entry) (names_of names.entry)) (lists_of s.histories.items) s.doubt) }
 {
     serial_runs_decide();
-    let found = serial_histories(alloc, names.file, names.program, Bounds::usual())?;
+    let Specification { file, program } = specification_in(reference, names);
+    let found = serial_histories(alloc, file, program, Bounds::usual())?;
     Ok(found)
 }
 

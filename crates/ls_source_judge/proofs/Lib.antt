@@ -1,3 +1,4 @@
+pub mod Deciding
 pub mod Verdicts
 pub mod Steps
 pub mod WholeRuns

@@ -9,7 +9,7 @@ use Rattle.ls_meaning.specs.Still.{IsOver}
 use Rattle.ls_search.specs.Verdicts.{LeavesStuck}
 use Rattle.ls_serial_search.specs.Told.{usual}
 use Rattle.ls_serial_search.specs.declared.telling.Doubt.{Doubt}
-use Rattle.ls_source_judge.specs.Judged.{IsBadRun, IsStuckRun, IsUnjudged}
+use Rattle.ls_source_judge.specs.Judged.{IsStuckRun, IsUnjudgedRun, IsUnlikeRun}
 use Rattle.ls_source_judge.specs.Laws.{BadAreNotJudged, BadAreNotLinearizable, is_bad}
 use Rattle.ls_source_judge.specs.Wholes.{IsActingOf, IsWholeOf}
 use Rattle.ls_source_judge.specs.declared.watched.PairsObserver.{PairsObserver}
@@ -51,37 +51,42 @@ module _ (file : File) (program : Program) (setup : ℕ) where
         };
       })
 
+-- ---- by a specification
+
+module _ (sfile : File) (sprogram : Program) (file : File) (program : Program) (setup : ℕ) where
   -- a history that an observer of all serial histories calls bad
-  whole_bad : (o : PairsObserver) → BadAreNotLinearizable o file program → (path steps : Option (Vec ℕ Global)) →
+  whole_bad : (o : PairsObserver) → BadAreNotLinearizable o sfile sprogram → (path steps : Option (Vec ℕ Global)) →
       IsWholeOf file program setup path steps →
       IfSome path (λ v. is_bad o (source_history file program (replicate setup 0 ++ v.items)) ≡ true) →
-      IfSome steps (λ v. IsBadRun file program v.items)
+      IfSome steps (λ v. IsUnlikeRun sfile sprogram file program v.items)
   whole_bad o are =
-      some_whole (λ s. is_bad o (source_history file program s) ≡ true) (IsBadRun file program)
-      (λ s t is bad. record { acts = is.acts; bad = are t (ap (is_bad o) is.history ∙ bad) })
+      some_whole file program setup (λ s. is_bad o (source_history file program s) ≡ true)
+      (IsUnlikeRun sfile sprogram file program)
+      (λ s t is bad. record { acts = is.acts; bad = are file program t (ap (is_bad o) is.history ∙ bad) })
 
-  pub bad_if_none : (o : PairsObserver) (doubt : Option Doubt) → IfNone doubt (BadAreNotLinearizable o file program) →
+  pub bad_if_none : (o : PairsObserver) (doubt : Option Doubt) → IfNone doubt (BadAreNotLinearizable o sfile sprogram) →
       (path steps : Option (Vec ℕ Global)) →
       IsWholeOf file program setup path steps →
       IfSome path (λ v. is_bad o (source_history file program (replicate setup 0 ++ v.items)) ≡ true) →
-      IfNone doubt (IfSome steps (λ v. IsBadRun file program v.items))
+      IfNone doubt (IfSome steps (λ v. IsUnlikeRun sfile sprogram file program v.items))
   bad_if_none o doubt are path steps is bad = if_none doubt (λ all. whole_bad o all path steps is bad) are
 
   -- one that no history explains that was found
-  whole_unjudged : (o : PairsObserver) (d : Doubt) → BadAreNotJudged o file program usual.steps d →
+  whole_unjudged : (o : PairsObserver) (d : Doubt) → BadAreNotJudged o sfile sprogram usual.steps d →
       (path steps : Option (Vec ℕ Global)) →
       IsWholeOf file program setup path steps →
       IfSome path (λ v. is_bad o (source_history file program (replicate setup 0 ++ v.items)) ≡ true) →
-      IfSome steps (λ v. IsUnjudged file program d v.items)
+      IfSome steps (λ v. IsUnjudgedRun sfile sprogram file program d v.items)
   whole_unjudged o d are =
-      some_whole (λ s. is_bad o (source_history file program s) ≡ true) (IsUnjudged file program d)
-      (λ s t is bad. record { acts = is.acts; unexplained = are t (ap (is_bad o) is.history ∙ bad) })
+      some_whole file program setup (λ s. is_bad o (source_history file program s) ≡ true)
+      (IsUnjudgedRun sfile sprogram file program d)
+      (λ s t is bad. record { acts = is.acts; unexplained = are file program t (ap (is_bad o) is.history ∙ bad) })
 
   pub unjudged_if_some : (o : PairsObserver) (doubt : Option Doubt) →
-      IfSome doubt (BadAreNotJudged o file program usual.steps) →
+      IfSome doubt (BadAreNotJudged o sfile sprogram usual.steps) →
       (path steps : Option (Vec ℕ Global)) →
       IsWholeOf file program setup path steps →
       IfSome path (λ v. is_bad o (source_history file program (replicate setup 0 ++ v.items)) ≡ true) →
-      IfSome doubt (λ d. IfSome steps (λ v. IsUnjudged file program d v.items))
+      IfSome doubt (λ d. IfSome steps (λ v. IsUnjudgedRun sfile sprogram file program d v.items))
   unjudged_if_some o None are path steps is bad = tt
   unjudged_if_some o (Some d) are path steps is bad = whole_unjudged o d are path steps is bad

@@ -14,18 +14,27 @@ use Rattle.ls_serial_search.specs.declared.telling.Doubt.TheVariants as doubts
 use Rattle.ls_events.specs.declared.event.Event.{Event}
 use Rattle.ls_automaton.specs.Programs.{IsExplainedWithin}
 
--- the history of each schedule, of any length, is linearizable
-abbrev pub AllLinearizable : File → Program → Type 0
-AllLinearizable file program = (schedule : List ℕ) → IsLinearizable file program (source_history file program schedule)
+-- The history of each schedule, of any length, is linearizable to a specification: the same calls of a file of its own,
+-- run one at a time.
+abbrev pub AllLike : File → Program → File → Program → Type 0
+AllLike sfile sprogram file program =
+    (schedule : List ℕ) → IsLinearizable sfile sprogram (source_history file program schedule)
 
 -- that of this schedule isn't
-abbrev pub IsNotLinearizable : File → Program → List ℕ → Type 0
-IsNotLinearizable file program schedule = IsLinearizable file program (source_history file program schedule) → ⊥
+abbrev pub IsNotLike : File → Program → File → Program → List ℕ → Type 0
+IsNotLike sfile sprogram file program schedule =
+    IsLinearizable sfile sprogram (source_history file program schedule) → ⊥
 
--- Each step of the schedule acts, and its history isn't linearizable.
-pub record IsBadRun (file : File) (program : Program) (schedule : List ℕ) : Type 0 where
+-- no schedule whose history isn't, of any length, has fewer context switches
+abbrev pub IsSimplestUnlike : File → Program → File → Program → List ℕ → Type 0
+IsSimplestUnlike sfile sprogram file program schedule =
+    (s : List ℕ) → IsNotLike sfile sprogram file program s → switches schedule ≤ switches s
+
+-- Each step of the schedule acts, and its history isn't linearizable to the specification.
+pub record IsUnlikeRun (sfile : File) (sprogram : Program) (file : File) (program : Program) (schedule : List ℕ) :
+    Type 0 where
   pub acts : ActAll file program schedule
-  pub bad : IsNotLinearizable file program schedule
+  pub bad : IsNotLike sfile sprogram file program schedule
 
 -- A call goes on: alone it doesn't end within so many steps. No serial run explains the history, each call of which
 -- does.
@@ -38,17 +47,30 @@ abbrev pub IsUnexplained : File → Program → ℕ → Doubt → List Event →
 IsUnexplained file program bound doubts.LongCall h = IsUnexplainedWithin file program bound h
 IsUnexplained file program bound doubts.ManyOrders h = ⊥
 
--- Each step acts, and it isn't known for this reason whether the history is linearizable.
-pub record IsUnjudged (file : File) (program : Program) (doubt : Doubt) (schedule : List ℕ) : Type 0 where
+-- Each step acts, and it isn't known for this reason whether the history is linearizable to the specification.
+pub record IsUnjudgedRun (sfile : File) (sprogram : Program) (file : File) (program : Program) (doubt : Doubt)
+    (schedule : List ℕ) : Type 0 where
   pub acts : ActAll file program schedule
-  pub unexplained : IsUnexplained file program usual.steps doubt (source_history file program schedule)
+  pub unexplained : IsUnexplained sfile sprogram usual.steps doubt (source_history file program schedule)
 
 -- Each step acts, and after the schedule no thread acts and one waits for a lock.
 pub record IsStuckRun (file : File) (program : Program) (schedule : List ℕ) : Type 0 where
   pub acts : ActAll file program schedule
   pub stuck : LeavesStuck file program schedule
 
--- no schedule whose history isn't linearizable, of any length, has fewer context switches
+-- ---- the program's own calls as its specification
+
+abbrev pub AllLinearizable : File → Program → Type 0
+AllLinearizable file program = AllLike file program file program
+
+abbrev pub IsNotLinearizable : File → Program → List ℕ → Type 0
+IsNotLinearizable file program schedule = IsNotLike file program file program schedule
+
 abbrev pub IsSimplestBad : File → Program → List ℕ → Type 0
-IsSimplestBad file program schedule =
-    (s : List ℕ) → IsNotLinearizable file program s → switches schedule ≤ switches s
+IsSimplestBad file program schedule = IsSimplestUnlike file program file program schedule
+
+abbrev pub IsBadRun : File → Program → List ℕ → Type 0
+IsBadRun file program schedule = IsUnlikeRun file program file program schedule
+
+abbrev pub IsUnjudged : File → Program → Doubt → List ℕ → Type 0
+IsUnjudged file program doubt schedule = IsUnjudgedRun file program file program doubt schedule

@@ -19,20 +19,20 @@ BadStaysBad = (v : Verdict) (e : Event) → now v ≡ true → now (later v e) �
 abbrev pub is_bad : PairsObserver → List Event → Bool
 is_bad o h = now (fold later (first_verdict o) h)
 
--- each schedule whose history isn't bad has a linearizable history
+-- each schedule of a program whose history isn't bad has a history that is linearizable to the specification
 abbrev pub GoodAreLinearizable : PairsObserver → File → Program → Type 0
-GoodAreLinearizable o file program =
-    (schedule : List ℕ) → is_bad o (source_history file program schedule) ≡ false →
-    IsLinearizable file program (source_history file program schedule)
+GoodAreLinearizable o sfile sprogram =
+    (file : File) (program : Program) (schedule : List ℕ) → is_bad o (source_history file program schedule) ≡ false →
+    IsLinearizable sfile sprogram (source_history file program schedule)
 
--- no schedule whose history is bad has a linearizable history
+-- no schedule whose history is bad has one
 abbrev pub BadAreNotLinearizable : PairsObserver → File → Program → Type 0
-BadAreNotLinearizable o file program =
-    (schedule : List ℕ) → is_bad o (source_history file program schedule) ≡ true →
-    IsLinearizable file program (source_history file program schedule) → ⊥
+BadAreNotLinearizable o sfile sprogram =
+    (file : File) (program : Program) (schedule : List ℕ) → is_bad o (source_history file program schedule) ≡ true →
+    IsLinearizable sfile sprogram (source_history file program schedule) → ⊥
 
--- no serial run within the bound explains a history that is bad, where this bound was met
+-- no serial run of the specification within the bound explains a history that is bad, where this bound was met
 abbrev pub BadAreNotJudged : PairsObserver → File → Program → ℕ → Doubt → Type 0
-BadAreNotJudged o file program bound doubt =
-    (schedule : List ℕ) → is_bad o (source_history file program schedule) ≡ true →
-    IsUnexplained file program bound doubt (source_history file program schedule)
+BadAreNotJudged o sfile sprogram bound doubt =
+    (file : File) (program : Program) (schedule : List ℕ) → is_bad o (source_history file program schedule) ≡ true →
+    IsUnexplained sfile sprogram bound doubt (source_history file program schedule)

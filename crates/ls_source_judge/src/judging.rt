@@ -7,7 +7,8 @@ ghost use Rattle.ls_checked.specs.PlainProgram.{plain_program};
 ghost use Rattle.ls_search_laws.specs.Stepping.{SetsUp};
 ghost use Rattle.ls_search.specs.Verdicts.{AreAll, AreReached, IsCut, NeverStuck};
 ghost use Rattle.ls_source_judge.specs.Laws.{BadAreNotJudged, BadAreNotLinearizable, GoodAreLinearizable};
-ghost use Rattle.ls_source_judge.specs.Judged.{AllLinearizable, IsBadRun, IsStuckRun, IsUnjudged};
+ghost use Rattle.ls_specification.specs.Specification.{spec_file, spec_program};
+ghost use Rattle.ls_source_judge.specs.Judged.{AllLike, IsStuckRun, IsUnjudgedRun, IsUnlikeRun};
 
 use crate::laws::bad_stays_bad;
 use crate::watched::PairsObserver;
@@ -17,6 +18,7 @@ use ls_checked::program::Program;
 use ls_checked::tree::File;
 use ls_search::verdict::{Finding, verdict};
 use ls_serial_search::telling::{Bounds, Doubt};
+use ls_specification::Specification;
 use std::alloc::{AllocError, Global};
 
 /// What is told of all schedules of a program.
@@ -28,7 +30,7 @@ pub struct Judged {
     pub states: usize,
     /// Whether these are all.
     pub complete: bool,
-    /// A schedule whose history no serial history explains that is known.
+    /// A schedule whose history no serial history of the specification explains that is known.
     pub bad: Option<Vec<u8>>,
     /// Why some serial histories may not be known. If there is no reason, that history isn't linearizable.
     pub doubt: Option<Doubt>,
@@ -36,7 +38,7 @@ pub struct Judged {
     pub stuck: Option<Vec<u8>>,
 }
 
-/// A program as an automaton has few states if it has at most so many.
+/// A specification as an automaton has few states if it has at most so many.
 const FEW_STATES: usize = 32_000;
 
 /// What is told without a look at the histories, if there are more states than may be kept. The only refusal is that
@@ -80,29 +82,34 @@ fn cut_short(
     }))
 }
 
-/// What an observer of a program as an automaton tells of all its schedules. A refusal is that memory ran out, or that a
-/// store, a work or a state has no number left.
+/// What an observer of a specification as an automaton tells of all schedules of a program. A refusal is that memory
+/// ran out, or that a store, a work or a state has no number left.
 fn judged_by(
     alloc: Global,
+    specification: Specification<'_>,
     serial: SerialObserver,
     file: &File,
     program: &Program,
     limit: usize,
 ) -> Result<Judged, AllocError>
-    requires explained { GoodAreLinearizable serial.observer (plain_file file.now) (plain_program program.now) }
+    requires explained { GoodAreLinearizable serial.observer (spec_file specification) (spec_program specification) }
     requires unexplained { IfNone serial.doubt
-        (BadAreNotLinearizable serial.observer (plain_file file.now) (plain_program program.now)) }
+        (BadAreNotLinearizable serial.observer (spec_file specification) (spec_program specification)) }
     requires doubted { IfSome serial.doubt
-        (BadAreNotJudged serial.observer (plain_file file.now) (plain_program program.now) usual.steps) }
-    requires reason { IfSome serial.doubt (IsDoubt (plain_file file.now) (plain_program program.now) usual) }
+        (BadAreNotJudged serial.observer (spec_file specification) (spec_program specification) usual.steps) }
+    requires reason { IfSome serial.doubt (IsDoubt (spec_file specification) (spec_program specification) usual) }
     ensures up { IfOk result (λ j. SetsUp (plain_file file.now) (plain_program program.now) j.setup) }
     ensures good { IfOk result (λ j. IsTrue j.complete → IfNone j.bad
-        (AllLinearizable (plain_file file.now) (plain_program program.now))) }
+        (AllLike (spec_file specification.entry) (spec_program specification.entry)
+        (plain_file file.now) (plain_program program.now))) }
     ensures bad { IfOk result (λ j. IfNone j.doubt (IfSome j.bad (λ s.
-        IsBadRun (plain_file file.now) (plain_program program.now) s.items))) }
-    ensures doubt { IfOk result (λ j. IfSome j.doubt (IsDoubt (plain_file file.now) (plain_program program.now) usual)) }
+        IsUnlikeRun (spec_file specification.entry) (spec_program specification.entry)
+        (plain_file file.now) (plain_program program.now) s.items))) }
+    ensures doubt { IfOk result (λ j. IfSome j.doubt
+        (IsDoubt (spec_file specification.entry) (spec_program specification.entry) usual)) }
     ensures unjudged { IfOk result (λ j. IfSome j.doubt (λ d. IfSome j.bad (λ s.
-        IsUnjudged (plain_file file.now) (plain_program program.now) d s.items))) }
+        IsUnjudgedRun (spec_file specification.entry) (spec_program specification.entry)
+        (plain_file file.now) (plain_program program.now) d s.items))) }
     ensures free { IfOk result (λ j. IsTrue j.complete → IfNone j.stuck
         (NeverStuck (plain_file file.now) (plain_program program.now))) }
     ensures stuck { IfOk result (λ j. IfSome j.stuck (λ s.
@@ -135,23 +142,29 @@ fn judged_by(
     })
 }
 
-/// Judges the histories of all schedules of a program by its serial histories, and where threads come to wait. At most
-/// so many states are kept, and no more where their stores have over 4,194,304 objects together. Each step of a
-/// schedule that is told acts. A refusal is that memory ran out, or that a store, a work or a state has no number left.
+/// Judges the histories of all schedules of a program by the serial histories of a specification, and where threads
+/// come to wait. At most so many states are kept, and no more where their stores have over 4,194,304 objects together.
+/// Each step of a schedule that is told acts. A refusal is that memory ran out, or that a store, a work or a state has
+/// no number left.
 pub fn judge_schedules(
     alloc: Global,
+    specification: Specification<'_>,
     file: &File,
     program: &Program,
     limit: usize,
 ) -> Result<Judged, AllocError>
     ensures up { IfOk result (λ j. SetsUp (plain_file file.now) (plain_program program.now) j.setup) }
     ensures good { IfOk result (λ j. IsTrue j.complete → IfNone j.bad
-        (AllLinearizable (plain_file file.now) (plain_program program.now))) }
+        (AllLike (spec_file specification.entry) (spec_program specification.entry)
+        (plain_file file.now) (plain_program program.now))) }
     ensures bad { IfOk result (λ j. IfNone j.doubt (IfSome j.bad (λ s.
-        IsBadRun (plain_file file.now) (plain_program program.now) s.items))) }
-    ensures doubt { IfOk result (λ j. IfSome j.doubt (IsDoubt (plain_file file.now) (plain_program program.now) usual)) }
+        IsUnlikeRun (spec_file specification.entry) (spec_program specification.entry)
+        (plain_file file.now) (plain_program program.now) s.items))) }
+    ensures doubt { IfOk result (λ j. IfSome j.doubt
+        (IsDoubt (spec_file specification.entry) (spec_program specification.entry) usual)) }
     ensures unjudged { IfOk result (λ j. IfSome j.doubt (λ d. IfSome j.bad (λ s.
-        IsUnjudged (plain_file file.now) (plain_program program.now) d s.items))) }
+        IsUnjudgedRun (spec_file specification.entry) (spec_program specification.entry)
+        (plain_file file.now) (plain_program program.now) d s.items))) }
     ensures free { IfOk result (λ j. IsTrue j.complete → IfNone j.stuck
         (NeverStuck (plain_file file.now) (plain_program program.now))) }
     ensures stuck { IfOk result (λ j. IfSome j.stuck (λ s.
@@ -164,12 +177,12 @@ pub fn judge_schedules(
     ensures reached { IfOk result (λ j.
         AreReached (plain_file file.now) (plain_program program.now) j.setup j.states) }
 {
-    if let Some(serial) = observer_within(alloc, file, program, Bounds::usual(), FEW_STATES)? {
-        return judged_by(alloc, serial, file, program, limit);
+    if let Some(serial) = observer_within(alloc, specification, Bounds::usual(), FEW_STATES)? {
+        return judged_by(alloc, specification, serial, file, program, limit);
     }
     if let Some(cut) = cut_short(alloc, file, program, limit)? {
         return Ok(cut);
     }
-    let serial = serial_observer(alloc, file, program, Bounds::usual())?;
-    judged_by(alloc, serial, file, program, limit)
+    let serial = serial_observer(alloc, specification, Bounds::usual())?;
+    judged_by(alloc, specification, serial, file, program, limit)
 }

@@ -1,25 +1,23 @@
-// The observer of a program as an automaton.
+// The observer of a specification as an automaton.
 
 ghost use Rattle.std.specs.Prelude.{◌≡◌, true, false, IfNone, IfOk, IfSome};
-ghost use Rattle.ls_checked.specs.Plain.{plain_file};
-ghost use Rattle.ls_checked.specs.PlainProgram.{plain_program};
 ghost use Rattle.ls_automaton.specs.Tables.{AreOutcomes};
 ghost use Rattle.ls_serial_search.specs.Open.{HasLongCall};
 ghost use Rattle.ls_serial_search.specs.Told.{IsDoubt};
+ghost use Rattle.ls_specification.specs.Specification.{spec_file, spec_program};
 ghost use Rattle.ls_source_judge.specs.Laws.{BadAreNotJudged, BadAreNotLinearizable, GoodAreLinearizable};
 
 use crate::watched::PairsObserver;
 use ls_automaton::merging::merge;
 use ls_automaton::table::{Table, table_of};
-use ls_checked::program::Program;
-use ls_checked::tree::File;
 use ls_serial_search::telling::{Bounds, Doubt};
+use ls_specification::Specification;
 use std::alloc::{AllocError, Global};
 
-/// So many states of a program as an automaton have numbers.
+/// So many states of a specification as an automaton have numbers.
 const MOST_STATES: usize = 1_000_000;
 
-/// An observer of a program as an automaton.
+/// An observer of a specification as an automaton, for the histories of any program.
 #[derive(Drop)]
 pub struct SerialObserver {
     pub observer: PairsObserver,
@@ -41,20 +39,22 @@ fn doubt_of(goes_on: bool) -> Option<Doubt>
 /// The observer that a table of outcomes makes. The only refusal is that memory ran out.
 fn observer_of(
     alloc: Global,
-    file: &File,
-    program: &Program,
+    specification: Specification<'_>,
     bounds: Bounds,
     table: Table,
 ) -> Result<SerialObserver, AllocError>
-    requires outcomes { AreOutcomes (plain_file file.now) (plain_program program.now) bounds.steps table.goes_on
+    requires outcomes { AreOutcomes (spec_file specification) (spec_program specification) bounds.steps table.goes_on
         table.rows.items }
-    requires long { table.goes_on ≡ true → HasLongCall (plain_file file.now) (plain_program program.now) bounds.steps }
-    ensures good { IfOk result (λ s. GoodAreLinearizable s.observer (plain_file file.now) (plain_program program.now)) }
+    requires long { table.goes_on ≡ true →
+        HasLongCall (spec_file specification) (spec_program specification) bounds.steps }
+    ensures good { IfOk result (λ s.
+        GoodAreLinearizable s.observer (spec_file specification.entry) (spec_program specification.entry)) }
     ensures bad { IfOk result (λ s. IfNone s.doubt
-        (BadAreNotLinearizable s.observer (plain_file file.now) (plain_program program.now))) }
+        (BadAreNotLinearizable s.observer (spec_file specification.entry) (spec_program specification.entry))) }
     ensures unjudged { IfOk result (λ s. IfSome s.doubt
-        (BadAreNotJudged s.observer (plain_file file.now) (plain_program program.now) bounds.steps)) }
-    ensures doubt { IfOk result (λ s. IfSome s.doubt (IsDoubt (plain_file file.now) (plain_program program.now) bounds)) }
+        (BadAreNotJudged s.observer (spec_file specification.entry) (spec_program specification.entry) bounds.steps)) }
+    ensures doubt { IfOk result (λ s. IfSome s.doubt
+        (IsDoubt (spec_file specification.entry) (spec_program specification.entry) bounds)) }
 {
     let doubt = doubt_of(table.goes_on);
     let rows = merge(alloc, table.rows)?;
@@ -62,45 +62,47 @@ fn observer_of(
     Ok(SerialObserver { observer, doubt })
 }
 
-/// An observer of a program as an automaton, if that has at most so many states. The only refusal is that memory ran out.
+/// An observer of a specification as an automaton, if that has at most so many states. The only refusal is that memory
+/// ran out.
 pub fn observer_within(
     alloc: Global,
-    file: &File,
-    program: &Program,
+    specification: Specification<'_>,
     bounds: Bounds,
     most_states: usize,
 ) -> Result<Option<SerialObserver>, AllocError>
     ensures good { IfOk result (λ some. IfSome some (λ s.
-        GoodAreLinearizable s.observer (plain_file file.now) (plain_program program.now))) }
+        GoodAreLinearizable s.observer (spec_file specification.entry) (spec_program specification.entry))) }
     ensures bad { IfOk result (λ some. IfSome some (λ s. IfNone s.doubt
-        (BadAreNotLinearizable s.observer (plain_file file.now) (plain_program program.now)))) }
+        (BadAreNotLinearizable s.observer (spec_file specification.entry) (spec_program specification.entry)))) }
     ensures unjudged { IfOk result (λ some. IfSome some (λ s. IfSome s.doubt
-        (BadAreNotJudged s.observer (plain_file file.now) (plain_program program.now) bounds.steps))) }
+        (BadAreNotJudged s.observer (spec_file specification.entry) (spec_program specification.entry) bounds.steps))) }
     ensures doubt { IfOk result (λ some. IfSome some (λ s. IfSome s.doubt
-        (IsDoubt (plain_file file.now) (plain_program program.now) bounds))) }
+        (IsDoubt (spec_file specification.entry) (spec_program specification.entry) bounds))) }
 {
+    let Specification { file, program } = specification;
     match table_of(alloc, file, program, bounds.steps, most_states)? {
-        Some(table) => Ok(Some(observer_of(alloc, file, program, bounds, table)?)),
+        Some(table) => Ok(Some(observer_of(alloc, specification, bounds, table)?)),
         None => Ok(None),
     }
 }
 
-/// An observer of a program as an automaton. A refusal is that memory ran out, or that a state between calls has no number
-/// left.
+/// An observer of a specification as an automaton. A refusal is that memory ran out, or that a state between calls has
+/// no number left.
 pub fn serial_observer(
     alloc: Global,
-    file: &File,
-    program: &Program,
+    specification: Specification<'_>,
     bounds: Bounds,
 ) -> Result<SerialObserver, AllocError>
-    ensures good { IfOk result (λ s. GoodAreLinearizable s.observer (plain_file file.now) (plain_program program.now)) }
+    ensures good { IfOk result (λ s.
+        GoodAreLinearizable s.observer (spec_file specification.entry) (spec_program specification.entry)) }
     ensures bad { IfOk result (λ s. IfNone s.doubt
-        (BadAreNotLinearizable s.observer (plain_file file.now) (plain_program program.now))) }
+        (BadAreNotLinearizable s.observer (spec_file specification.entry) (spec_program specification.entry))) }
     ensures unjudged { IfOk result (λ s. IfSome s.doubt
-        (BadAreNotJudged s.observer (plain_file file.now) (plain_program program.now) bounds.steps)) }
-    ensures doubt { IfOk result (λ s. IfSome s.doubt (IsDoubt (plain_file file.now) (plain_program program.now) bounds)) }
+        (BadAreNotJudged s.observer (spec_file specification.entry) (spec_program specification.entry) bounds.steps)) }
+    ensures doubt { IfOk result (λ s. IfSome s.doubt
+        (IsDoubt (spec_file specification.entry) (spec_program specification.entry) bounds)) }
 {
-    match observer_within(alloc, file, program, bounds, MOST_STATES)? {
+    match observer_within(alloc, specification, bounds, MOST_STATES)? {
         Some(serial) => Ok(serial),
         None => Err(AllocError),
     }

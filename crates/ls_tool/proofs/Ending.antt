@@ -51,7 +51,7 @@ of_bytes (Some x) bytes Q e h = subst Q e h
 pub decide_ok : (words : List Text) (input : Text) (l : CommandLine) (text beside : String Global) (status : ℕ) →
     Asks words (Some l) →
     status ≡ status_for l.request (string_bytes text) →
-    AnswersText (file_names_in words) l.request input (Ok (string_bytes text)) →
+    AnswersText (file_names_in words) l input (Ok (string_bytes text)) →
     NotesAs (file_names_in words) l input (Ok (string_bytes beside)) →
     Decides words input (Ok (record { text = text; beside = beside; status = status }))
 decide_ok words input l text beside status e is h n =
@@ -80,6 +80,9 @@ given May (fault.Class f) other h = h
 given May fault.BadNumbers other h = h
 given May fault.BadOptions other h = h
 given May (fault.BadEntry at) other h = h
+given May (fault.Specification f) other h = h
+given May (fault.UnlikeSpecification at) other h = h
+given May (fault.LacksMethod span) other h = h
 given May (fault.Aim f) other h = h
 given May (fault.History f) other h = h
 given May (fault.Order f) other h = h
@@ -91,13 +94,13 @@ given May fault.WriteFailed other h = h
 
 asked : (words : List Text) (input : Text) (l : CommandLine) (f : ToolFault) →
     Asks words (Some l) →
-    AnswersText (file_names_in words) l.request input (Err f)
+    AnswersText (file_names_in words) l input (Err f)
     → IsEnding words input (Tells (told (file_names_in words) l f input))
 asked words input l f e h = Refused l f e h
 
 -- where nothing is said of it, its line is told
 plain : (words : List Text) (input : Text) (l : CommandLine) (f g : ToolFault) → Asks words (Some l)
-    → ((g ≡ f) × (is_bare (file_names_in words) l ≡ true)) → AnswersText (file_names_in words) l.request input (Err g) →
+    → ((g ≡ f) × (is_bare (file_names_in words) l ≡ true)) → AnswersText (file_names_in words) l input (Err g) →
     IsEnding words input (Tells (fault_line g))
 plain words input l f g e r h =
     subst (λ b. IsEnding words input (Tells (if b then fault_line g else noted (file_names_in words) l g input))) r.1
@@ -106,63 +109,72 @@ plain words input l f g e r h =
 -- the fault of an answer is that of the words and the input
 pub decide_err : (words : List Text) (input : Text) (l : CommandLine) (f : ToolFault) (r : Refusal) →
     Asks words (Some l)
-    → GivesText (AnswersText (file_names_in words) l.request input) (Err f)
+    → GivesText (AnswersText (file_names_in words) l input) (Err f)
     → RefusesAs (file_names_in words) l f input r → Decides words input (Err r)
 decide_err words input l f (refusal.BadLine x) e h r = absurd r
 decide_err words input l f (refusal.Fault fault.Memory) e h r = tt
 decide_err words input l f (refusal.Fault fault.ReadFailed) e h r = plain words input l f fault.ReadFailed e r
-    (subst (λ x. GivesText (AnswersText (file_names_in words) l.request input) (Err x)) (sym r.0) h)
+    (subst (λ x. GivesText (AnswersText (file_names_in words) l input) (Err x)) (sym r.0) h)
 decide_err words input l f (refusal.Fault (fault.Text g)) e h r = plain words input l f (fault.Text g) e r
-    (subst (λ x. GivesText (AnswersText (file_names_in words) l.request input) (Err x)) (sym r.0) h)
+    (subst (λ x. GivesText (AnswersText (file_names_in words) l input) (Err x)) (sym r.0) h)
 decide_err words input l f (refusal.Fault (fault.Check g)) e h r = plain words input l f (fault.Check g) e r
-    (subst (λ x. GivesText (AnswersText (file_names_in words) l.request input) (Err x)) (sym r.0) h)
+    (subst (λ x. GivesText (AnswersText (file_names_in words) l input) (Err x)) (sym r.0) h)
 decide_err words input l f (refusal.Fault (fault.Program g)) e h r = plain words input l f (fault.Program g) e r
-    (subst (λ x. GivesText (AnswersText (file_names_in words) l.request input) (Err x)) (sym r.0) h)
+    (subst (λ x. GivesText (AnswersText (file_names_in words) l input) (Err x)) (sym r.0) h)
 decide_err words input l f (refusal.Fault (fault.Build g)) e h r = plain words input l f (fault.Build g) e r
-    (subst (λ x. GivesText (AnswersText (file_names_in words) l.request input) (Err x)) (sym r.0) h)
+    (subst (λ x. GivesText (AnswersText (file_names_in words) l input) (Err x)) (sym r.0) h)
 decide_err words input l f (refusal.Fault fault.BadCells) e h r = plain words input l f fault.BadCells e r
-    (subst (λ x. GivesText (AnswersText (file_names_in words) l.request input) (Err x)) (sym r.0) h)
+    (subst (λ x. GivesText (AnswersText (file_names_in words) l input) (Err x)) (sym r.0) h)
 decide_err words input l f (refusal.Fault (fault.Schedule g)) e h r = plain words input l f (fault.Schedule g) e r
-    (subst (λ x. GivesText (AnswersText (file_names_in words) l.request input) (Err x)) (sym r.0) h)
+    (subst (λ x. GivesText (AnswersText (file_names_in words) l input) (Err x)) (sym r.0) h)
 decide_err words input l f (refusal.Fault (fault.Translation g)) e h r = plain words input l f (fault.Translation g) e r
-    (subst (λ x. GivesText (AnswersText (file_names_in words) l.request input) (Err x)) (sym r.0) h)
+    (subst (λ x. GivesText (AnswersText (file_names_in words) l input) (Err x)) (sym r.0) h)
 decide_err words input l f (refusal.Fault (fault.Live g)) e h r = plain words input l f (fault.Live g) e r
-    (subst (λ x. GivesText (AnswersText (file_names_in words) l.request input) (Err x)) (sym r.0) h)
+    (subst (λ x. GivesText (AnswersText (file_names_in words) l input) (Err x)) (sym r.0) h)
 decide_err words input l f (refusal.Fault (fault.Turns g)) e h r = plain words input l f (fault.Turns g) e r
-    (subst (λ x. GivesText (AnswersText (file_names_in words) l.request input) (Err x)) (sym r.0) h)
+    (subst (λ x. GivesText (AnswersText (file_names_in words) l input) (Err x)) (sym r.0) h)
 decide_err words input l f (refusal.Fault (fault.Batch g)) e h r = plain words input l f (fault.Batch g) e r
-    (subst (λ x. GivesText (AnswersText (file_names_in words) l.request input) (Err x)) (sym r.0) h)
+    (subst (λ x. GivesText (AnswersText (file_names_in words) l input) (Err x)) (sym r.0) h)
 decide_err words input l f (refusal.Fault (fault.Explore g)) e h r = plain words input l f (fault.Explore g) e r
-    (subst (λ x. GivesText (AnswersText (file_names_in words) l.request input) (Err x)) (sym r.0) h)
+    (subst (λ x. GivesText (AnswersText (file_names_in words) l input) (Err x)) (sym r.0) h)
 decide_err words input l f (refusal.Fault (fault.Class g)) e h r = plain words input l f (fault.Class g) e r
-    (subst (λ x. GivesText (AnswersText (file_names_in words) l.request input) (Err x)) (sym r.0) h)
+    (subst (λ x. GivesText (AnswersText (file_names_in words) l input) (Err x)) (sym r.0) h)
 decide_err words input l f (refusal.Fault fault.BadNumbers) e h r = plain words input l f fault.BadNumbers e r
-    (subst (λ x. GivesText (AnswersText (file_names_in words) l.request input) (Err x)) (sym r.0) h)
+    (subst (λ x. GivesText (AnswersText (file_names_in words) l input) (Err x)) (sym r.0) h)
 decide_err words input l f (refusal.Fault fault.BadOptions) e h r = plain words input l f fault.BadOptions e r
-    (subst (λ x. GivesText (AnswersText (file_names_in words) l.request input) (Err x)) (sym r.0) h)
+    (subst (λ x. GivesText (AnswersText (file_names_in words) l input) (Err x)) (sym r.0) h)
 decide_err words input l f (refusal.Fault (fault.BadEntry at)) e h r = plain words input l f (fault.BadEntry at) e r
-    (subst (λ x. GivesText (AnswersText (file_names_in words) l.request input) (Err x)) (sym r.0) h)
+    (subst (λ x. GivesText (AnswersText (file_names_in words) l input) (Err x)) (sym r.0) h)
+decide_err words input l f (refusal.Fault (fault.Specification g)) e h r =
+    plain words input l f (fault.Specification g) e r
+    (subst (λ x. GivesText (AnswersText (file_names_in words) l input) (Err x)) (sym r.0) h)
+decide_err words input l f (refusal.Fault (fault.UnlikeSpecification at)) e h r =
+    plain words input l f (fault.UnlikeSpecification at) e r
+    (subst (λ x. GivesText (AnswersText (file_names_in words) l input) (Err x)) (sym r.0) h)
+decide_err words input l f (refusal.Fault (fault.LacksMethod span)) e h r =
+    plain words input l f (fault.LacksMethod span) e r
+    (subst (λ x. GivesText (AnswersText (file_names_in words) l input) (Err x)) (sym r.0) h)
 decide_err words input l f (refusal.Fault (fault.Aim g)) e h r = plain words input l f (fault.Aim g) e r
-    (subst (λ x. GivesText (AnswersText (file_names_in words) l.request input) (Err x)) (sym r.0) h)
+    (subst (λ x. GivesText (AnswersText (file_names_in words) l input) (Err x)) (sym r.0) h)
 decide_err words input l f (refusal.Fault (fault.History g)) e h r = plain words input l f (fault.History g) e r
-    (subst (λ x. GivesText (AnswersText (file_names_in words) l.request input) (Err x)) (sym r.0) h)
+    (subst (λ x. GivesText (AnswersText (file_names_in words) l input) (Err x)) (sym r.0) h)
 decide_err words input l f (refusal.Fault (fault.Order g)) e h r = plain words input l f (fault.Order g) e r
-    (subst (λ x. GivesText (AnswersText (file_names_in words) l.request input) (Err x)) (sym r.0) h)
+    (subst (λ x. GivesText (AnswersText (file_names_in words) l input) (Err x)) (sym r.0) h)
 decide_err words input l f (refusal.Fault (fault.Tally g)) e h r = plain words input l f (fault.Tally g) e r
-    (subst (λ x. GivesText (AnswersText (file_names_in words) l.request input) (Err x)) (sym r.0) h)
+    (subst (λ x. GivesText (AnswersText (file_names_in words) l input) (Err x)) (sym r.0) h)
 decide_err words input l f (refusal.Fault fault.WrongParts) e h r = plain words input l f fault.WrongParts e r
-    (subst (λ x. GivesText (AnswersText (file_names_in words) l.request input) (Err x)) (sym r.0) h)
+    (subst (λ x. GivesText (AnswersText (file_names_in words) l input) (Err x)) (sym r.0) h)
 decide_err words input l f (refusal.Fault fault.TooManyTrapped) e h r = plain words input l f fault.TooManyTrapped e r
-    (subst (λ x. GivesText (AnswersText (file_names_in words) l.request input) (Err x)) (sym r.0) h)
+    (subst (λ x. GivesText (AnswersText (file_names_in words) l input) (Err x)) (sym r.0) h)
 decide_err words input l f (refusal.Fault fault.NotText) e h r = plain words input l f fault.NotText e r
-    (subst (λ x. GivesText (AnswersText (file_names_in words) l.request input) (Err x)) (sym r.0) h)
+    (subst (λ x. GivesText (AnswersText (file_names_in words) l input) (Err x)) (sym r.0) h)
 decide_err words input l f (refusal.Fault fault.WriteFailed) e h r = plain words input l f fault.WriteFailed e r
-    (subst (λ x. GivesText (AnswersText (file_names_in words) l.request input) (Err x)) (sym r.0) h)
+    (subst (λ x. GivesText (AnswersText (file_names_in words) l input) (Err x)) (sym r.0) h)
 decide_err words input l f (refusal.Explained x) e h r =
     let same : x.items ≡ told (file_names_in words) l f input =
     r.0 ∙ ap (λ b. if b then fault_line f else noted (file_names_in words) l f input) (sym r.1) in
     subst (λ t. IsEnding words input (Tells t)) (sym same) (asked words input l f e
-    (given (AnswersText (file_names_in words) l.request input) f r.2 h))
+    (given (AnswersText (file_names_in words) l input) f r.2 h))
 
 -- a fault of the words, for each input
 pub refused : (words : List Text) (input : Text) (f : WordsFault) →
@@ -232,6 +244,12 @@ tells words input (fault.Class f) exit out err s k t d = AsAsked (Tells (fault_l
 tells words input fault.BadNumbers exit out err s k t d = AsAsked (Tells (fault_line fault.BadNumbers)) d (s, k, t)
 tells words input fault.BadOptions exit out err s k t d = AsAsked (Tells (fault_line fault.BadOptions)) d (s, k, t)
 tells words input (fault.BadEntry at) exit out err s k t d = AsAsked (Tells (fault_line (fault.BadEntry at))) d (s, k, t)
+tells words input (fault.Specification f) exit out err s k t d =
+    AsAsked (Tells (fault_line (fault.Specification f))) d (s, k, t)
+tells words input (fault.UnlikeSpecification at) exit out err s k t d =
+    AsAsked (Tells (fault_line (fault.UnlikeSpecification at))) d (s, k, t)
+tells words input (fault.LacksMethod span) exit out err s k t d =
+    AsAsked (Tells (fault_line (fault.LacksMethod span))) d (s, k, t)
 tells words input (fault.Aim f) exit out err s k t d = AsAsked (Tells (fault_line (fault.Aim f))) d (s, k, t)
 tells words input (fault.History f) exit out err s k t d = AsAsked (Tells (fault_line (fault.History f))) d (s, k, t)
 tells words input (fault.Order f) exit out err s k t d = AsAsked (Tells (fault_line (fault.Order f))) d (s, k, t)

@@ -1,5 +1,5 @@
 -- From what is answered on parts to what is answered on an input.
-use Rattle.std.proofs.Common.{◌≡◌, ℕ, Option, Result, refl}
+use Rattle.std.proofs.Common.{◌≡◌, ℕ, Bool, Option, Result, refl}
 use Rattle.std.specs.Prelude.{String}
 use Rattle.std.specs.Global.{Global}
 use Rattle.ls_report.specs.Events.{Text}
@@ -8,28 +8,28 @@ use Rattle.ls_command_line.specs.declared.words.Request.{Request}
 use Rattle.ls_command_line.specs.declared.words.Request.TheVariants as requests
 use Rattle.ls_faults.specs.declared.fault.ToolFault.{ToolFault}
 use Rattle.ls_faults.specs.Given.{GivesText}
-use Rattle.ls_tool.specs.Output.{Answers, AnswersInput}
+use Rattle.ls_tool.specs.Output.{AnswersBy, AnswersInput}
 
 -- an input that isn't one of tallies is answered on its parts
-pub on_parts : (r : Request) (input : Text) (answer : Result (String Global) ToolFault)
+pub on_parts : (spec : Bool) (r : Request) (input : Text) (answer : Result (String Global) ToolFault)
     → ((count : Option ℕ) → ¬ (r ≡ requests.Merge count))
-    → GivesText (Answers r (parts_of input)) answer
-    → GivesText (AnswersInput r input) answer
-on_parts requests.Check input answer other h = h
-on_parts requests.Order input answer other h = h
-on_parts requests.Compile input answer other h = h
-on_parts (requests.Replay cells live) input answer other h = h
-on_parts requests.Source input answer other h = h
-on_parts (requests.Trace from to fold) input answer other h = h
-on_parts (requests.Page paging) input answer other h = h
-on_parts (requests.State dot to) input answer other h = h
-on_parts (requests.States dot from to) input answer other h = h
-on_parts requests.Aim input answer other h = h
-on_parts (requests.Translate to cells) input answer other h = h
-on_parts (requests.Live cells limit) input answer other h = h
-on_parts (requests.Batch seed count steps switch cells judge) input answer other h = h
-on_parts (requests.Sample seed steps switch cells) input answer other h = h
-on_parts (requests.Explore cells states illegal first order progress) input answer other h = h
-on_parts (requests.Verdict states mixed) input answer other h = h
-on_parts (requests.Find seeking) input answer other h = h
-on_parts (requests.Merge count) input answer other h = absurd (other count refl)
+    → GivesText (AnswersBy spec r (parts_of input)) answer
+    → GivesText (AnswersInput spec r input) answer
+on_parts spec requests.Check input answer other h = h
+on_parts spec requests.Order input answer other h = h
+on_parts spec requests.Compile input answer other h = h
+on_parts spec (requests.Replay cells live) input answer other h = h
+on_parts spec requests.Source input answer other h = h
+on_parts spec (requests.Trace from to fold) input answer other h = h
+on_parts spec (requests.Page paging) input answer other h = h
+on_parts spec (requests.State dot to) input answer other h = h
+on_parts spec (requests.States dot from to) input answer other h = h
+on_parts spec requests.Aim input answer other h = h
+on_parts spec (requests.Translate to cells) input answer other h = h
+on_parts spec (requests.Live cells limit) input answer other h = h
+on_parts spec (requests.Batch seed count steps switch cells judge) input answer other h = h
+on_parts spec (requests.Sample seed steps switch cells) input answer other h = h
+on_parts spec (requests.Explore cells states illegal first order progress) input answer other h = h
+on_parts spec (requests.Verdict states mixed) input answer other h = h
+on_parts spec (requests.Find seeking) input answer other h = h
+on_parts spec (requests.Merge count) input answer other h = absurd (other count refl)

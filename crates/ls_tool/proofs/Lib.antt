@@ -2,5 +2,6 @@ pub mod CheckNotes
 pub mod Ending
 pub mod Inputs
 pub mod Noting
+pub mod Referring
 pub mod Statuses
 pub mod Telling

@@ -73,23 +73,28 @@ on_check_fails (text ∷ []) f h = absurd (cc)
 on_check_fails (history ∷ order ∷ []) f h = check_fails history order (Err f) f refl h
 on_check_fails (a ∷ b ∷ c ∷ more) f h = absurd (cc)
 
-on_input_fails : (r : Request) (input : Text) (f : ToolFault) →
+on_input_fails : (spec : Bool) (r : Request) (input : Text) (f : ToolFault) →
     r ≡ requests.Check →
     NotesOn r (parts_of input) (Err f) →
-    AnswersInput r input (Err f)
-on_input_fails r input f e h = subst (λ x. AnswersInput x input (Err f)) (sym e)
-    (on_check_fails (parts_of input) f (subst (λ x. NotesOn x (parts_of input) (Err f)) e h))
+    AnswersInput spec r input (Err f)
+on_input_fails spec r input f e h = subst (λ x. AnswersInput spec x input (Err f)) (sym e)
+    (by_check spec (on_check_fails (parts_of input) f (subst (λ x. NotesOn x (parts_of input) (Err f)) e h)))
+  where
+    by_check : (b : Bool) → Answers requests.Check (parts_of input) (Err f) →
+        AnswersInput b requests.Check input (Err f)
+    by_check true h = h
+    by_check false h = h
 
-text_fails : (names : Option (List Text)) (r : Request) (input : Text) (f : ToolFault) →
-    r ≡ requests.Check →
-    NotesText names r input (Err f) →
-    AnswersText names r input (Err f)
-text_fails names r input f e = by_text (is_text input)
+text_fails : (names : Option (List Text)) (l : CommandLine) (input : Text) (f : ToolFault) →
+    l.request ≡ requests.Check →
+    NotesText names l.request input (Err f) →
+    AnswersText names l input (Err f)
+text_fails names l input f e = by_text (is_text input)
   where
     by_text : (b : Bool) →
-        MatchBool b (NotesOn r (parts_of (read_as names input)) (Err f)) (Refusal f ≡ Refusal faults.NotText) →
-        MatchBool b (AnswersInput r (read_as names input) (Err f)) (Refusal f ≡ Refusal faults.NotText)
-    by_text true h = on_input_fails r (read_as names input) f e h
+        MatchBool b (NotesOn l.request (parts_of (read_as names input)) (Err f)) (Refusal f ≡ Refusal faults.NotText) →
+        MatchBool b (AnswersInput l.spec l.request (read_as names input) (Err f)) (Refusal f ≡ Refusal faults.NotText)
+    by_text true h = on_input_fails l.spec l.request (read_as names input) f e h
     by_text false h = h
 
 right_of : (a b : Bool) → (a && b) ≡ true → b ≡ true
@@ -98,14 +103,14 @@ right_of false b e = absurd (cc)
 
 as_fails : (names : Option (List Text)) (l : CommandLine) (input : Text) (f : ToolFault) →
     NotesAs names l input (Err f) →
-    AnswersText names l.request input (Err f)
+    AnswersText names l input (Err f)
 as_fails names l input f = by_words (l.explain && is_noted l.request) refl
   where
     by_words : (b : Bool) →
         (l.explain && is_noted l.request) ≡ b →
         MatchBool b (NotesText names l.request input (Err f)) (Refusal f ≡ Nothing) →
-        AnswersText names l.request input (Err f)
-    by_words true e h = text_fails names l.request input f (is_check l.request (right_of l.explain _ e)) h
+        AnswersText names l input (Err f)
+    by_words true e h = text_fails names l input f (is_check l.request (right_of l.explain _ e)) h
     by_words false e h = absurd (cc)
 
 may_refuse : (o : Option ToolFault) (May May' : Result Text ToolFault → Type 0) →
@@ -118,6 +123,6 @@ may_refuse (Some f) May May' k h = k f h
 -- a fault of what is told beside a text is one that the command may have
 pub note_fails : (names : Option (List Text)) (l : CommandLine) (input : Text) (f : ToolFault) →
     GivesText (NotesAs names l input) (Failed f) →
-    GivesText (AnswersText names l.request input) (Failed f)
-note_fails names l input f h = may_refuse (meant f) (NotesAs names l input) (AnswersText names l.request input)
+    GivesText (AnswersText names l input) (Failed f)
+note_fails names l input f h = may_refuse (meant f) (NotesAs names l input) (AnswersText names l input)
     (as_fails names l input) h

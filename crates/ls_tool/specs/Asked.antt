@@ -1,8 +1,9 @@
 -- What `find` is asked.
-use Rattle.std.specs.Prelude.{ℕ, Option, Some, None, Result}
+use Rattle.std.specs.Prelude.{◌≡◌, ℕ, MatchBool, Option, Some, None, Result, Err}
 use Rattle.ls_class_programs.specs.declared.choosing.Choosing.{Choosing}
 use Rattle.ls_command_line.specs.declared.words.Seeking.{Seeking}
 use Rattle.ls_faults.specs.declared.fault.ToolFault.{ToolFault}
+use Rattle.ls_faults.specs.declared.fault.ToolFault.TheVariants as faults
 use Rattle.ls_find_commands.specs.Found.{FindsTo, PrintsTo}
 use Rattle.ls_find_commands.specs.declared.command.Range.{Range}
 use Rattle.ls_report.specs.Events.{Text}
@@ -26,10 +27,15 @@ range_of s = record {
 }
 
 -- one program is printed, or the first is found that is bad
-abbrev pub asked_for : Seeking → Option ℕ → Text → Option Text → Result Text ToolFault → Type 0
-asked_for s None classes menu answer = FindsTo (choosing_of s) (range_of s) classes menu answer
-asked_for s (Some n) classes menu answer = PrintsTo (choosing_of s) n classes menu answer
+abbrev pub asked_for : Seeking → Option ℕ → Option Text → Text → Option Text → Result Text ToolFault → Type 0
+asked_for s None reference classes menu answer = FindsTo (choosing_of s) (range_of s) reference classes menu answer
+asked_for s (Some n) reference classes menu answer = PrintsTo (choosing_of s) n reference classes menu answer
 
--- on a class text, and a menu that is written by hand if one is given
-abbrev pub OnClass : Seeking → Text → Option Text → Result Text ToolFault → Type 0
-OnClass s classes menu answer = asked_for s s.print classes menu answer
+-- on a class text, and on a reference and a menu that is written by hand if they are given
+abbrev pub OnClass : Seeking → Option Text → Text → Option Text → Result Text ToolFault → Type 0
+OnClass s reference classes menu answer = asked_for s s.print reference classes menu answer
+
+-- the same by a reference, which histories of a set don't go with
+abbrev pub OnClassLike : Seeking → Option Text → Text → Option Text → Result Text ToolFault → Type 0
+OnClassLike s reference classes menu answer =
+    MatchBool s.set (answer ≡ Err faults.BadOptions) (OnClass s reference classes menu answer)

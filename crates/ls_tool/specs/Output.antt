@@ -15,12 +15,15 @@ use Rattle.ls_commands.specs.Ordered.{OrdersTo}
 use Rattle.ls_commands.specs.SerialOrdered.{OrdersSerially}
 use Rattle.ls_commands.specs.Compiled.{CountsTo, ReplaysTo}
 use Rattle.ls_commands.specs.Judged.{JudgesTo}
+use Rattle.ls_commands.specs.Likeness.{JudgesLike, OrdersLike}
 use Rattle.ls_commands.specs.Lived.{LivesTo, ReplaysLiveTo}
 use Rattle.ls_commands.specs.Sampled.{SamplesTo}
 use Rattle.ls_commands.specs.Tallied.{drawing, sampling, TalliesTo}
 use Rattle.ls_commands.specs.Translated.{TranslatesTo}
 use Rattle.ls_commands.specs.Merging.{MergesTo}
+use Rattle.ls_commands.specs.declared.batching.Sampling.{Sampling}
 use Rattle.ls_explore_commands.specs.Explored.{ExploresTo}
+use Rattle.ls_explore_commands.specs.Likeness.{ExploresLike, VerdictsLike}
 use Rattle.ls_explore_reports.specs.declared.printing.Exploring.{Exploring}
 use Rattle.ls_explore_commands.specs.Verdicts.{VerdictsTo}
 use Rattle.ls_commands.specs.Viewed.{ViewsTo}
@@ -42,10 +45,10 @@ use Rattle.ls_command_line.specs.declared.words.WordsFault.{WordsFault}
 use Rattle.ls_command_line.specs.declared.words.WordsFault.TheVariants as word_faults
 use Rattle.ls_faults.specs.declared.fault.ToolFault.{ToolFault}
 use Rattle.ls_faults.specs.declared.fault.ToolFault.TheVariants as faults
-use Rattle.ls_tool.specs.Asked.{OnClass}
+use Rattle.ls_tool.specs.Asked.{OnClass, OnClassLike}
 use Rattle.ls_tool.specs.Notes.{is_noted, NotesOn}
-use Rattle.ls_tool.specs.Pages.{PagesOn}
-use Rattle.ls_tool.specs.Wanted.{wanted_parts}
+use Rattle.ls_tool.specs.Pages.{PagesByReference, PagesOn}
+use Rattle.ls_tool.specs.Wanted.{wanted_of}
 use Rattle.ls_find_reports.specs.Statuses.{status_of}
 use Rattle.ls_tool.specs.declared.running.Exit.{Exit}
 use Rattle.ls_tool.specs.declared.said.Said.{Said}
@@ -72,8 +75,8 @@ OnOrder other answer = answer ≡ Err faults.WrongParts
 
 -- what is found in a class text, with a menu that is written by hand or without
 abbrev pub OnFind : Seeking → List Text → Result Text ToolFault → Type 0
-OnFind seeking (classes ∷ []) answer = OnClass seeking classes None answer
-OnFind seeking (classes ∷ menu ∷ []) answer = OnClass seeking classes (Some menu) answer
+OnFind seeking (classes ∷ []) answer = OnClass seeking None classes None answer
+OnFind seeking (classes ∷ menu ∷ []) answer = OnClass seeking None classes (Some menu) answer
 OnFind seeking other answer = answer ≡ Err faults.WrongParts
 
 -- what is shown of a run
@@ -96,7 +99,7 @@ Samples (requests.Sample seed steps switch cells) parts answer = OnTwo (SamplesT
     parts answer
 Samples other parts answer = answer ≡ Err faults.WrongParts
 
-abbrev exploring : Option ℕ → ℕ → Bool → Bool → Bool → Exploring
+abbrev pub exploring : Option ℕ → ℕ → Bool → Bool → Bool → Exploring
 exploring cells states illegal first order = record {
   cells = cells;
   states = states;
@@ -142,19 +145,59 @@ Answers (requests.Verdict states mixed) parts answer = Explores (requests.Verdic
 Answers (requests.Find seeking) parts answer = OnFind seeking parts answer
 Answers (requests.Merge count) parts answer = answer ≡ Err faults.WrongParts
 
+-- ---- by a reference, which is the last part
+
+abbrev pub OnFour : (Text → Text → Text → Text → Result Text ToolFault → Type 0) → List Text → Result Text ToolFault →
+    Type 0
+OnFour May (classes ∷ program ∷ third ∷ last ∷ []) answer = May classes program third last answer
+OnFour May other answer = answer ≡ Err faults.WrongParts
+
+abbrev pub FindsByReference : Seeking → List Text → Result Text ToolFault → Type 0
+FindsByReference s (classes ∷ reference ∷ []) answer = OnClassLike s (Some reference) classes None answer
+FindsByReference s (classes ∷ menu ∷ reference ∷ []) answer = OnClassLike s (Some reference) classes (Some menu) answer
+FindsByReference s other answer = answer ≡ Err faults.WrongParts
+
+-- a batch goes with a reference where its histories are judged
+abbrev pub BatchesLike : Bool → ℕ → Sampling → Text → Text → Text → Result Text ToolFault → Type 0
+BatchesLike false cells s classes program reference answer = answer ≡ Err faults.BadOptions
+BatchesLike true cells s classes program reference answer = JudgesLike cells s reference classes program answer
+
+abbrev pub VerdictsBy : Bool → ℕ → Text → Text → Text → Result Text ToolFault → Type 0
+VerdictsBy false states classes program reference answer = VerdictsLike states reference classes program answer
+VerdictsBy true states classes program reference answer = answer ≡ Err faults.BadOptions
+
+-- what a command may answer that a reference is given; no other takes one
+abbrev pub AnswersByReference : Request → List Text → Result Text ToolFault → Type 0
+AnswersByReference requests.Order parts answer =
+    OnFour (λ classes program history reference. OrdersLike reference classes program history) parts answer
+AnswersByReference (requests.Explore cells states illegal first order progress) parts answer = OnThree
+    (λ classes program reference. ExploresLike (exploring cells states illegal first order) reference classes program)
+    parts answer
+AnswersByReference (requests.Verdict states mixed) parts answer = OnThree (VerdictsBy mixed states) parts answer
+AnswersByReference (requests.Batch seed count steps switch cells judge) parts answer = OnThree
+    (BatchesLike judge cells (sampling seed count (drawing steps switch))) parts answer
+AnswersByReference (requests.Find seeking) parts answer = FindsByReference seeking parts answer
+AnswersByReference (requests.Page paging) parts answer = PagesByReference paging parts answer
+AnswersByReference other parts answer = Answers other parts answer
+
+-- with a reference or without
+abbrev pub AnswersBy : Bool → Request → List Text → Result Text ToolFault → Type 0
+AnswersBy false r parts answer = Answers r parts answer
+AnswersBy true r parts answer = AnswersByReference r parts answer
+
 -- and on an input, which is cut into parts unless it is one of tallies
-abbrev pub AnswersInput : Request → Text → Result Text ToolFault → Type 0
-AnswersInput (requests.Merge count) input answer = MergesTo count input answer
-AnswersInput r input answer = Answers r (parts_of input) answer
+abbrev pub AnswersInput : Bool → Request → Text → Result Text ToolFault → Type 0
+AnswersInput spec (requests.Merge count) input answer = MergesTo count input answer
+AnswersInput spec r input answer = AnswersBy spec r (parts_of input) answer
 
 -- the text that a command reads: the input, or where names are given, its files as one text
 abbrev pub read_as : Option (List Text) → Text → Text
 read_as None input = input
 read_as (Some names) input = unmarked input
 
-abbrev pub AnswersText : Option (List Text) → Request → Text → Result Text ToolFault → Type 0
-AnswersText names r input answer = MatchBool (is_text input) (AnswersInput r (read_as names input) answer)
-    (answer ≡ Err faults.NotText)
+abbrev pub AnswersText : Option (List Text) → CommandLine → Text → Result Text ToolFault → Type 0
+AnswersText names l input answer = MatchBool (is_text input)
+    (AnswersInput l.spec l.request (read_as names input) answer) (answer ≡ Err faults.NotText)
 
 -- the texts in which a fault can stand: the parts of an input, where it is text, or all of it if it is one of tallies
 abbrev pub cut_for : ToolFault → Text → List Text
@@ -172,7 +215,7 @@ is_bare (Some names) l = false
 -- where files are named, the file with line and column in front; else its line, and the line in which it stands
 abbrev pub noted : Option (List Text) → CommandLine → ToolFault → Text → Text
 noted None l f input = fault_line f ++ note f (texts_of None f input)
-noted (Some names) l f input = named_note names input (wanted_parts l.request) (texts_of (Some names) f input) f
+noted (Some names) l f input = named_note names input (wanted_of l) (texts_of (Some names) f input) f
 
 abbrev pub told : Option (List Text) → CommandLine → ToolFault → Text → Text
 told names l f input = if is_bare names l then fault_line f else noted names l f input
@@ -207,12 +250,12 @@ pub data IsEnding (words : List Text) (input : Text) : Ending → Type 0 where
   BadLine : Asks words None → IsEnding words input Usage
   Answered : (l : CommandLine) (text beside : Text) →
       Asks words (Some l) →
-      AnswersText (file_names_in words) l.request input (Ok text) →
+      AnswersText (file_names_in words) l input (Ok text) →
       NotesAs (file_names_in words) l input (Ok beside) →
       IsEnding words input (Prints (status_for l.request text) text beside)
   Refused : (l : CommandLine) (f : ToolFault) →
       Asks words (Some l) →
-      AnswersText (file_names_in words) l.request input (Err f) →
+      AnswersText (file_names_in words) l input (Err f) →
       IsEnding words input (Tells (told (file_names_in words) l f input))
 
 -- ---- what the code answers

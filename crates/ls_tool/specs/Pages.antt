@@ -33,7 +33,7 @@ Refused answer = answer ≡ Err faults.BadOptions
 -- two parts: the page on which one chooses, which has no range of steps
 abbrev pub PagesOnTwo : Paging → Text → Text → Result Text ToolFault → Type 0
 PagesOnTwo p classes program answer = MatchBool (has_range p || p.choose) (Refused answer)
-    (ChoosesTo (states_of p) classes program [] answer)
+    (ChoosesTo None (states_of p) classes program [] answer)
 
 -- the page of a run, which keeps no states
 abbrev pub PagesRun : Paging → Text → Text → Text → Result Text ToolFault → Type 0
@@ -43,7 +43,7 @@ PagesRun p classes program schedule answer = MatchBool (is_some p.states) (Refus
 -- three: with `--choose` the page on which one chooses and which begins with the run, else that of the run
 abbrev pub PagesOnThree : Paging → Text → Text → Text → Result Text ToolFault → Type 0
 PagesOnThree p classes program schedule answer = MatchBool p.choose
-    (MatchBool (has_range p) (Refused answer) (ChoosesTo (states_of p) classes program schedule answer))
+    (MatchBool (has_range p) (Refused answer) (ChoosesTo None (states_of p) classes program schedule answer))
     (PagesRun p classes program schedule answer)
 
 -- four: the page of the run with an order
@@ -57,3 +57,14 @@ PagesOn p (classes ∷ program ∷ []) answer = PagesOnTwo p classes program ans
 PagesOn p (classes ∷ program ∷ schedule ∷ []) answer = PagesOnThree p classes program schedule answer
 PagesOn p (classes ∷ program ∷ schedule ∷ order ∷ []) answer = PagesOnFour p classes program schedule order answer
 PagesOn p other answer = answer ≡ Err faults.WrongParts
+
+-- by a reference one chooses, with a run to begin with or without, and there is no range of steps
+abbrev pub PagesLike : Paging → Text → Text → Text → Text → Result Text ToolFault → Type 0
+PagesLike p reference classes program schedule answer = MatchBool (has_range p) (Refused answer)
+    (ChoosesTo (Some reference) (states_of p) classes program schedule answer)
+
+abbrev pub PagesByReference : Paging → List Text → Result Text ToolFault → Type 0
+PagesByReference p (classes ∷ program ∷ reference ∷ []) answer = PagesLike p reference classes program [] answer
+PagesByReference p (classes ∷ program ∷ schedule ∷ reference ∷ []) answer =
+    PagesLike p reference classes program schedule answer
+PagesByReference p other answer = answer ≡ Err faults.WrongParts

@@ -1,6 +1,7 @@
 -- Which parts a command reads, in words.
-use Rattle.std.specs.Prelude.{codes}
+use Rattle.std.specs.Prelude.{codes, if◌then◌else◌}
 use Rattle.ls_report.specs.Events.{Text}
+use Rattle.ls_command_line.specs.declared.words.CommandLine.{CommandLine}
 use Rattle.ls_command_line.specs.declared.words.Request.{Request}
 use Rattle.ls_command_line.specs.declared.words.Request.TheVariants as requests
 
@@ -21,3 +22,15 @@ wanted_parts (requests.Page paging) =
     codes "two to four parts, class text, thread program, schedule and an order"
 wanted_parts requests.Aim = codes "three parts, class text, thread program and targets"
 wanted_parts other = codes "three parts, class text, thread program and schedule"
+
+-- by a reference, which is the last part
+abbrev pub wanted_by_reference : Request → Text
+wanted_by_reference requests.Order = codes "four parts, class text, thread program, history and reference"
+wanted_by_reference (requests.Find seeking) =
+    codes "two parts, class text and reference; or three, class text, menu and reference"
+wanted_by_reference (requests.Page paging) =
+    codes "three parts, class text, thread program and reference; or four, with a schedule before the reference"
+wanted_by_reference other = codes "three parts, class text, thread program and reference"
+
+abbrev pub wanted_of : CommandLine → Text
+wanted_of l = if l.spec then wanted_by_reference l.request else wanted_parts l.request

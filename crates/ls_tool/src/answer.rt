@@ -6,21 +6,23 @@ ghost use Rattle.ls_faults.specs.Given.{GivesText};
 ghost use Rattle.ls_files.specs.Names.{file_names_in};
 ghost use Rattle.ls_items.specs.Cutting.{plain_text};
 ghost use Rattle.ls_report.specs.Events.{Text};
-ghost use Rattle.ls_tool.specs.Output.{Answers, AnswersInput, AnswersText, Asks, Decides, IsTaken, names_of, read_as};
+ghost use Rattle.ls_tool.specs.Output.{Answers, AnswersBy, AnswersByReference, AnswersInput, AnswersText, Asks};
+ghost use Rattle.ls_tool.specs.Output.{Decides, IsTaken, names_of, read_as};
 
-use crate::asked::on_find;
+use crate::asked::{on_find, on_find_like};
 use crate::commands::{
-    on_aim, on_check, on_compile, on_live, on_live_replay, on_order, on_replay, on_samples,
-    on_schedules, on_translate, on_view,
+    drawing_of, exploring_of, on_aim, on_check, on_compile, on_live, on_live_replay, on_order,
+    on_replay, on_samples, on_schedules, on_translate, on_view,
 };
 use crate::explained::refusal_of;
 use crate::noted::said_of;
-use crate::pages::on_page;
+use crate::pages::{on_page, on_page_like};
+use crate::referred::{on_batch_like, on_explore_like, on_order_like, on_verdict_like};
 use crate::refusal::Refusal;
 use crate::said::Said;
 use crate::views::{state_view, states_view, trace_view};
 use ls_command_line::{CommandLine, Request, read_words};
-use ls_commands::{View, merge};
+use ls_commands::{Sampling, View, merge};
 use ls_explore::{Nobody, Watch};
 use ls_faults::fault::ToolFault;
 use ls_files::{asking, file_names_in, unmarked};
@@ -63,60 +65,126 @@ fn decide<R: Threads + Wait + Sync, W: Watch>(
     }
 }
 
+/// The same by a reference, which is the last part. A command that takes none answers as ever.
+fn decide_like<R: Threads + Wait + Sync, W: Watch>(
+    rt: &R,
+    alloc: Global,
+    request: Request,
+    parts: &[&str],
+    watch: &mut W,
+) -> Result<String, ToolFault>
+    ensures gives { GivesText (AnswersByReference request (map plain_text parts.now)) result }
+    ensures watched { GoesOn W.Since watch.old watch.new }
+{
+    match request {
+        Request::Find(seeking) => on_find_like(rt, alloc, seeking, parts, watch),
+        Request::Page(paging) => on_page_like(alloc, paging, parts),
+        Request::Order => on_order_like(alloc, parts),
+        Request::Explore {
+            cells,
+            states,
+            illegal,
+            first,
+            order,
+            progress: _,
+        } => {
+            let exploring = exploring_of(cells, states, illegal, first, order);
+            on_explore_like(alloc, exploring, parts, watch)
+        }
+        Request::Verdict { states, mixed } => on_verdict_like(alloc, states as usize, mixed, parts),
+        Request::Batch {
+            seed,
+            count,
+            steps,
+            switch,
+            cells,
+            judge,
+        } => {
+            let sampling = Sampling {
+                first: seed,
+                count: count as usize,
+                drawing: drawing_of(steps, switch),
+            };
+            on_batch_like(rt, alloc, sampling, judge, cells as usize, parts)
+        }
+        _ => decide(rt, alloc, request, parts, watch),
+    }
+}
+
+/// The same with a reference or without.
+fn decide_by<R: Threads + Wait + Sync, W: Watch>(
+    rt: &R,
+    alloc: Global,
+    spec: bool,
+    request: Request,
+    parts: &[&str],
+    watch: &mut W,
+) -> Result<String, ToolFault>
+    ensures gives { GivesText (AnswersBy spec request (map plain_text parts.now)) result }
+    ensures watched { GoesOn W.Since watch.old watch.new }
+{
+    if spec {
+        return decide_like(rt, alloc, request, parts, watch);
+    }
+    decide(rt, alloc, request, parts, watch)
+}
+
 /// What the command answers on a text, which is cut into parts unless it is one of tallies.
 fn answer_text<R: Threads + Wait + Sync, W: Watch>(
     rt: &R,
     alloc: Global,
+    spec: bool,
     request: Request,
     text: &str,
     watch: &mut W,
 ) -> Result<String, ToolFault>
-    ensures gives { GivesText (AnswersInput request text.now) result }
+    ensures gives { GivesText (AnswersInput spec request text.now) result }
     ensures watched { GoesOn W.Since watch.old watch.new }
 {
     if let Request::Merge { count } = request {
         return merge(alloc, count, text);
     }
     let parts = parts_of(alloc, text)?;
-    decide(rt, alloc, request, parts.as_slice(), watch)
+    decide_by(rt, alloc, spec, request, parts.as_slice(), watch)
 }
 
 /// The same on a text whose files are named or not.
 fn answer_files<R: Threads + Wait + Sync, W: Watch>(
     rt: &R,
     alloc: Global,
-    request: Request,
+    line: CommandLine,
     names: Option<&[String]>,
     text: &str,
     watch: &mut W,
 ) -> Result<String, ToolFault>
-    ensures gives { GivesText (AnswersInput request (read_as (names_of names.entry) text.now)) result }
+    ensures gives { GivesText (AnswersInput line.spec line.request (read_as (names_of names.entry) text.now)) result }
     ensures watched { GoesOn W.Since watch.old watch.new }
 {
+    let CommandLine { request, spec, .. } = line;
     match names {
         Some(_) => {
             let joined = unmarked(alloc, text)?;
-            answer_text(rt, alloc, request, joined.as_str(), watch)
+            answer_text(rt, alloc, spec, request, joined.as_str(), watch)
         }
-        None => answer_text(rt, alloc, request, text, watch),
+        None => answer_text(rt, alloc, spec, request, text, watch),
     }
 }
 
 fn answer_of<R: Threads + Wait + Sync, W: Watch>(
     rt: &R,
     alloc: Global,
-    request: Request,
+    line: CommandLine,
     names: Option<&[String]>,
     input: &[u8],
     watch: &mut W,
 ) -> Result<String, ToolFault>
-    ensures gives { GivesText (AnswersText (names_of names.entry) request input.now) result }
+    ensures gives { GivesText (AnswersText (names_of names.entry) line input.now) result }
     ensures watched { GoesOn W.Since watch.old watch.new }
 {
     let Some(text) = text_of(input) else {
         return Err(ToolFault::NotText);
     };
-    answer_files(rt, alloc, request, names, text, watch)
+    answer_files(rt, alloc, line, names, text, watch)
 }
 
 /// What a command line asks for of an input, or why there is no output.
@@ -133,7 +201,7 @@ pub(crate) fn answer_line<R: Threads + Wait + Sync, W: Watch>(
     ensures taken { IsTaken result }
     ensures watched { GoesOn W.Since watch.old watch.new }
 {
-    match answer_of(rt, alloc, line.request, names, input, watch) {
+    match answer_of(rt, alloc, line, names, input, watch) {
         Ok(text) => said_of(alloc, line, names, text, input),
         Err(fault) => Err(refusal_of(alloc, line, names, fault, input)),
     }

@@ -4,8 +4,8 @@ ghost use Rattle.std.specs.Prelude.{◌≡◌, map, option_map};
 ghost use Rattle.ls_explore.specs.Watching.{GoesOn};
 ghost use Rattle.ls_faults.specs.Given.{GivesText};
 ghost use Rattle.ls_items.specs.Cutting.{plain_text};
-ghost use Rattle.ls_tool.specs.Asked.{OnClass, choosing_of, range_of};
-ghost use Rattle.ls_tool.specs.Output.{OnFind};
+ghost use Rattle.ls_tool.specs.Asked.{OnClass, OnClassLike, choosing_of, range_of};
+ghost use Rattle.ls_tool.specs.Output.{FindsByReference, OnFind};
 
 use ls_command_line::Seeking;
 use ls_explore::Watch;
@@ -14,7 +14,7 @@ use ls_find_commands::{Bounds, Choosing, Range, Sought, Texts, find, print_progr
 use std::alloc::Global;
 use std::thread::Threads;
 
-/// What `find` answers on a class text, and on a menu that is written by hand if one is given.
+/// What `find` answers on a class text, and on a reference and a menu that is written by hand if they are given.
 fn on_class<R: Threads + Sync, W: Watch>(
     rt: &R,
     alloc: Global,
@@ -22,7 +22,8 @@ fn on_class<R: Threads + Sync, W: Watch>(
     texts: Texts<'_>,
     watch: &mut W,
 ) -> Result<String, ToolFault>
-    ensures gives { GivesText (OnClass seeking texts.entry.classes.now (option_map plain_text texts.entry.menu)) result }
+    ensures gives { GivesText (OnClass seeking (option_map plain_text texts.entry.reference)
+        texts.entry.classes.now (option_map plain_text texts.entry.menu)) result }
     ensures watched { GoesOn W.Since watch.old watch.new }
 {
     let choosing = choosing_of(seeking);
@@ -80,6 +81,7 @@ pub(crate) fn on_find<R: Threads + Sync, W: Watch>(
             let texts = Texts {
                 classes,
                 menu: None,
+                reference: None,
             };
             on_class(rt, alloc, seeking, texts, watch)
         }
@@ -87,8 +89,59 @@ pub(crate) fn on_find<R: Threads + Sync, W: Watch>(
             let texts = Texts {
                 classes,
                 menu: Some(menu),
+                reference: None,
             };
             on_class(rt, alloc, seeking, texts, watch)
+        }
+        _ => Err(ToolFault::WrongParts),
+    }
+}
+
+/// The same by a reference, which histories of a set don't go with.
+fn on_class_like<R: Threads + Sync, W: Watch>(
+    rt: &R,
+    alloc: Global,
+    seeking: Seeking,
+    texts: Texts<'_>,
+    watch: &mut W,
+) -> Result<String, ToolFault>
+    ensures gives { GivesText (OnClassLike seeking (option_map plain_text texts.entry.reference)
+        texts.entry.classes.now (option_map plain_text texts.entry.menu)) result }
+    ensures watched { GoesOn W.Since watch.old watch.new }
+{
+    if seeking.set {
+        return Err(ToolFault::BadOptions);
+    }
+    on_class(rt, alloc, seeking, texts, watch)
+}
+
+/// A class text, a menu that is written by hand if one is given, and a reference.
+pub(crate) fn on_find_like<R: Threads + Sync, W: Watch>(
+    rt: &R,
+    alloc: Global,
+    seeking: Seeking,
+    parts: &[&str],
+    watch: &mut W,
+) -> Result<String, ToolFault>
+    ensures gives { GivesText (FindsByReference seeking (map plain_text parts.now)) result }
+    ensures watched { GoesOn W.Since watch.old watch.new }
+{
+    match parts {
+        [classes, reference] => {
+            let texts = Texts {
+                classes,
+                menu: None,
+                reference: Some(reference),
+            };
+            on_class_like(rt, alloc, seeking, texts, watch)
+        }
+        [classes, menu, reference] => {
+            let texts = Texts {
+                classes,
+                menu: Some(menu),
+                reference: Some(reference),
+            };
+            on_class_like(rt, alloc, seeking, texts, watch)
         }
         _ => Err(ToolFault::WrongParts),
     }

@@ -14,7 +14,7 @@ ghost use Rattle.ls_explore.specs.Watching.{GoesOn};
 ghost use Rattle.ls_explore_commands.specs.Explored.{ExploresTo};
 ghost use Rattle.ls_faults.specs.Given.{GivesText};
 ghost use Rattle.ls_items.specs.Cutting.{plain_text};
-ghost use Rattle.ls_tool.specs.Output.{Explores, OnOrder, OnThree, OnTwo, Samples, Verdicts};
+ghost use Rattle.ls_tool.specs.Output.{Explores, OnOrder, OnThree, OnTwo, Samples, Verdicts, exploring};
 
 use ls_command_line::{Request, Side};
 use ls_commands::{
@@ -184,7 +184,7 @@ fn on_sample(
 }
 
 /// So many steps, each of which draws a thread by chance 1 in a number.
-fn drawing_of(steps: u64, switch: u64) -> Sampler
+pub(crate) fn drawing_of(steps: u64, switch: u64) -> Sampler
     ensures { result ≡ drawing steps switch }
 {
     Sampler {
@@ -244,6 +244,25 @@ fn cells_of(cells: Option<u64>) -> Option<usize>
     }
 }
 
+/// What is asked of an exploration.
+pub(crate) fn exploring_of(
+    cells: Option<u64>,
+    states: u64,
+    illegal: bool,
+    first: bool,
+    order: bool,
+) -> Exploring
+    ensures { result ≡ exploring cells states illegal first order }
+{
+    Exploring {
+        cells: cells_of(cells),
+        states: states as usize,
+        illegal,
+        first,
+        order,
+    }
+}
+
 /// A class text and a program of it.
 fn on_explore<W: Watch>(
     alloc: Global,
@@ -299,13 +318,7 @@ pub(crate) fn on_schedules<W: Watch>(
             order,
             progress: _,
         } => {
-            let exploring = Exploring {
-                cells: cells_of(cells),
-                states: states as usize,
-                illegal,
-                first,
-                order,
-            };
+            let exploring = exploring_of(cells, states, illegal, first, order);
             on_explore(alloc, exploring, parts, watch)
         }
         Request::Verdict { states, mixed } => on_verdict(alloc, states as usize, mixed, parts),

@@ -7,7 +7,7 @@ ghost use Rattle.ls_items.specs.Cutting.{plain_text};
 ghost use Rattle.ls_tool.specs.Output.{RefusesAs, cut_for, is_bare, names_of, noted, read_as, texts_of};
 
 use crate::refusal::Refusal;
-use crate::wanted::wanted_parts;
+use crate::wanted::wanted_of;
 use ls_command_line::CommandLine;
 use ls_explanations::{explain, explain_named};
 use ls_faults::fault::ToolFault;
@@ -105,7 +105,7 @@ fn noted(
             fault,
             names,
             input,
-            wanted_parts(line.request),
+            wanted_of(line),
             texts.as_slice(),
         ),
         None => with_note(alloc, fault, texts.as_slice()),

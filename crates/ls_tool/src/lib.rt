@@ -9,6 +9,7 @@ mod noted;
 mod pages;
 mod programs;
 mod progress;
+mod referred;
 mod refusal;
 mod running;
 mod said;

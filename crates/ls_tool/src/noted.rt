@@ -117,7 +117,7 @@ pub(crate) fn said_of(
     input: &[u8],
 ) -> Result<Said, Refusal>
     ensures decides { (words : List Text) → Asks words (Some line) → file_names_in words ≡ names_of names.entry →
-        AnswersText (names_of names.entry) line.request input.now (Ok (string_bytes text)) →
+        AnswersText (names_of names.entry) line input.now (Ok (string_bytes text)) →
         Decides words input.now result }
     ensures taken { IsTaken result }
 {

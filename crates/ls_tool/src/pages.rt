@@ -4,7 +4,7 @@ ghost use Rattle.std.specs.Prelude.{◌≡◌, [], map};
 ghost use Rattle.ls_faults.specs.Given.{GivesText};
 ghost use Rattle.ls_items.specs.Cutting.{plain_text};
 ghost use Rattle.ls_tool.specs.Pages.{PagesOn, PagesOnFour, PagesOnThree, PagesOnTwo, PagesRun, first_of, has_range};
-ghost use Rattle.ls_tool.specs.Pages.{last_of, states_of};
+ghost use Rattle.ls_tool.specs.Pages.{PagesByReference, PagesLike, last_of, states_of};
 
 use ls_choosing::choosing::choose;
 use ls_command_line::Paging;
@@ -56,7 +56,7 @@ fn page_on_two(
     if has_range(paging) || paging.choose {
         return Err(ToolFault::BadOptions);
     }
-    choose(alloc, states_of(paging), classes, program, "")
+    choose(alloc, None, states_of(paging), classes, program, "")
 }
 
 // The page of a run, which shows no more than that.
@@ -92,7 +92,7 @@ fn page_on_three(
     if has_range(paging) {
         return Err(ToolFault::BadOptions);
     }
-    choose(alloc, states_of(paging), classes, program, schedule)
+    choose(alloc, None, states_of(paging), classes, program, schedule)
 }
 
 // The page of four parts, on a run and an order.
@@ -110,6 +110,47 @@ fn page_on_four(
         return Err(ToolFault::BadOptions);
     }
     page_with_order(alloc, window_of(paging), classes, program, schedule, order)
+}
+
+// The page by a reference, on which one chooses.
+fn page_like(
+    alloc: Global,
+    paging: Paging,
+    reference: &str,
+    classes: &str,
+    program: &str,
+    schedule: &str,
+) -> Result<String, ToolFault>
+    ensures { GivesText (PagesLike paging reference.now classes.now program.now schedule.now) result }
+{
+    if has_range(paging) {
+        return Err(ToolFault::BadOptions);
+    }
+    choose(
+        alloc,
+        Some(reference),
+        states_of(paging),
+        classes,
+        program,
+        schedule,
+    )
+}
+
+/// A class text, a program of it, a schedule if there is one, and a reference.
+pub(crate) fn on_page_like(
+    alloc: Global,
+    paging: Paging,
+    parts: &[&str],
+) -> Result<String, ToolFault>
+    ensures { GivesText (PagesByReference paging (map plain_text parts.now)) result }
+{
+    match parts {
+        [classes, program, reference] => page_like(alloc, paging, reference, classes, program, ""),
+        [classes, program, schedule, reference] => {
+            page_like(alloc, paging, reference, classes, program, schedule)
+        }
+        _ => Err(ToolFault::WrongParts),
+    }
 }
 
 /// A class text and a program of it; the same and a schedule; or the same and an order.

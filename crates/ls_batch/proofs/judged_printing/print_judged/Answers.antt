@@ -3,6 +3,7 @@
 use Rattle.std.proofs.Common.{◌∙◌, string_bytes, subst}
 use Rattle.ls_checked.specs.Plain.{plain_file}
 use Rattle.ls_checked.specs.PlainProgram.{plain_program}
+use Rattle.ls_batch.specs.Judged.{IsJudgement}
 use Rattle.ls_batch.specs.Rows.{entry_row}
 use Rattle.ls_serial_search.specs.Told.{Tells}
 use Rattle.ls_batch.proofs.Judged.{all_told, row_named, row_told}
@@ -10,7 +11,8 @@ use Rattle.ls_batch.proofs.judged_printing.print_judged.Goals as goal
 
 pub judgement_on-requires : goal.judgement_on-requires
 judgement_on-requires c =
-    row_named (plain_file c.args.file.now) (plain_program c.args.program.now) c.args.tally.now entry_row
+    row_named (IsJudgement (plain_file c.args.file.now) (plain_program c.args.program.now))
+    (plain_program c.args.program.now) c.args.tally.now entry_row
     c.entries-entry-items.result.now
     c.loop-entry.entry-index c.entry-item.result
     c.as_slice.result.now c.entries-entry-items.ensures c.requires c.loop-entry-test.true c.entry-item.is
@@ -18,7 +20,8 @@ judgement_on-requires c =
 
 pub loop-entry-preserved : goal.loop-entry-preserved
 loop-entry-preserved c =
-    row_told (plain_file c.args.file.now) (plain_program c.args.program.now) c.args.tally.now entry_row
+    row_told (IsJudgement (plain_file c.args.file.now) (plain_program c.args.program.now))
+    (plain_program c.args.program.now) c.args.tally.now entry_row
     c.entries-entry-items.result.now
     c.loop-entry.entry-index c.entry-item.result
     c.as_slice.result.now c.in_ok-said.said (string_bytes c.loop-entry.out) (string_bytes c.push_judged.new.out)
@@ -31,7 +34,8 @@ loop-entry-preserved c =
 
 pub returns : goal.returns
 returns c =
-    all_told (plain_file c.args.file.now) (plain_program c.args.program.now) c.args.tally.now entry_row
+    all_told (IsJudgement (plain_file c.args.file.now) (plain_program c.args.program.now))
+    (plain_program c.args.program.now) c.args.tally.now entry_row
     c.entries-entry-items.result.now
     c.loop-entry.entry-index (string_bytes c.loop-entry.out)
     c.loop-entry-test.false c.loop-entry.invariant

@@ -9,7 +9,7 @@ use Rattle.ls_faults.specs.Faults.{lifted_program}
 use Rattle.ls_faults.specs.Given.{GivesText}
 use Rattle.ls_faults.proofs.Answering.{fails, wider}
 use Rattle.ls_commands.specs.Viewed.{names_in}
-use Rattle.ls_choosing.specs.Chosen.{FollowsTo, NoProgram, Ran, RunsTo, wanted_of}
+use Rattle.ls_choosing.specs.Chosen.{NoProgram, Ran, RefersTo, RunsTo, wanted_of}
 use Rattle.ls_choosing.proofs.choosing.run.Goals as goal
 
 pub returns-in_err-program : goal.returns-in_err-program
@@ -26,5 +26,5 @@ returns c =
     let w = wanted_of c.args.wanted in
     let o = elaborated_file c.args.checked.now in
     let q = plain_program c.in_ok-program.program in
-    wider (FollowsTo w (names_in o q)) (RunsTo w o) c.followed.result (λ a h. Ran q a c.in_ok-program.ensures.spelled h)
-    (subst (λ names. GivesText (FollowsTo w names) c.followed.result) c.names_in.ensures c.followed.ensures)
+    wider (RefersTo w (names_in o q)) (RunsTo w o) c.referred.result (λ a h. Ran q a c.in_ok-program.ensures.spelled h)
+    (subst (λ names. GivesText (RefersTo w names) c.referred.result) c.names_in.ensures c.referred.ensures)

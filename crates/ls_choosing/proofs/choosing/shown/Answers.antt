@@ -3,7 +3,7 @@
 use Rattle.std.proofs.Common.{subst}
 use Rattle.std.specs.Prelude.{IfSome, string_bytes}
 use Rattle.ls_labels.specs.Names.{names_of}
-use Rattle.ls_page.specs.ChoicesData.{IsData}
+use Rattle.ls_page.specs.ChoicesData.{IsData, reference_of}
 use Rattle.ls_page.specs.Setup.{IsSetup}
 use Rattle.ls_choosing.specs.Chosen.{AreBadStates, Endless, NoStates, Shown, wanted_of}
 use Rattle.ls_choosing.proofs.ChosenLemmas.{above_none, not_both}
@@ -22,8 +22,9 @@ returns-in_ok-page-in-Some c =
     let setup : IsSetup names first =
     subst (λ o. IfSome o (λ v. IsSetup names v.items)) c.in-Some.is c.in_ok-first.ensures.steps in
     Shown first (string_bytes c.in_ok-page-in-Some.page) good setup
-    (subst (λ l. IsData names w.texts l w.states (string_bytes c.in_ok-page-in-Some.page)) c.deref.ensures.value
-    (c.in_ok-page-in-Some.ensures (above_none w.states good)))
+    (subst
+    (λ l. IsData names w.texts (reference_of c.args.reference) l w.states (string_bytes c.in_ok-page-in-Some.page))
+    c.deref.ensures.value (c.in_ok-page-in-Some.ensures (above_none w.states good)))
 
 pub returns-in-None : goal.returns-in-None
 returns-in-None c =

@@ -10,4 +10,5 @@ returns-clause-shape c =
     let stepped = c.with_option.ensures.shape _ _ counted c.number_option-steps.ensures.rule in
     let switched = c.with_option-command-3.ensures.shape _ _ stepped c.switch_option.ensures.rule in
     let celled = c.with_option-command-4.ensures.shape _ _ switched c.cells_option.ensures.rule in
-    c.with_option-2.ensures.shape _ _ celled c.flag_option-judge.ensures.rule
+    let judged = c.with_option-command-5.ensures.shape _ _ celled c.flag_option-judge.ensures.rule in
+    c.with_reference.ensures.shape _ judged

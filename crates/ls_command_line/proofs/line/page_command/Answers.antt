@@ -8,4 +8,5 @@ returns-clause-shape c =
     c.number_option-from.ensures.rule in
     let ended = c.with_option-command-2.ensures.shape _ _ begun c.number_option-to.ensures.rule in
     let chosen = c.with_option-command-3.ensures.shape _ _ ended c.flag_option-choose.ensures.rule in
-    c.with_option.ensures.shape _ _ chosen c.number_option-states.ensures.rule
+    let kept = c.with_option-command-4.ensures.shape _ _ chosen c.number_option-states.ensures.rule in
+    c.with_reference.ensures.shape _ kept

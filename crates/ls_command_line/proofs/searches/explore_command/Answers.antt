@@ -9,4 +9,5 @@ returns-clause-shape c =
     let first = c.with_option-command-2.ensures.shape _ _ sorted c.flag_option-first.ensures.rule in
     let order = c.with_option-command-3.ensures.shape _ _ first c.flag_option-order.ensures.rule in
     let progress = c.with_option-command-4.ensures.shape _ _ order c.flag_option-progress.ensures.rule in
-    c.with_option.ensures.shape _ _ progress c.flag_option-verdict.ensures.rule
+    let verdict = c.with_option-command-5.ensures.shape _ _ progress c.flag_option-verdict.ensures.rule in
+    c.with_reference.ensures.shape _ verdict

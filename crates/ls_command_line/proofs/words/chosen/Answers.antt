@@ -5,4 +5,5 @@ use Rattle.ls_command_line.proofs.words.chosen.Goals as goal
 
 pub returns-in-Some : goal.returns-in-Some
 returns-in-Some c =
-    rw (c.asked.ensures, c.flag.ensures) (asked_so _ _ _ _ _ c.in-Some.ensures.name c.in-Some.ensures.rows)
+    rw (c.asked.ensures, c.flag.ensures, c.flag-in-Some.ensures)
+    (asked_so _ _ _ _ _ c.in-Some.ensures.name c.in-Some.ensures.rows)

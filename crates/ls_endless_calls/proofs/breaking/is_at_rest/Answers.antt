@@ -3,7 +3,6 @@
 use Rattle.std.proofs.Common.{sym, subst}
 use Rattle.ls_transitions.specs.Seen.{table_of}
 use Rattle.ls_transitions.proofs.Growing.{grows_on}
-use Rattle.ls_search.specs.Places.{configuration_of}
 use Rattle.ls_search.proofs.Strides.{stays, there_still}
 use Rattle.ls_endless_calls.proofs.Ahead.{HasEnded, still_more}
 use Rattle.ls_endless_calls.proofs.breaking.is_at_rest.Goals as goal

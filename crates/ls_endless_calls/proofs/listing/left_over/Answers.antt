@@ -28,7 +28,7 @@ first_left-requires c =
     }
 
 pub returns-in-None : goal.returns-in-None
-returns-in-None c = λ nothing are.
+returns-in-None c = λ nothing sfile sprogram are.
     let file : File = plain_file c.args.file.now in
     let program : Program = plain_program c.args.program.now in
     let t : Table = table_of c.in_ok-setup.field-0.listing.search.transitions in
@@ -51,4 +51,4 @@ returns-in-None c = λ nothing are.
     none_left file program t c.in_ok-setup.field-0.listing.search.pool.values.items nodes c.in_ok-setup.ensures.sound
     c.in_ok-setup.field-0.setup c.in_ok-setup.ensures.up c.in_ok-setup.ensures.root seen c.in_ok-setup.ensures.expanded
     (c.in_ok-setup.ensures.all c.if-not-complete.false) (lists_of c.args.runs.now) c.deref.result.now excused
-    c.deref.ensures.value c.in_ok-excused.ensures fine c.runs_decide.ensures.among are
+    c.deref.ensures.value c.in_ok-excused.ensures fine c.runs_decide.ensures.among sfile sprogram are

@@ -3,8 +3,9 @@
 use Rattle.std.proofs.Common.{subst, sym}
 use Rattle.std.specs.Prelude.{IfNone, IfSome}
 use Rattle.ls_explore.specs.Faults.{AreBadStates}
-use Rattle.ls_source_judge.specs.Judged.{AllLinearizable, IsBadRun, IsStuckRun, IsUnjudged}
+use Rattle.ls_source_judge.specs.Judged.{AllLike, IsStuckRun, IsUnjudgedRun, IsUnlikeRun}
 use Rattle.ls_search.specs.Verdicts.{NeverStuck}
+use Rattle.ls_specification.specs.Specification.{spec_file, spec_program}
 use Rattle.ls_translation.specs.Texts.{file_of, program_of}
 use Rattle.ls_explore_commands.specs.Verdicts.{NoStates}
 use Rattle.ls_explore_commands.proofs.Decisions.{not_both}
@@ -15,39 +16,49 @@ returns-then-are_bad_states c = NoStates (c.are_bad_states.ensures.0 c.if-are_ba
 
 pub returns-in-Some : goal.returns-in-Some
 returns-in-Some c =
+    let sfile = spec_file c.args.specification in
+    let sprogram = spec_program c.args.specification in
     let i = c.args.image.now in
     let j = c.in_ok-judged.judged in
     let good : ¬ AreBadStates c.args.states =
     λ bad. not_both (c.are_bad_states.ensures.1 bad) c.if-are_bad_states.false in
     c.wrong_answer.ensures c.args.states good c.in_ok-judged.ensures.extent
-    (subst (λ s. IfNone j.doubt (IsBadRun (file_of i) (program_of i) s)) (sym c.as_slice.ensures.value)
-    (subst (λ o. IfNone j.doubt (IfSome o (λ s. IsBadRun (file_of i) (program_of i) s.items))) c.in-Some.is
+    (subst (λ s. IfNone j.doubt (IsUnlikeRun sfile sprogram (file_of i) (program_of i) s))
+    (sym c.as_slice.ensures.value)
+    (subst (λ o. IfNone j.doubt (IfSome o (λ s. IsUnlikeRun sfile sprogram (file_of i) (program_of i) s.items)))
+    c.in-Some.is
     c.in_ok-judged.ensures.bad))
-    (subst (λ s. IfSome j.doubt (λ d. IsUnjudged (file_of i) (program_of i) d s)) (sym c.as_slice.ensures.value)
-    (subst (λ o. IfSome j.doubt (λ d. IfSome o (λ s. IsUnjudged (file_of i) (program_of i) d s.items))) c.in-Some.is
+    (subst (λ s. IfSome j.doubt (λ d. IsUnjudgedRun sfile sprogram (file_of i) (program_of i) d s))
+    (sym c.as_slice.ensures.value)
+    (subst (λ o. IfSome j.doubt (λ d. IfSome o (λ s. IsUnjudgedRun sfile sprogram (file_of i) (program_of i)
+    d s.items))) c.in-Some.is
     c.in_ok-judged.ensures.unjudged))
     c.in_ok-judged.ensures.free c.in_ok-judged.ensures.stuck
 
 pub returns-in-Some-stuck : goal.returns-in-Some-stuck
 returns-in-Some-stuck c =
+    let sfile = spec_file c.args.specification in
+    let sprogram = spec_program c.args.specification in
     let i = c.args.image.now in
     let j = c.in_ok-judged.judged in
     let good : ¬ AreBadStates c.args.states =
     λ bad. not_both (c.are_bad_states.ensures.1 bad) c.if-are_bad_states.false in
-    c.stuck_answer.ensures c.args.states good c.in_ok-judged.ensures.extent
+    c.stuck_answer.ensures sfile sprogram c.args.states good c.in_ok-judged.ensures.extent
     (subst (λ s. IsStuckRun (file_of i) (program_of i) s) (sym c.as_slice-in-Some-stuck.ensures.value)
     (subst (λ o. IfSome o (λ s. IsStuckRun (file_of i) (program_of i) s.items)) c.in-Some-stuck.is
     c.in_ok-judged.ensures.stuck))
-    (λ complete. subst (λ o. IfNone o (AllLinearizable (file_of i) (program_of i))) c.in-None.is
+    (λ complete. subst (λ o. IfNone o (AllLike sfile sprogram (file_of i) (program_of i))) c.in-None.is
     (c.in_ok-judged.ensures.good complete))
 
 pub returns : goal.returns
 returns c =
+    let sfile = spec_file c.args.specification in
+    let sprogram = spec_program c.args.specification in
     let i = c.args.image.now in
     let good : ¬ AreBadStates c.args.states =
     λ bad. not_both (c.are_bad_states.ensures.1 bad) c.if-are_bad_states.false in
-    c.quiet_answer.ensures c.args.states good c.in_ok-judged.ensures.extent
-    (λ complete. subst (λ o. IfNone o (AllLinearizable (file_of i) (program_of i))) c.in-None.is
+    c.quiet_answer.ensures sfile sprogram c.args.states good c.in_ok-judged.ensures.extent
+    (λ complete. subst (λ o. IfNone o (AllLike sfile sprogram (file_of i) (program_of i))) c.in-None.is
     (c.in_ok-judged.ensures.good complete))
     (λ complete. subst (λ o. IfNone o (NeverStuck (file_of i) (program_of i))) c.in-None-stuck.is
     (c.in_ok-judged.ensures.free complete))

@@ -8,19 +8,20 @@ use Rattle.ls_explore_commands.proofs.Decisions.{same_text, tells, too_long}
 use Rattle.ls_explore_commands.proofs.deciding.doubtful_answer.Goals as goal
 
 pub returns-in_err-run : goal.returns-in_err-run
-returns-in_err-run c = λ limit good extent unjudged free.
+returns-in_err-run c = λ sfile sprogram limit good extent unjudged free.
     let p = err_from_is_err_and c.from_residual.result c.from_residual.ensures.1 in
-    rw (p.1, p.2) (too_long c.args.image.now limit c.args.steps.now c.in_err-run.field-0.0 c.in_err-run.ensures.only good
+    rw (p.1, p.2) (too_long sfile sprogram c.args.image.now limit c.args.steps.now c.in_err-run.field-0.0
+    c.in_err-run.ensures.only good
     (Unjudged c.args.doubt unjudged))
 
 pub returns : goal.returns
-returns c = λ limit good extent unjudged free.
+returns c = λ sfile sprogram limit good extent unjudged free.
     let j = c.args.judged.now in
     let run = c.in_ok-run.run' in
     let text = same_text (doubtful_text c.args.doubt run.fewest) _ _ _ _ _ _ _ _ _ _ _ c.names_in.ensures.names
     c.names_in.ensures.program refl c.extent_of.ensures.states c.extent_of.ensures.complete
     c.in_ok-text.ensures in
-    tells c.args.image.now limit _ _ text
+    tells sfile sprogram c.args.image.now limit _ _ text
     (IsDoubtful c.args.doubt run.schedule run.fewest j.states j.complete good extent
-    (c.in_ok-run.ensures.unjudged c.args.doubt unjudged) (c.in_ok-run.ensures.reads unjudged.acts) free
+    (c.in_ok-run.ensures.unjudged c.args.doubt sfile sprogram unjudged) (c.in_ok-run.ensures.reads unjudged.acts) free
     c.in_ok-run.ensures.fewest)

@@ -1,16 +1,17 @@
--- Why `judged_of` in src/deciding.rt keeps its clauses `bad`, `unjudged`, `free`, `stuck` and `extent`.
+-- Why `judged_of` in src/deciding.rt keeps its clauses `good`, `bad`, `unjudged`, `free`, `stuck` and `extent`.
 
-use Rattle.std.proofs.Common.{◌≡◌, ◌∙◌, ap, subst, true, false}
-use Rattle.std.specs.Prelude.{IfNone, IfSome}
+use Rattle.std.proofs.Common.{◌≡◌, ◌∙◌, ap, false, subst, true}
+use Rattle.std.specs.Prelude.{IfNone, IfSome, IsTrue}
 use Rattle.ls_checked.specs.CheckedTree.{File}
 use Rattle.ls_checked.specs.CheckedProgram.{Program}
 use Rattle.ls_checked.specs.Plain.{plain_file}
 use Rattle.ls_checked.specs.PlainProgram.{plain_program}
 use Rattle.ls_types_checked.specs.CheckedFile.{elaborated_file}
+use Rattle.ls_specification.specs.Specification.{spec_file, spec_program}
 use Rattle.ls_translation.specs.Texts.{file_of, program_of}
 use Rattle.ls_search_laws.specs.Stepping.{SetsUp}
 use Rattle.ls_search.specs.Verdicts.{AreAll, AreReached, IsCut, NeverStuck}
-use Rattle.ls_source_judge.specs.Judged.{IsBadRun, IsStuckRun, IsUnjudged}
+use Rattle.ls_source_judge.specs.Judged.{AllLike, IsStuckRun, IsUnjudgedRun, IsUnlikeRun}
 use Rattle.ls_explore_commands.proofs.Decisions.{at_same}
 use Rattle.ls_explore_commands.proofs.deciding.judged_of.Goals as goal
 
@@ -18,8 +19,8 @@ pub returns-clause-free : goal.returns-clause-free
 returns-clause-free c = λ complete.
     let i = c.args.image.now in
     let j = c.in_ok-judged.judged in
-    let file : plain_file c.file.result.now ≡ file_of i =
-    ap plain_file c.file.ensures ∙ ap (λ k. (elaborated_file k).file) c.checked.ensures in
+    let file : plain_file c.file-file.result.now ≡ file_of i =
+    ap plain_file c.file-file.ensures ∙ ap (λ k. (elaborated_file k).file) c.checked.ensures in
     let program : plain_program c.program.result.now ≡ program_of i = ap plain_program c.program.ensures in
     subst (λ (p : Program). IfNone j.stuck (NeverStuck (file_of i) p)) program
     (subst (λ (f : File). IfNone j.stuck (NeverStuck f (plain_program c.program.result.now))) file
@@ -29,8 +30,8 @@ pub returns-clause-extent : goal.returns-clause-extent
 returns-clause-extent c =
     let i = c.args.image.now in
     let j = c.in_ok-judged.judged in
-    let file : plain_file c.file.result.now ≡ file_of i =
-    ap plain_file c.file.ensures ∙ ap (λ k. (elaborated_file k).file) c.checked.ensures in
+    let file : plain_file c.file-file.result.now ≡ file_of i =
+    ap plain_file c.file-file.ensures ∙ ap (λ k. (elaborated_file k).file) c.checked.ensures in
     let program : plain_program c.program.result.now ≡ program_of i = ap plain_program c.program.ensures in
     record {
       within = c.in_ok-judged.ensures.few;
@@ -52,28 +53,43 @@ pub returns-clause-bad : goal.returns-clause-bad
 returns-clause-bad c =
     let i = c.args.image.now in
     let j = c.in_ok-judged.judged in
-    let file : plain_file c.file.result.now ≡ file_of i =
-    ap plain_file c.file.ensures ∙ ap (λ k. (elaborated_file k).file) c.checked.ensures in
+    let file : plain_file c.file-file.result.now ≡ file_of i =
+    ap plain_file c.file-file.ensures ∙ ap (λ k. (elaborated_file k).file) c.checked.ensures in
     let program : plain_program c.program.result.now ≡ program_of i = ap plain_program c.program.ensures in
-    at_same (λ (f : File) (p : Program). IfNone j.doubt (IfSome j.bad (λ s. IsBadRun f p s.items))) file program
+    at_same (λ (f : File) (p : Program). IfNone j.doubt (IfSome j.bad
+    (λ s. IsUnlikeRun (spec_file c.args.specification) (spec_program c.args.specification)
+    f p s.items))) file program
     c.in_ok-judged.ensures.bad
 
 pub returns-clause-unjudged : goal.returns-clause-unjudged
 returns-clause-unjudged c =
     let i = c.args.image.now in
     let j = c.in_ok-judged.judged in
-    let file : plain_file c.file.result.now ≡ file_of i =
-    ap plain_file c.file.ensures ∙ ap (λ k. (elaborated_file k).file) c.checked.ensures in
+    let file : plain_file c.file-file.result.now ≡ file_of i =
+    ap plain_file c.file-file.ensures ∙ ap (λ k. (elaborated_file k).file) c.checked.ensures in
     let program : plain_program c.program.result.now ≡ program_of i = ap plain_program c.program.ensures in
-    at_same (λ (f : File) (p : Program). IfSome j.doubt (λ d. IfSome j.bad (λ s. IsUnjudged f p d s.items))) file program
+    at_same (λ (f : File) (p : Program). IfSome j.doubt (λ d. IfSome j.bad
+    (λ s. IsUnjudgedRun (spec_file c.args.specification) (spec_program c.args.specification)
+    f p d s.items))) file program
     c.in_ok-judged.ensures.unjudged
 
 pub returns-clause-stuck : goal.returns-clause-stuck
 returns-clause-stuck c =
     let i = c.args.image.now in
     let j = c.in_ok-judged.judged in
-    let file : plain_file c.file.result.now ≡ file_of i =
-    ap plain_file c.file.ensures ∙ ap (λ k. (elaborated_file k).file) c.checked.ensures in
+    let file : plain_file c.file-file.result.now ≡ file_of i =
+    ap plain_file c.file-file.ensures ∙ ap (λ k. (elaborated_file k).file) c.checked.ensures in
     let program : plain_program c.program.result.now ≡ program_of i = ap plain_program c.program.ensures in
     at_same (λ (f : File) (p : Program). IfSome j.stuck (λ s. IsStuckRun f p s.items)) file program
     c.in_ok-judged.ensures.stuck
+
+pub returns-clause-good : goal.returns-clause-good
+returns-clause-good c =
+    let i = c.args.image.now in
+    let j = c.in_ok-judged.judged in
+    let file : plain_file c.file-file.result.now ≡ file_of i =
+    ap plain_file c.file-file.ensures ∙ ap (λ k. (elaborated_file k).file) c.checked.ensures in
+    let program : plain_program c.program.result.now ≡ program_of i = ap plain_program c.program.ensures in
+    at_same (λ (f : File) (p : Program). IsTrue j.complete → IfNone j.bad
+    (AllLike (spec_file c.args.specification) (spec_program c.args.specification) f p)) file program
+    c.in_ok-judged.ensures.good

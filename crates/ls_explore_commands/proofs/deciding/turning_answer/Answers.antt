@@ -10,7 +10,7 @@ use Rattle.ls_explore_commands.proofs.Decisions.{same_text, tells}
 use Rattle.ls_explore_commands.proofs.deciding.turning_answer.Goals as goal
 
 pub returns : goal.returns
-returns c = λ limit good extent turns linear free.
+returns c = λ sfile sprogram limit good extent turns linear free.
     let i = c.args.image.now in
     let j = c.args.judged.now in
     let run = c.in_ok-run.run' in
@@ -20,6 +20,6 @@ returns c = λ limit good extent turns linear free.
     c.extent_of.ensures.complete c.in_ok-text.ensures in
     let uncounted = subst (λ b. t ≡ turning_text b (names_in i) (names_of_image i) run.schedule j.states j.complete)
     c.in_ok-run.ensures.uncounted text in
-    tells i limit _ _ uncounted
+    tells sfile sprogram i limit _ _ uncounted
     (IsTurning run.schedule j.states j.complete good extent c.in_ok-run.ensures.acts (c.in_ok-run.ensures.turns turns)
     c.in_ok-run.ensures.reads linear free)

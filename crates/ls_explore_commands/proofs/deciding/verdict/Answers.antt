@@ -1,4 +1,4 @@
--- Why `verdict` in src/deciding.rt keeps its contract, and that of `decided`.
+-- Why `verdict` in src/deciding.rt keeps its contract, and what `decided_like` requires.
 
 use Rattle.std.proofs.Common.{ℕ}
 use Rattle.std.proofs.lemmas.Result.{err_from_is_err_and}
@@ -6,12 +6,13 @@ use Rattle.std.specs.Prelude.{Result}
 use Rattle.ls_image.specs.declared.image.Image.{Image}
 use Rattle.ls_report.specs.Events.{Text}
 use Rattle.ls_faults.specs.declared.fault.ToolFault.{ToolFault}
+use Rattle.ls_translation.specs.Texts.{file_of, program_of}
 use Rattle.ls_commands.proofs.Answering.{not_compiled, on_image}
 use Rattle.ls_explore_commands.specs.Verdicts.{Decided}
 use Rattle.ls_explore_commands.proofs.deciding.verdict.Goals as goal
 
 abbrev May : ℕ → Image → Result Text ToolFault → Type 0
-May states i = Decided i states
+May states i = Decided (file_of i) (program_of i) i states
 
 pub returns-in_err-image : goal.returns-in_err-image
 returns-in_err-image c =
@@ -21,9 +22,10 @@ returns-in_err-image c =
 
 pub returns : goal.returns
 returns c =
-    on_image c.args.classes.now c.args.program.now (May c.args.states) c.in_ok-image.image c.decided.result
-    c.in_ok-image.ensures.compiled c.in_ok-image.ensures.within c.decided.ensures
+    on_image c.args.classes.now c.args.program.now (May c.args.states) c.in_ok-image.image c.decided_like.result
+    c.in_ok-image.ensures.compiled c.in_ok-image.ensures.within c.decided_like.ensures
 
-pub decided-requires : goal.decided-requires
-decided-requires c =
-    c.verdicts_read_back.ensures c.args.classes.now c.args.program.now c.in_ok-image.image c.in_ok-image.ensures.compiled
+pub decided_like-requires : goal.decided_like-requires
+decided_like-requires c =
+    c.verdicts_read_back.ensures c.args.classes.now c.args.program.now c.in_ok-image.image
+    c.in_ok-image.ensures.compiled

@@ -7,7 +7,8 @@ use Rattle.ls_checked.specs.Plain.{plain_file}
 use Rattle.ls_checked.specs.PlainProgram.{plain_program}
 use Rattle.ls_types_checked.specs.CheckedFile.{elaborated_file}
 use Rattle.ls_search_laws.specs.Stepping.{ActAll}
-use Rattle.ls_source_judge.specs.Judged.{IsNotLinearizable, IsSimplestBad}
+use Rattle.ls_source_judge.specs.Judged.{IsNotLike, IsSimplestUnlike}
+use Rattle.ls_specification.specs.Specification.{spec_file, spec_program}
 use Rattle.ls_translation.specs.Texts.{file_of, program_of}
 use Rattle.ls_explore_commands.proofs.Decisions.{at_same}
 use Rattle.ls_explore_commands.proofs.SimpleRuns.{kept}
@@ -18,10 +19,12 @@ returns-clause-bad c = λ bad.
     let i = c.args.image.now in
     let file : plain_file c.file-file.result.now ≡ file_of i =
     ap plain_file c.file-file.ensures ∙ ap (λ k. (elaborated_file k).file) c.checked.ensures in
-    let program : plain_program c.program.result.now ≡ program_of i = ap plain_program c.program.ensures in
+    let program : plain_program c.program-program.result.now ≡ program_of i =
+    ap plain_program c.program-program.ensures in
     let steps = c.in_ok-found.ensures.steps in record {
       acts = kept ActAll file program steps c.in_ok-run.ensures.acts bad.acts;
-      bad = kept IsNotLinearizable {schedule = c.in_ok-run.run'.schedule} file program steps c.in_ok-run.ensures.bad
+      bad = kept (IsNotLike (spec_file c.args.specification) (spec_program c.args.specification))
+          {schedule = c.in_ok-run.run'.schedule} file program steps c.in_ok-run.ensures.bad
           bad.bad;
     }
 
@@ -30,7 +33,8 @@ returns-clause-reads c = λ acts.
     let i = c.args.image.now in
     let file : plain_file c.file-file.result.now ≡ file_of i =
     ap plain_file c.file-file.ensures ∙ ap (λ k. (elaborated_file k).file) c.checked.ensures in
-    let program : plain_program c.program.result.now ≡ program_of i = ap plain_program c.program.ensures in
+    let program : plain_program c.program-program.result.now ≡ program_of i =
+    ap plain_program c.program-program.ensures in
     c.requires c.in_ok-run.run'.schedule
     (kept ActAll file program c.in_ok-found.ensures.steps c.in_ok-run.ensures.acts acts) c.fits.ensures
 
@@ -39,6 +43,8 @@ returns-clause-fewest c =
     let i = c.args.image.now in
     let file : plain_file c.file-file.result.now ≡ file_of i =
     ap plain_file c.file-file.ensures ∙ ap (λ k. (elaborated_file k).file) c.checked.ensures in
-    let program : plain_program c.program.result.now ≡ program_of i = ap plain_program c.program.ensures in
+    let program : plain_program c.program-program.result.now ≡ program_of i =
+    ap plain_program c.program-program.ensures in
     at_same (λ (f : File) (p : Program). c.in_ok-run.run'.fewest ≡ true →
-    IsSimplestBad f p c.in_ok-run.run'.schedule) file program c.in_ok-run.ensures.fewest
+    IsSimplestUnlike (spec_file c.args.specification) (spec_program c.args.specification)
+    f p c.in_ok-run.run'.schedule) file program c.in_ok-run.ensures.fewest

@@ -17,17 +17,17 @@ use Rattle.ls_explore_commands.proofs.SimpleRuns.{kept}
 use Rattle.ls_explore_commands.proofs.simple_runs.run_along.Goals as goal
 
 pub returns-clause-unjudged : goal.returns-clause-unjudged
-returns-clause-unjudged c = λ d unjudged.
+returns-clause-unjudged c = λ d sfile sprogram unjudged.
     let i = c.args.image.now in
     let file : plain_file c.file-file.result.now ≡ file_of i =
     ap plain_file c.file-file.ensures ∙ ap (λ k. (elaborated_file k).file) c.checked.ensures in
     let program : plain_program c.program.result.now ≡ program_of i = ap plain_program c.program.ensures in
     record {
       acts = kept ActAll file program c.in_ok-found.ensures.steps c.in_ok-run.ensures.acts unjudged.acts;
-      unexplained = kept (λ (f : File) (p : Program) (s : List ℕ). IsUnexplained f p usual.steps d (source_history f p s))
+      unexplained = kept (λ (f : File) (p : Program) (s : List ℕ).
+          IsUnexplained sfile sprogram usual.steps d (source_history f p s))
           {schedule = c.in_ok-run.run'.schedule} file program c.in_ok-found.ensures.steps
-          (subst (IsUnexplained (plain_file c.file-file.result.now) (plain_program c.program.result.now) usual.steps d)
-          (sym c.in_ok-run.ensures.history)) unjudged.unexplained;
+          (subst (IsUnexplained sfile sprogram usual.steps d) (sym c.in_ok-run.ensures.history)) unjudged.unexplained;
     }
 
 pub returns-clause-reads : goal.returns-clause-reads

@@ -10,7 +10,7 @@ use Rattle.ls_find.proofs.Cuts.{fault_cuts}
 use Rattle.ls_find.proofs.legal.set_verdict.Goals as goal
 
 pub returns-then-not-found : goal.returns-then-not-found
-returns-then-not-found c =
+returns-then-not-found c = λ given.
     let e = c.in-Ok.found in
     let tells = c.in-Ok.ensures.tells in
     inl (ManyStates e.setup e.rows.items
@@ -20,6 +20,7 @@ returns-then-not-found c =
 pub returns-in-Err : goal.returns-in-Err
 returns-in-Err c =
     IfOk-weaker c.unknown_by.result _ _
-    (λ v said. subst (IsSetVerdict c.args.states (file_of c.args.image.now) (program_of c.args.image.now)) (sym said.0)
-    (inl (fault_cuts c.args.states (file_of c.args.image.now) (program_of c.args.image.now) c.in-Err.fault said.1
+    (λ v said given. subst (IsSetVerdict c.args.states given (file_of c.args.image.now) (program_of c.args.image.now))
+    (sym said.0)
+    (inl (fault_cuts c.args.states given (file_of c.args.image.now) (program_of c.args.image.now) c.in-Err.fault said.1
     c.in-Err.ensures.only c.in-Err.ensures.states.0 c.in-Err.ensures.endless))) c.unknown_by.ensures

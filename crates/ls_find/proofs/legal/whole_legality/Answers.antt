@@ -20,7 +20,7 @@ rows_legality-requires c =
     c.requires.truth)
 
 pub returns-in-AllLegal : goal.returns-in-AllLegal
-returns-in-AllLegal c = λ states.
+returns-in-AllLegal c = λ given states.
     let rows = c.args.rows.now in
     let said = subst (IsLegality (plain_program c.program.result.now) rows) c.in-AllLegal.is
     c.in_ok-rows_legality.ensures in
@@ -37,14 +37,15 @@ returns-in-IllegalAt c =
     let one = subst (λ (p : CodeProgram). IsLegality (plain_program p) rows (legality.IllegalAt c.in-IllegalAt.at))
     c.program.ensures said in
     IfOk-weaker c.bad_row.result _ _
-    (λ v shows states. shown_illegal (file_of c.args.image.now) (program_of c.args.image.now) c.args.setup rows
-    c.requires.truth c.in-IllegalAt.at one v shows states) c.bad_row.ensures
+    (λ v shows given states. shown_illegal (file_of c.args.image.now) (program_of c.args.image.now) c.args.setup rows
+    c.requires.truth c.in-IllegalAt.at one v shows given states) c.bad_row.ensures
 
 pub returns-in-NotJudged : goal.returns-in-NotJudged
-returns-in-NotJudged c = λ states.
+returns-in-NotJudged c = λ given states.
     let rows = c.args.rows.now in
     let said = subst (IsLegality (plain_program c.program.result.now) rows) c.in-NotJudged.is
     c.in_ok-rows_legality.ensures in
-    let one = subst (λ (p : CodeProgram). IsLegality (plain_program p) rows legality.NotJudged) c.program.ensures said in
+    let one = subst (λ (p : CodeProgram). IsLegality (plain_program p) rows legality.NotJudged)
+    c.program.ensures said in
     inr (one_unjudged (file_of c.args.image.now) (program_of c.args.image.now) c.args.setup rows c.requires.truth one.0
     one.1 one.2)

@@ -7,6 +7,7 @@ use Rattle.ls_checked.specs.CheckedProgram.{Program}
 use Rattle.ls_fewest_switches.specs.declared.fewest.SimpleRun.{SimpleRun}
 use Rattle.ls_meaning.specs.Runs.{source_history}
 use Rattle.ls_search.specs.Verdicts.{LeavesStuck}
+use Rattle.ls_specification.specs.Specification.{given_of}
 use Rattle.ls_translation.specs.Texts.{file_of, program_of}
 use Rattle.ls_find.specs.Fewest.{IsFewest}
 use Rattle.ls_find.specs.Verdicts.{IsBad}
@@ -17,27 +18,33 @@ use Rattle.ls_find.proofs.simplifying.simplified.Goals as goal
 
 pub returns-in-NotLinearizable-clause-bad : goal.returns-in-NotLinearizable-clause-bad
 returns-in-NotLinearizable-clause-bad c =
+    let given = given_of c.args.given in
     let file : File = file_of c.args.image.now in
     let program : Program = program_of c.args.image.now in
-    subst (λ (k : Reason). IfOk c.unexplained_run.result (λ (r : SimpleRun). IsBad k file program c.args.found.now →
-    IsBad k file program r.schedule)) (sym c.in-NotLinearizable.is) c.unexplained_run.ensures.bad
+    subst (λ (k : Reason). IfOk c.unexplained_run.result (λ (r : SimpleRun).
+    IsBad k given file program c.args.found.now →
+    IsBad k given file program r.schedule)) (sym c.in-NotLinearizable.is) c.unexplained_run.ensures.bad
 
 pub returns-in-Waits-clause-bad : goal.returns-in-Waits-clause-bad
 returns-in-Waits-clause-bad c =
+    let given = given_of c.args.given in
     let file : File = file_of c.args.image.now in
     let program : Program = program_of c.args.image.now in
     let found = c.args.found.now in
-    subst (λ (k : Reason). IfOk c.simple_run.result (λ (r : SimpleRun). IsBad k file program found →
-    IsBad k file program r.schedule)) (sym c.in-Waits.is)
+    subst (λ (k : Reason). IfOk c.simple_run.result (λ (r : SimpleRun). IsBad k given file program found →
+    IsBad k given file program r.schedule)) (sym c.in-Waits.is)
     (ok_both (λ (r : SimpleRun). source_history file program r.schedule ≡ source_history file program found)
     (λ (r : SimpleRun). LeavesStuck file program found → LeavesStuck file program r.schedule)
-    (λ (r : SimpleRun). IsBad reasons.Waits file program found → IsBad reasons.Waits file program r.schedule)
+    (λ (r : SimpleRun). IsBad reasons.Waits given file program found →
+    IsBad reasons.Waits given file program r.schedule)
     c.simple_run.result c.simple_run.ensures.history c.simple_run.ensures.ends
-    (λ r history ends. still_waiting file program found r.schedule history c.pending_calls_wait.ensures.waits ends))
+    (λ r history ends. still_waiting file program found r.schedule history given c.pending_calls_wait.ensures.waits
+    ends))
 
 pub returns-in-Waits-clause-fewest : goal.returns-in-Waits-clause-fewest
 returns-in-Waits-clause-fewest c =
+    let given = given_of c.args.given in
     let file : File = file_of c.args.image.now in
     let program : Program = program_of c.args.image.now in
     subst (λ (k : Reason). IfOk c.simple_run.result (λ (r : SimpleRun). r.fewest ≡ true →
-    IsFewest k file program r.schedule)) (sym c.in-Waits.is) c.simple_run.ensures.fewest
+    IsFewest k given file program r.schedule)) (sym c.in-Waits.is) c.simple_run.ensures.fewest

@@ -5,10 +5,9 @@ use Rattle.ls_checked.specs.CheckedTree.{File}
 use Rattle.ls_checked.specs.CheckedProgram.{Program}
 use Rattle.ls_checked.specs.Plain.{plain_file}
 use Rattle.ls_checked.specs.PlainProgram.{plain_program}
-use Rattle.ls_endless_calls.specs.Turning.{HasTurning}
 use Rattle.ls_types_checked.specs.CheckedFile.{elaborated_file}
 use Rattle.ls_translation.specs.Texts.{file_of, program_of}
-use Rattle.ls_find.specs.Verdicts.{IsBadSchedule}
+use Rattle.ls_find.specs.Verdicts.{HasTurns, IsBadSchedule}
 use Rattle.ls_find.specs.declared.verdict.Reason.TheVariants.{Turns}
 use Rattle.ls_find.proofs.Simpler.{at_same}
 use Rattle.ls_find.proofs.Turned.{still_turning}
@@ -26,9 +25,10 @@ returns c =
     let f = plain_file c.file-file.result.now in
     let p = plain_program c.program.result.now in
     let steps = c.in_ok-steps.steps.items in
-    at_same (λ (f : File) (p : Program). HasTurning f p c.args.found.now → IsBadSchedule Turns f p c.of.result) file
-    program (λ turns. subst (λ (s : List ℕ). IsBadSchedule Turns f p s) (sym c.of.ensures) (record {
-      bad = still_turning f p c.steps.result.now steps c.in_ok-steps.ensures.run c.in_ok-steps.ensures.history
-          (subst (HasTurning f p) (sym c.steps.ensures) turns);
+    λ given. at_same (λ (f : File) (p : Program). HasTurns given f p c.args.found.now →
+    IsBadSchedule Turns given f p c.of.result) file program
+    (λ turns. subst (λ (s : List ℕ). IsBadSchedule Turns given f p s) (sym c.of.ensures) (record {
+      bad = still_turning f p c.steps.result.now steps c.in_ok-steps.ensures.run c.in_ok-steps.ensures.history given
+          (subst (HasTurns given f p) (sym c.steps.ensures) turns);
       acts = c.in_ok-steps.ensures.acts;
     }))

@@ -8,8 +8,8 @@ use Rattle.ls_find.proofs.sought.legal_verdict.Goals as goal
 pub returns-then-sought : goal.returns-then-sought
 returns-then-sought c =
     IfOk-weaker c.set_verdict.result _ _
-    (λ v said. of_set c.args.sought c.args.states (file_of c.args.image.now) (program_of c.args.image.now) v
-    c.if-sought.true said) c.set_verdict.ensures
+    (λ v said given. of_set c.args.sought c.args.states given (file_of c.args.image.now) (program_of c.args.image.now) v
+    c.if-sought.true (said given)) c.set_verdict.ensures
 
 pub returns : goal.returns
-returns c = λ up. absurd (not_both up c.if-sought.false)
+returns c = λ given up. absurd (not_both up c.if-sought.false)

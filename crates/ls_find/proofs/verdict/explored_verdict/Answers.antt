@@ -4,6 +4,7 @@ use Rattle.std.proofs.Common.{List, inl, subst, sym}
 use Rattle.std.proofs.lemmas.Result.{IfOk-weaker}
 use Rattle.ls_explore.specs.Rows.{NoneEnds, TellStates, Told}
 use Rattle.ls_explore.specs.declared.rows.Ending.TheVariants.{OutOfCells}
+use Rattle.ls_specification.specs.Specification.{given_of}
 use Rattle.ls_translation.specs.Texts.{file_of, program_of}
 use Rattle.ls_find.specs.Said.{IsVerdict, ManyStates}
 use Rattle.ls_find.proofs.Cuts.{fault_cuts}
@@ -24,7 +25,9 @@ whole_verdict-requires-clause-cells c =
 pub returns-in-Err : goal.returns-in-Err
 returns-in-Err c =
     IfOk-weaker c.unknown_by.result _ _
-    (λ v said. subst (IsVerdict c.args.states c.args.sought (file_of c.args.image.now) (program_of c.args.image.now))
+    (λ v said. subst (IsVerdict c.args.states c.args.sought (given_of c.args.given) (file_of c.args.image.now)
+    (program_of c.args.image.now))
     (sym said.0)
-    (inl (fault_cuts c.args.states (file_of c.args.image.now) (program_of c.args.image.now) c.in-Err.fault said.1
+    (inl (fault_cuts c.args.states (given_of c.args.given) (file_of c.args.image.now) (program_of c.args.image.now)
+    c.in-Err.fault said.1
     c.in-Err.ensures.only c.in-Err.ensures.states.0 c.in-Err.ensures.endless))) c.unknown_by.ensures

@@ -4,48 +4,49 @@ use Rattle.std.proofs.Common.{[], inr, refl, subst}
 use Rattle.std.proofs.lemmas.Result.{IfOk-weaker}
 use Rattle.ls_checked.specs.CheckedTree.{File}
 use Rattle.ls_checked.specs.CheckedProgram.{Program}
-use Rattle.ls_checked.specs.Plain.{plain_file}
-use Rattle.ls_checked.specs.PlainProgram.{plain_program}
 use Rattle.ls_serial_search.specs.Histories.{lists_of}
 use Rattle.ls_serial_search.specs.Endless.{AreEndlessRuns, TellEndlessRuns}
+use Rattle.ls_specification.specs.Specification.{given_file, given_of, given_program}
 use Rattle.ls_translation.specs.Texts.{file_of, program_of}
-use Rattle.ls_types_checked.specs.declared.checked.Checked.{Checked}
 use Rattle.ls_find.specs.Verdicts.{AllExcused, WaitsAt}
+use Rattle.ls_find.proofs.Simpler.{at_same}
 use Rattle.ls_find.proofs.Waits.{call_waits, none_endless, none_waits, one_waits}
 use Rattle.ls_find.proofs.waiting.waiting_verdict.Goals as goal
 
 pub returns-then-is_quiet : goal.returns-then-is_quiet
 returns-then-is_quiet c = λ states.
-    none_waits (file_of c.args.image.now) (program_of c.args.image.now) c.args.rows.now [] c.runs_decide.ensures.among
-    c.requires.whole (none_endless (file_of c.args.image.now) (program_of c.args.image.now))
-    (c.is_quiet.ensures c.if-is_quiet.true)
+    let given = given_of c.args.given in
+    let file : File = file_of c.args.image.now in
+    let program : Program = program_of c.args.image.now in
+    none_waits given file program c.args.rows.now [] c.runs_decide.ensures.among c.requires.whole
+    (none_endless (given_file given file) (given_program given program)) (c.is_quiet.ensures c.if-is_quiet.true)
 
 pub returns-in-None : goal.returns-in-None
 returns-in-None c = λ states.
+    let given = given_of c.args.given in
     let file : File = file_of c.args.image.now in
     let program : Program = program_of c.args.image.now in
     let runs = lists_of c.in_ok-endless.endless.runs.items in
-    let of_program = subst (λ p. AreEndlessRuns (plain_file c.file.result.now) (plain_program p) runs) c.program.ensures
-    c.in_ok-endless.ensures.endless in
-    let of_file = subst (λ f. AreEndlessRuns (plain_file f) program runs) c.file.ensures of_program in
-    let are = subst (λ (k : Checked). AreEndlessRuns (plain_file k.file) program runs) c.checked.ensures of_file in
-    none_waits file program c.args.rows.now runs c.runs_decide.ensures.among c.requires.whole are
+    let are = at_same (λ (f : File) (p : Program). AreEndlessRuns f p runs)
+    c.specification_of-specification.ensures.file
+    c.specification_of-specification.ensures.program c.in_ok-endless.ensures.endless in
+    none_waits given file program c.args.rows.now runs c.runs_decide.ensures.among c.requires.whole are
     (subst (λ vs. AllExcused (lists_of vs) c.args.rows.now) c.as_slice.ensures.value c.in-None.ensures.none)
 
 pub returns : goal.returns
 returns c =
+    let given = given_of c.args.given in
     let file : File = file_of c.args.image.now in
     let program : Program = program_of c.args.image.now in
     let runs = lists_of c.in_ok-endless.endless.runs.items in
-    let told = c.in_ok-endless.ensures.all c.if-not-endless.false in
-    let of_program = subst (λ p. TellEndlessRuns (plain_file c.file.result.now) (plain_program p) runs)
-    c.program.ensures told in
-    let of_file = subst (λ f. TellEndlessRuns (plain_file f) program runs) c.file.ensures of_program in
-    let tell = subst (λ (k : Checked). TellEndlessRuns (plain_file k.file) program runs) c.checked.ensures of_file in
+    let tell = at_same (λ (f : File) (p : Program). TellEndlessRuns f p runs)
+    c.specification_of-specification.ensures.file
+    c.specification_of-specification.ensures.program (c.in_ok-endless.ensures.all c.if-not-endless.false) in
     let waits = subst (λ vs. WaitsAt (lists_of vs) c.args.rows.now c.in-Some.at) c.as_slice.ensures.value
     c.in-Some.ensures.some in
     IfOk-weaker c.bad_row.result _ _
     (λ v shows states. one_waits file program c.args.setup c.args.rows.now runs c.in-Some.at c.requires.truth waits
+    given
     c.runs_decide.ensures.all tell (c.if-not-is_over.ensures refl) v shows states) c.bad_row.ensures
 
 pub returns-then-not-endless : goal.returns-then-not-endless

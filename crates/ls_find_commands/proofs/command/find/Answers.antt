@@ -1,7 +1,7 @@
 -- Why `find` in src/command.rt keeps its clause `gives`.
 
-use Rattle.std.proofs.Common.{subst}
-use Rattle.std.specs.Prelude.{IfSome, option_map, string_bytes}
+use Rattle.std.proofs.Common.{◌≡◌, subst}
+use Rattle.std.specs.Prelude.{IfSome, None, option_map, string_bytes}
 use Rattle.std.proofs.lemmas.Result.{err_from_is_err_and}
 use Rattle.ls_explore.specs.Faults.{AreBadStates}
 use Rattle.ls_family_search.specs.Judged.{Programs}
@@ -24,6 +24,8 @@ returns-in-Some-clause-gives g c =
     let classes = c.args.texts.classes.now in
     AtOnce (string_bytes c.in-Some.text) good
     (subst (λ o. IfSome o (λ text. AreAllNumbers c.args.range)) c.in-Some.is c.in_ok-text.ensures.numbers)
+    (subst (λ o. IfSome o (λ text. option_map plain_text c.args.texts.reference ≡ None)) c.in-Some.is
+    c.in_ok-text.ensures.own)
     (subst (λ o. IfSome o (λ text. IsWhole c.args.choosing c.args.range.sought classes menu (string_bytes text)))
     c.in-Some.is c.in_ok-text.ensures.text)
 
@@ -33,16 +35,19 @@ returns-in_err-made-clause-gives g c =
     λ bad. not_both (c.are_bad_states.ensures.1 bad) c.if-are_bad_states.false in
     let menu = option_map plain_text c.args.texts.menu in
     let p = err_from_is_err_and c.from_residual-in_err-made.result c.from_residual-in_err-made.ensures.1 in
-    rw (p.1, p.2) (refused (FindsTo c.args.choosing c.args.range c.args.texts.classes.now menu) c.args.choosing c.args.texts.classes.now
-    menu c.in_err-made.field-0.0 (NotAny c.in_err-made.field-0.0 good) c.in_err-made.ensures.refused)
+    let reference = option_map plain_text c.args.texts.reference in
+    rw (p.1, p.2) (refused (FindsTo c.args.choosing c.args.range reference c.args.texts.classes.now menu)
+    c.args.choosing reference c.args.texts.classes.now menu c.in_err-made.field-0.0
+    (NotAny c.in_err-made.field-0.0 good) c.in_err-made.ensures.refused)
 
 pub returns-clause-gives : goal.returns-clause-gives
 returns-clause-gives g c =
     let good : ¬ AreBadStates c.args.range.states =
     λ bad. not_both (c.are_bad_states.ensures.1 bad) c.if-are_bad_states.false in
     let classes = c.args.texts.classes.now in
-    wider (FindsIn classes c.programs-programs.result c.args.range)
-    (FindsTo c.args.choosing c.args.range classes (option_map plain_text c.args.texts.menu)) c.found.result
+    let reference = option_map plain_text c.args.texts.reference in
+    wider (FindsIn reference classes c.programs-programs.result c.args.range)
+    (FindsTo c.args.choosing c.args.range reference classes (option_map plain_text c.args.texts.menu)) c.found.result
     (λ a h. Among c.in_ok-made.made a good c.in_ok-made.ensures.programs
-    (subst (λ (p : Programs). FindsIn classes p c.args.range a) c.programs-programs.ensures h))
+    (subst (λ (p : Programs). FindsIn reference classes p c.args.range a) c.programs-programs.ensures h))
     c.found.ensures.gives

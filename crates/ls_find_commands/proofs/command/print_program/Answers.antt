@@ -7,7 +7,7 @@ use Rattle.ls_families.specs.Families.{Family, plans}
 use Rattle.ls_families.specs.Texts.{plan_text}
 use Rattle.ls_family_search.specs.Judged.{Programs, text_of}
 use Rattle.ls_items.specs.Cutting.{plain_text}
-use Rattle.ls_find_commands.specs.Found.{NoNumber, NoneThere, Prints, PrintsTo}
+use Rattle.ls_find_commands.specs.Found.{NoNumber, NoProgram, Prints, PrintsTo}
 use Rattle.ls_find_commands.proofs.Ranges.{none_past}
 use Rattle.ls_find_commands.proofs.Refusals.{refused}
 use Rattle.ls_find_commands.proofs.command.print_program.Goals as goal
@@ -16,9 +16,10 @@ pub returns-in_err-made : goal.returns-in_err-made
 returns-in_err-made c =
     let menu = option_map plain_text c.args.texts.menu in
     let p = err_from_is_err_and c.from_residual.result c.from_residual.ensures.1 in
-    rw (p.1, p.2) (refused (PrintsTo c.args.choosing c.args.number c.args.texts.classes.now menu) c.args.choosing
-    c.args.texts.classes.now menu c.in_err-made.field-0.0 (NoneThere c.in_err-made.field-0.0)
-    c.in_err-made.ensures.refused)
+    let reference = option_map plain_text c.args.texts.reference in
+    rw (p.1, p.2) (refused (PrintsTo c.args.choosing c.args.number reference c.args.texts.classes.now menu)
+    c.args.choosing reference c.args.texts.classes.now menu c.in_err-made.field-0.0
+    (NoProgram c.in_err-made.field-0.0) c.in_err-made.ensures.refused)
 
 pub returns-then-number-eq0 : goal.returns-then-number-eq0
 returns-then-number-eq0 c = NoNumber c.in_ok-made.made c.in_ok-made.ensures.programs (inl c.if-number-eq0.true)
@@ -34,8 +35,9 @@ returns-in-Some c =
     let text : string_bytes c.in_ok-print_plan-in-Some.field-0 ≡ text_of made plan =
     c.in_ok-print_plan-in-Some.ensures ∙ ap₂ (λ m cs. plan_text m cs plan) c.making.ensures c.calls.ensures ∙
     ap (λ (p : Programs). text_of p plan) c.programs-programs.ensures in
-    subst (λ t. PrintsTo c.args.choosing c.args.number c.args.texts.classes.now
-    (option_map plain_text c.args.texts.menu) (Ok t)) (sym text)
+    subst (λ t. PrintsTo c.args.choosing c.args.number
+    (option_map plain_text c.args.texts.reference) c.args.texts.classes.now (option_map plain_text c.args.texts.menu)
+    (Ok t)) (sym text)
     (Prints made plan c.in_ok-made.ensures.programs got)
 
 pub returns : goal.returns

@@ -7,7 +7,7 @@ pub returns-clause-printed : goal.returns-clause-printed
 returns-clause-printed c = λ before to count f shown. printed_by before to count f.passed.items f.halted shown
 
 pub returns-clause-sum : goal.returns-clause-sum
-returns-clause-sum c = λ sought states classes p from mid to count f g all first next one. (
-  found_in_both sought states classes p from mid to f g all first next one,
-  sums_agree sought states classes p from mid to count f g all first one,
+returns-clause-sum c = λ sought states reference classes p from mid to count f g all first next one. (
+  found_in_both sought states reference classes p from mid to f g all first next one,
+  sums_agree sought states reference classes p from mid to count f g all first one,
 )

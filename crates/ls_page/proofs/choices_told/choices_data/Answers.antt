@@ -9,13 +9,14 @@ use Rattle.ls_choices.specs.Rows.{AreCut}
 use Rattle.ls_choices.specs.Seen.{graph_of, row_of}
 use Rattle.ls_choices.proofs.Tracing.{walks_are_traced}
 use Rattle.ls_serial_search.specs.Histories.{lists_of}
-use Rattle.ls_page.specs.ChoicesData.{AreSerialHistories}
+use Rattle.ls_page.specs.ChoicesData.{AreSerialHistories, reference_of, serial_file, serial_program}
 use Rattle.ls_page.specs.Tabled.{tables_of}
 use Rattle.ls_page.proofs.choices_told.choices_data.Goals as goal
 
 pub returns : goal.returns
 returns c = λ some.
     let names = names_of c.args.names in
+    let reference = reference_of c.args.reference in
     let first = c.args.first.now in
     let g = graph_of c.in_ok-choices.choices in
     let threads = c.args.names.program.now.threads.items in
@@ -39,7 +40,8 @@ returns c = λ some.
             (c.in_ok-reach.ensures.reach (c.in_ok-choices.ensures.closed some));
         left_out = subst (λ n. TellsLeftOut n g c.in_ok-reach.reach) each c.in_ok-reach.ensures.left_out;
       };
-      verdicts = subst (AreSerialHistories names histories) (sym c.in_ok-tables.ensures.doubt) c.in_ok-serial.ensures;
+      verdicts = subst (AreSerialHistories (serial_file reference names) (serial_program reference names) histories)
+          (sym c.in_ok-tables.ensures.doubt) c.in_ok-serial.ensures;
       told = c.in_ok-tables.ensures.tables;
       text_is = c.in_ok-text.ensures;
     }

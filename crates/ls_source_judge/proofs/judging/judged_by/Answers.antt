@@ -4,6 +4,7 @@ use Rattle.ls_checked.specs.CheckedTree.{File}
 use Rattle.ls_checked.specs.CheckedProgram.{Program}
 use Rattle.ls_checked.specs.Plain.{plain_file}
 use Rattle.ls_checked.specs.PlainProgram.{plain_program}
+use Rattle.ls_specification.specs.Specification.{spec_file, spec_program}
 use Rattle.ls_source_judge.proofs.WholeRuns.{bad_if_none, if_none, none_whole, unjudged_if_some, whole_stuck}
 use Rattle.ls_source_judge.proofs.judging.judged_by.Goals as goal
 
@@ -13,7 +14,7 @@ returns-clause-good c = λ complete.
     let program : Program = plain_program c.args.program.now in
     let f = c.in_ok-setup.field-0 in
     none_whole file program f.setup _ f.bad c.in_ok-bad.bad c.in_ok-bad.ensures
-    (if_none f.bad (λ good schedule. c.requires.explained schedule (good c.bad_stays_bad.ensures schedule))
+    (if_none f.bad (λ good schedule. c.requires.explained file program schedule (good c.bad_stays_bad.ensures schedule))
     (c.in_ok-setup.ensures.good complete))
 
 pub returns-clause-bad : goal.returns-clause-bad
@@ -21,7 +22,8 @@ returns-clause-bad c =
     let file : File = plain_file c.args.file.now in
     let program : Program = plain_program c.args.program.now in
     let f = c.in_ok-setup.field-0 in
-    bad_if_none file program f.setup c.args.serial.observer c.args.serial.doubt
+    bad_if_none (spec_file c.args.specification) (spec_program c.args.specification) file program f.setup
+    c.args.serial.observer c.args.serial.doubt
     c.requires.unexplained f.bad c.in_ok-bad.bad c.in_ok-bad.ensures c.in_ok-setup.ensures.bad
 
 pub returns-clause-unjudged : goal.returns-clause-unjudged
@@ -29,7 +31,8 @@ returns-clause-unjudged c =
     let file : File = plain_file c.args.file.now in
     let program : Program = plain_program c.args.program.now in
     let f = c.in_ok-setup.field-0 in
-    unjudged_if_some file program f.setup c.args.serial.observer c.args.serial.doubt
+    unjudged_if_some (spec_file c.args.specification) (spec_program c.args.specification) file program f.setup
+    c.args.serial.observer c.args.serial.doubt
     c.requires.doubted
     f.bad c.in_ok-bad.bad c.in_ok-bad.ensures c.in_ok-setup.ensures.bad
 

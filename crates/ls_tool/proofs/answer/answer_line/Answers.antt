@@ -12,7 +12,7 @@ returns-in-Ok-clause-decides g c = λ words asks same. c.said_of.ensures.decides
 pub returns-in-Err-clause-decides : goal.returns-in-Err-clause-decides
 returns-in-Err-clause-decides g c =
     λ words asks same. decide_err words c.args.input.now c.args.line c.in-Err.fault c.refusal_of.result asks
-    (subst (λ ns. GivesText (AnswersText ns c.args.line.request c.args.input.now) (Err c.in-Err.fault)) (sym same)
+    (subst (λ ns. GivesText (AnswersText ns c.args.line c.args.input.now) (Err c.in-Err.fault)) (sym same)
     c.in-Err.ensures.gives)
     (subst (λ ns. RefusesAs ns c.args.line c.in-Err.fault c.args.input.now c.refusal_of.result) (sym same)
     c.refusal_of.ensures)

@@ -14,7 +14,7 @@ returns-in-Ok-clause-decides c = λ words asks same answers.
     let l = c.args.line in
     decide_ok words input l c.args.text c.in-Ok.beside c.status_for-status.result asks
     (c.status_for-status.ensures.is ∙ ap (status_for l.request) c.as_str.ensures.value)
-    (subst (λ ns. AnswersText ns l.request input (Ok (string_bytes c.args.text))) (sym same) answers)
+    (subst (λ ns. AnswersText ns l input (Ok (string_bytes c.args.text))) (sym same) answers)
     (subst (λ ns. NotesAs ns l input (Ok (string_bytes c.in-Ok.beside))) (sym same) c.in-Ok.ensures)
 
 pub returns-in-Err-clause-decides : goal.returns-in-Err-clause-decides
@@ -22,7 +22,7 @@ returns-in-Err-clause-decides c = λ words asks same answers.
     let input = c.args.input.now in
     let l = c.args.line in
     decide_err words input l c.in-Err.fault c.refusal_of.result asks
-    (subst (λ ns. GivesText (AnswersText ns l.request input) (Err c.in-Err.fault)) (sym same)
+    (subst (λ ns. GivesText (AnswersText ns l input) (Err c.in-Err.fault)) (sym same)
     (note_fails (names_of c.args.names) l input c.in-Err.fault c.in-Err.ensures))
     (subst (λ ns. RefusesAs ns l c.in-Err.fault input c.refusal_of.result) (sym same) c.refusal_of.ensures)
 

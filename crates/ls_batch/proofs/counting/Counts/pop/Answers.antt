@@ -1,6 +1,5 @@
 -- Why `Counts::pop` in src/counting.rt keeps its clause `others`.
 
-use Rattle.std.proofs.Common.{List}
 use Rattle.std.proofs.lemmas.Option.{IfSome_then}
 use Rattle.ls_batch.specs.Numbers.{plain_key}
 use Rattle.ls_batch.proofs.Put.{updated}

@@ -1,7 +1,6 @@
 -- Why `Counts::tally` in src/counting.rt keeps its contract and its loop `key`.
 
 use Rattle.std.proofs.Common.{arith, subst, sym}
-use Rattle.std.specs.Prelude.{All}
 use Rattle.ls_batch.specs.Counted.{count_at}
 use Rattle.ls_batch.proofs.Taken.{all_taken, AreTaken, ascends, none_taken, not_less, one_taken}
 use Rattle.ls_batch.proofs.Tallied.{is_tally, says_moved, times_moved}

@@ -1,8 +1,18 @@
--- Why `ExplorerJudge::judge` in src/explorer.rt keeps what `judged` requires.
+-- Why `ExplorerJudge::judge` in src/explorer.rt keeps its contract and what `judged` requires.
 
+use Rattle.std.proofs.Common.{◌≡◌, Some, None, ap₂, refl, subst, sym}
+use Rattle.std.specs.Prelude.{option_map}
+use Rattle.std.proofs.lemmas.Result.{IfOk-weaker}
+use Rattle.ls_checked.specs.CheckedTree.{File}
+use Rattle.ls_checked.specs.CheckedProgram.{Program}
 use Rattle.ls_checked.specs.PlainProgram.{plain_program}
 use Rattle.ls_image.specs.Images.{checked_of, program_of_image}
+use Rattle.ls_items.specs.Cutting.{plain_text}
+use Rattle.ls_specification.specs.Specification.{given_of}
+use Rattle.ls_translation.specs.Texts.{file_of, program_of}
 use Rattle.ls_types_checked.specs.CheckedFile.{elaborated_file}
+use Rattle.ls_find.specs.Found.{IsGivenBy, IsWhy}
+use Rattle.ls_find.specs.declared.explorer.Why.TheVariants.{NotSpecified}
 use Rattle.ls_find.proofs.explorer.ExplorerJudge.judge.Goals as goal
 
 pub judged-requires : goal.judged-requires
@@ -11,3 +21,36 @@ judged-requires c =
     let is = c.in-Ok.ensures.compiled in
     c.source_is_readable.ensures is.file (elaborated_file (checked_of i)) c.args.program.now
     (plain_program (program_of_image i)) is.elaborates is.reads
+
+pub returns-in_default : goal.returns-in_default
+returns-in_default c =
+    let self = c.args.self.now in
+    IfOk-weaker c.judged.result _ _
+    (λ j said. said (option_map plain_text self.specification) self.classes.now c.args.program.now
+    (subst (λ o. IsGivenBy (option_map plain_text o) c.args.program.now None) (sym c.in_default.is) refl)
+    c.in-Ok.ensures.compiled) c.judged.ensures
+
+pub judged-requires-in-Ok-compile : goal.judged-requires-in-Ok-compile
+judged-requires-in-Ok-compile c =
+    let i = c.in-Ok.image in
+    let is = c.in-Ok.ensures.compiled in
+    c.source_is_readable.ensures is.file (elaborated_file (checked_of i)) c.args.program.now
+    (plain_program (program_of_image i)) is.elaborates is.reads
+
+pub returns-in-Ok-compile : goal.returns-in-Ok-compile
+returns-in-Ok-compile c =
+    let self = c.args.self.now in
+    let s = c.in-Ok-compile.other in
+    let given : given_of (Some c.own.result) ≡ Some (file_of s, program_of s) =
+    ap₂ (λ (f : File) (p : Program). Some (f, p)) c.own.ensures.file c.own.ensures.program in
+    IfOk-weaker c.judged-in-Ok-compile.result _ _
+    (λ j said. said (option_map plain_text self.specification) self.classes.now c.args.program.now
+    (subst (λ o. IsGivenBy (option_map plain_text o) c.args.program.now (given_of (Some c.own.result)))
+    (sym c.in-Some.is) (s, c.in-Ok-compile.ensures.compiled, given)) c.in-Ok.ensures.compiled)
+    c.judged-in-Ok-compile.ensures
+
+pub returns : goal.returns
+returns c =
+    let self = c.args.self.now in
+    subst (λ o. IsWhy self.sought (option_map plain_text o) self.classes.now c.args.program.now
+    (NotSpecified c.in-Err-compile.fault)) (sym c.in-Some.is) c.in-Err-compile.ensures.refused

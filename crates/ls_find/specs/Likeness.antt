@@ -1,0 +1,20 @@
+-- Whether rows are linearizable to a specification.
+use Rattle.std.specs.Prelude.{◌≡◌, List, Some, Contains, slice_get}
+use Rattle.ls_checked.specs.CheckedTree.{File}
+use Rattle.ls_checked.specs.CheckedProgram.{Program}
+use Rattle.ls_explore.specs.Rows.{Told}
+use Rattle.ls_linearizable.specs.Linearizable.{IsLinearizable}
+use Rattle.ls_serial_search.specs.Found.{IsNotJudged}
+use Rattle.ls_serial_search.specs.Told.{usual}
+use Rattle.ls_serial_search.specs.declared.telling.Doubt.{Doubt}
+use Rattle.ls_find.specs.declared.likeness.Likeness.{Likeness}
+use Rattle.ls_find.specs.declared.likeness.Likeness.TheVariants as likeness
+
+-- what the rows are: each is linearizable to it, or the one at a place isn't, or one isn't judged
+abbrev pub IsLikeness : File → Program → List Told → Likeness → Type 0
+IsLikeness sfile sprogram rows likeness.AllLike =
+    (r : Told) → Contains rows r → IsLinearizable sfile sprogram r.history
+IsLikeness sfile sprogram rows (likeness.UnlikeAt at) =
+    (r : Told) × (slice_get rows at ≡ Some r) × (IsLinearizable sfile sprogram r.history → ⊥)
+IsLikeness sfile sprogram rows likeness.NotJudged =
+    (r : Told) × Contains rows r × (doubt : Doubt) × IsNotJudged sfile sprogram usual doubt r.history

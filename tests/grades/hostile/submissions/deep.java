@@ -1,0 +1,4 @@
+class Counter {
+  void inc() { inc(); }
+  int get() { return 0; }
+}

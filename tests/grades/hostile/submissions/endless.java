@@ -1,0 +1,5 @@
+class Counter {
+  int v;
+  void inc() { while (true) { v = 1 - v; } }
+  int get() { return v; }
+}

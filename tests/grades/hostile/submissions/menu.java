@@ -1,0 +1,7 @@
+class Counter {
+  int v;
+  void inc() { v++; }
+  int get() { return v; }
+}
+%%
+get()

@@ -1,0 +1,5 @@
+class Counter {
+  int v;
+  void inc() { v++; }
+  int get() { return v; }
+}

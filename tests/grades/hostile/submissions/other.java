@@ -1,0 +1,5 @@
+class Zaehler {
+  int v;
+  synchronized void inc() { v++; }
+  synchronized int get() { return v; }
+}
