@@ -81,12 +81,6 @@ pub(crate) fn explore_command<'a>(alloc: Global) -> Result<Command<'a>, AllocErr
         "prints the simplest wrong run alone, or that there is none; no cells are needed, and fewer states",
     );
     let command = with_option(command, verdict);
-    let races = flag_option(
-        alloc,
-        "races",
-        "prints the simplest run with a data race alone, or that there is none; as many states as --verdict",
-    );
-    let command = with_option(command, races);
     with_reference(alloc, command)
 }
 

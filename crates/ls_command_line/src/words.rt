@@ -158,12 +158,6 @@ pub enum Request {
         /// Whether an option is given that goes with the histories alone.
         mixed: bool,
     },
-    /// A run with a data race alone, by the states of the source: the most that are kept.
-    Races {
-        states: u64,
-        /// Whether an option is given that goes with the histories or with a wrong run.
-        mixed: bool,
-    },
     /// The first program of a class that isn't good for what is looked for.
     Find(Seeking),
     /// The number that the counts are to come to, if one is wanted.
@@ -385,12 +379,7 @@ fn asked_explore(options: &ArgMatches<'_>) -> Request
     ensures { result ≡ asked_explore (rows_of (found_of options.now)) }
 {
     let states = number(options, "states", STATES);
-    let verdict = flag(options, "verdict");
-    if flag(options, "races") {
-        let mixed = is_mixed(options) || verdict;
-        return Request::Races { states, mixed };
-    }
-    if verdict {
+    if flag(options, "verdict") {
         let mixed = is_mixed(options);
         return Request::Verdict { states, mixed };
     }

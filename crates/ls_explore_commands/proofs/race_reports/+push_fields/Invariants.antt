@@ -1,7 +1,0 @@
--- Why the cycle `push_fields` in src/race_reports.rt ends.
-
-use Rattle.std.proofs.Common.{length}
-use Rattle.ls_explore_commands.proofs.race_reports.+push_fields.Given as goal
-
-abbrev pub decreases-push_fields : goal.decreases-push_fields
-decreases-push_fields l = length l.classes.now

@@ -1,7 +1,0 @@
-pub mod Volatile
-pub mod Met
-pub mod Mute
-pub mod Moves
-pub mod Races
-pub mod Flags
-pub mod Sought
