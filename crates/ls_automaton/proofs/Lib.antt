@@ -20,5 +20,4 @@ pub mod Filled
 pub mod Ending
 pub mod Covering
 pub mod Dropped
-pub mod Deciding
 pub mod Joined

@@ -23,7 +23,8 @@ use Rattle.ls_faults.specs.declared.fault.ToolFault.{ToolFault}
 use Rattle.ls_faults.proofs.Answering.{Failed, fails, wider}
 use Rattle.ls_commands.proofs.Answering.{not_refused}
 use Rattle.ls_commands.specs.Compiled.{file_of_image, plain_program_of}
-use Rattle.ls_commands.specs.Likeness.{AnswersLike, BadCount, JudgedLike, Judges, NoCells, NotSpecified, OnSpecification}
+use Rattle.ls_commands.specs.Likeness.{AnswersLike, BadCount, JudgedLike, Judges, NoCells, NotSpecified}
+use Rattle.ls_commands.specs.Likeness.{OnSpecification}
 use Rattle.ls_commands.specs.declared.batching.Sampling.{Sampling}
 
 module _ (reference program : Text) (i : Image) (May : Image → Result Text ToolFault → Type 0) (p : CodeProgram)

@@ -7,8 +7,8 @@ use Rattle.std.proofs.Math.Nat.{mul-le-mul_right}
 use Rattle.std.proofs.lemmas.Bool.{eq-eqb, eqb-true, true≢false}
 use Rattle.std.proofs.lemmas.List.Elements.{All-contains, All-weaker}
 use Rattle.std.proofs.lemmas.List.Sums.{sum_by-cons, sum_by-le}
-use Rattle.ls_families.specs.Shapes.{Shape, but_setup, calls_of, fewest, fits, rises, shape_of, shapes, with_calls, with_setup}
-use Rattle.ls_families.specs.Shapes.{with_threads}
+use Rattle.ls_families.specs.Shapes.{Shape, but_setup, calls_of, fewest, fits, rises, shape_of, shapes, with_calls}
+use Rattle.ls_families.specs.Shapes.{with_setup, with_threads}
 use Rattle.ls_families.specs.Belonging.{IsShapeOf}
 use Rattle.ls_families.specs.declared.shapes.Bounds.{Bounds}
 use Rattle.ls_families.proofs.Members.{In, Pairs, contains_from_in, from_filter, from_map, from_piece, from_range}
@@ -61,20 +61,25 @@ from_setup : (b : Bounds) (total p : ℕ) (s : Shape) →
     In (with_setup b total p) s →
     (k : ℕ) × ((fewest b ≤ k) × (k < fewest b + (b.threads + 1 - fewest b))) × Known b total p k s
 from_setup b total p s some h =
-    let from = from_piece (with_threads b total p) (range_with_len (fewest b) (b.threads + 1 - fewest b)) s h in
-    (from.0, from_range (fewest b) (b.threads + 1 - fewest b) from.0 from.1, from_threads b total p from.0 s some from.2)
+    let from = from_piece (with_threads b total p) (range_with_len (fewest b) (b.threads + 1 - fewest b)) s h in (
+      from.0,
+      from_range (fewest b) (b.threads + 1 - fewest b) from.0 from.1,
+      from_threads b total p from.0 s some from.2,
+    )
 
 from_calls : (b : Bounds) (total : ℕ) (s : Shape) →
     0 < b.calls →
     In (with_calls b total) s →
-    (p : ℕ) × (p < b.setup + 1) × ((k : ℕ) × ((fewest b ≤ k) × (k < fewest b + (b.threads + 1 - fewest b))) × Known b total p k s)
+    (p : ℕ) × (p < b.setup + 1) ×
+    ((k : ℕ) × ((fewest b ≤ k) × (k < fewest b + (b.threads + 1 - fewest b))) × Known b total p k s)
 from_calls b total s some h =
     let from = from_piece (but_setup b total) (range_with_len 0 (b.setup + 1 - 0)) s h in
     (b.setup - from.0, omega arith, from_setup b total (b.setup - from.0) s some from.2)
 
 pub from_shapes : (b : Bounds) (s : Shape) → 0 < b.calls → In (shapes b) s → IsShapeOf b s
 from_shapes b s some h =
-    let from = from_piece (with_calls b) (range_with_len (fewest b) (b.setup + b.threads * b.calls + 1 - fewest b)) s h in
+    let from =
+    from_piece (with_calls b) (range_with_len (fewest b) (b.setup + b.threads * b.calls + 1 - fewest b)) s h in
     let calls = from_calls b from.0 s some from.2 in
     let known = calls.2.2 in
     record {
@@ -119,7 +124,8 @@ to_shapes b s is =
     (to_piece (but_setup b (calls_of s)) (range_with_len 0 (b.setup + 1 - 0)) (b.setup - s.setup) s
     (to_range 0 (b.setup + 1 - 0) (b.setup - s.setup) (omega arith) (omega arith))
     (subst (λ p. In (with_setup b (calls_of s) p) s) back
-    (to_piece (with_threads b (calls_of s) s.setup) (range_with_len (fewest b) (b.threads + 1 - fewest b)) (length s.threads) s
+    (to_piece (with_threads b (calls_of s) s.setup) (range_with_len (fewest b) (b.threads + 1 - fewest b))
+    (length s.threads) s
     (to_range (fewest b) (b.threads + 1 - fewest b) (length s.threads) is.two (omega (arith, is.threads, is.two)))
     fitting)))
 
@@ -168,7 +174,8 @@ InOrder s t = (s ≢ t) × (calls_of s ≤ calls_of t)
 
 pub shapes_in_order : (b : Bounds) → 0 < b.calls → Pairs InOrder (shapes b)
 shapes_in_order b some =
-    pairs_pieces (λ i j. i < j) InOrder (with_calls b) (range_with_len (fewest b) (b.setup + b.threads * b.calls + 1 - fewest b))
+    pairs_pieces (λ i j. i < j) InOrder (with_calls b)
+    (range_with_len (fewest b) (b.setup + b.threads * b.calls + 1 - fewest b))
     (pairs_range (fewest b) (b.setup + b.threads * b.calls + 1 - fewest b))
     (λ total h. pairs_weaker Differ InOrder (with_calls b total) (apart_calls b total some)
     (λ s t hs ht differ.
