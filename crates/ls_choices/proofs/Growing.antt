@@ -10,12 +10,13 @@ use Rattle.ls_transitions.specs.Tables.{Keeps}
 use Rattle.ls_transitions.proofs.Keeping.{below, still_below, there}
 use Rattle.ls_choices.specs.Schedules.{told_after}
 use Rattle.ls_choices.specs.Reaching.{IsClosed, target_in}
-use Rattle.ls_choices.specs.Rows.{AreCut, AreRows, AreRowsCut, AreRowsOfAll, HaveRows, IsRow, Row}
-use Rattle.ls_choices.specs.Rows.{rows_of_threads}
-use Rattle.ls_choices.specs.Seen.{AreSeen, path_of, row_of}
+use Rattle.ls_choices.specs.Rows.{AreCut, AreLight, AreRows, AreRowsCut, AreRowsOfAll, HaveRows, IsFull, IsRow, Row}
+use Rattle.ls_choices.specs.Rows.{rows_of_threads, weight_of}
+use Rattle.ls_choices.specs.Seen.{AreSeen, path_of, row_of, weighs}
 use Rattle.ls_choices.specs.declared.points.Point.{Point}
 use Rattle.ls_choices.specs.declared.rows.Row.{Row as KeptRow}
 use Rattle.ls_choices.proofs.Seeing.{keeps_mapped, rows_keep}
+use Rattle.ls_choices.proofs.Weighing.{full_keeps, full_so, light_alone, light_so}
 
 -- what stands in a list with one more item, and where
 pushed_at : {A : Type 0} (xs : List A) (x : A) (i : ℕ) (y : A) → slice_get (xs ++ x ∷ []) i ≡ Some y →
@@ -104,36 +105,30 @@ nothing_yet names first points begins seen = record {
 
 -- ---- states that are left out
 
-pub keeps_longer : {A : Type 0} (xs ys : List A) → Keeps xs ys → length xs ≤ length ys
-keeps_longer [] ys k = omega arith
-keeps_longer (x ∷ xs) [] k = let h = k 0 x refl in cc
-keeps_longer (x ∷ xs) (y ∷ ys) k = let r = keeps_longer xs ys (λ n z e. k (suc n) z e) in omega (arith, r)
-
 -- what is cut stays so as more states are kept
-cut_keeps : (most n m : ℕ) (rows : List Row) → n ≤ m → AreRowsCut most n rows → AreRowsCut most m rows
-cut_keeps most n m rows more h t row at none = let l = h t row at none in omega (arith, l, more)
+cut_keeps : (F G : Type 0) (rows : List Row) → (F → G) → AreRowsCut F rows → AreRowsCut G rows
+cut_keeps F G rows more h t row at none = more (h t row at none)
 
 -- the row of one more thread
-pub rows_cut_more : (most n m : ℕ) (rows rows' : List KeptRow) (new : KeptRow) → n ≤ m → rows' ≡ rows ++ new ∷ [] →
-    AreRowsCut most n (map row_of rows) → (new.to ≡ None → most ≤ m) → AreRowsCut most m (map row_of rows')
-rows_cut_more most n m rows rows' new more e h here u row at none =
+pub rows_cut_more : (F G : Type 0) (rows rows' : List KeptRow) (new : KeptRow) → (F → G) → rows' ≡ rows ++ new ∷ [] →
+    AreRowsCut F (map row_of rows) → (new.to ≡ None → G) → AreRowsCut G (map row_of rows')
+rows_cut_more F G rows rows' new more e h here u row at none =
     by_cases (pushed_at (map row_of rows) (row_of new) u row
     (ap (λ l. slice_get l u) (sym (ap (map row_of) e ∙ map-append row_of rows (new ∷ []))) ∙ at))
   where
-    by_cases : (slice_get (map row_of rows) u ≡ Some row) ⊎ ((u ≡ length (map row_of rows)) × (row_of new ≡ row)) →
-        most ≤ m
-    by_cases (inl old) = let l = h u row old none in omega (arith, l, more)
+    by_cases : (slice_get (map row_of rows) u ≡ Some row) ⊎ ((u ≡ length (map row_of rows)) × (row_of new ≡ row)) → G
+    by_cases (inl old) = more (h u row old none)
     by_cases (inr w) = here (ap (λ r. r.to) w.1 ∙ none)
 
 -- the rows of one more state
-all_cut_more : (most n m : ℕ) (all all' : List (List Row)) (new : List Row) → n ≤ m → all' ≡ all ++ new ∷ [] →
-    AreCut most n all → AreRowsCut most m new → AreCut most m all'
-all_cut_more most n m all all' new more e h here i rows at =
+all_cut_more : (F G : Type 0) (all all' : List (List Row)) (new : List Row) → (F → G) → all' ≡ all ++ new ∷ [] →
+    AreCut F all → AreRowsCut G new → AreCut G all'
+all_cut_more F G all all' new more e h here i rows at =
     by_cases (pushed_at all new i rows (ap (λ l. slice_get l i) (sym e) ∙ at))
   where
-    by_cases : (slice_get all i ≡ Some rows) ⊎ ((i ≡ length all) × (new ≡ rows)) → AreRowsCut most m rows
-    by_cases (inl old) = cut_keeps most n m rows more (h i rows old)
-    by_cases (inr w) = subst (AreRowsCut most m) w.1 here
+    by_cases : (slice_get all i ≡ Some rows) ⊎ ((i ≡ length all) × (new ≡ rows)) → AreRowsCut G rows
+    by_cases (inl old) = cut_keeps F G rows more (h i rows old)
+    by_cases (inr w) = subst (AreRowsCut G) w.1 here
 
 -- ---- as many rows as threads
 
@@ -153,8 +148,9 @@ pub record IsAtTurn (names : Names) (first : List ℕ) (most turn : ℕ) (points
     Type 0 where
   pub way : IsOnTheWay names first points all
   pub few : 0 < most → length points ≤ most
+  pub light : AreLight weighs points
   pub made : (length all ≡ turn) ⊎ (length all ≡ length points)
-  pub cut : AreCut most (length points) all
+  pub cut : AreCut (IsFull weighs most points) all
   pub threads : HaveRows (rows_of_threads names.program) all
 
 pub at_first_turn : (names : Names) (first : List ℕ) (most : ℕ) (points : List Point) →
@@ -163,6 +159,7 @@ pub at_first_turn : (names : Names) (first : List ℕ) (most : ℕ) (points : Li
 at_first_turn names first most points begins seen one = record {
   way = nothing_yet names first points begins seen;
   few = λ some. omega (arith, one, some);
+  light = light_alone points one;
   made = inl refl;
   cut = λ i rows at. cc;
   threads = λ i rows at. cc;
@@ -174,15 +171,18 @@ pub at_next_turn : (names : Names) (first : List ℕ) (most turn : ℕ) (xs ys :
     all' ≡ all ++ new ∷ [] →
     ((path : List ℕ) → slice_get (map path_of ys) (length all) ≡ Some path →
     AreRows names (map path_of ys) (told_after names path) new) →
-    AreRowsCut most (length ys) new → (length xs ≤ most → length ys ≤ most) →
+    AreRowsCut (IsFull weighs most ys) new → (length xs ≤ most → length ys ≤ most) →
+    (AreLight weighs xs → AreLight weighs ys) →
     length new ≡ rows_of_threads names.program → IsAtTurn names first most (turn + 1) ys all'
-at_next_turn names first most turn xs ys all all' new h k seen within e here cut few threads =
+at_next_turn names first most turn xs ys all all' new h k seen within e here cut few light threads =
     let longer : length all' ≡ length all + 1 = ap length e ∙ length-append all (new ∷ []) in
     record {
       way = goes_on names first xs ys all all' new h.way k seen within e here;
       few = λ some. few (h.few some);
+      light = light h.light;
       made = by_cases longer h.made;
-      cut = all_cut_more most (length xs) (length ys) all all' new (keeps_longer xs ys k) e h.cut cut;
+      cut = all_cut_more (IsFull weighs most xs) (IsFull weighs most ys) all all' new
+          (full_keeps weighs most xs ys k) e h.cut cut;
       threads = have_more (rows_of_threads names.program) all all' new e h.threads threads;
     }
   where
@@ -197,22 +197,24 @@ pub at_idle_turn : (names : Names) (first : List ℕ) (most turn : ℕ) (points 
 at_idle_turn names first most turn points all h over = record {
   way = h.way;
   few = h.few;
+  light = h.light;
   made = let few = h.way.few in inr (omega (arith, few, over));
   cut = h.cut;
   threads = h.threads;
 }
 
--- after as many turns as states are kept at most, all have their rows
-pub at_last_turn : (names : Names) (first : List ℕ) (most turn : ℕ) (points : List Point) (all : List (List Row)) →
-    IsAtTurn names first most turn points all → most ≤ turn → AreCut most (length all) all
-at_last_turn names first zero turn points all h over i rows at t row is none = omega arith
-at_last_turn names first (suc m) turn points all h over i rows at t row is none =
-    cut_keeps (suc m) (length points) (length all) rows (by_cases h.made) (h.cut i rows at) t row is none
-  where
-    by_cases : (length all ≡ turn) ⊎ (length all ≡ length points) → length points ≤ length all
-    by_cases (inl e) = let few = h.few (omega arith) in omega (arith, few, e, over)
-    by_cases (inr e) = omega (arith, e)
+-- what is told of the states in the end
+pub cut_at_last : (names : Names) (first : List ℕ) (most turn : ℕ) (points : List Point) (all : List (List Row)) →
+    IsAtTurn names first most turn points all → AreCut (IsFull (weight_of names) most (map path_of points)) all
+cut_at_last names first most turn points all h i rows at =
+    cut_keeps (IsFull weighs most points) (IsFull (weight_of names) most (map path_of points)) rows
+    (full_so names most points h.way.seen) (h.cut i rows at)
 
+pub light_at_last : (names : Names) (first : List ℕ) (most turn : ℕ) (points : List Point) (all : List (List Row)) →
+    IsAtTurn names first most turn points all → AreLight (weight_of names) (map path_of points)
+light_at_last names first most turn points all h = light_so names points h.way.seen h.light
+
+-- after as many turns as states are kept at most, all have their rows
 all_have : (names : Names) (first : List ℕ) (most turn : ℕ) (points : List Point) (all : List (List Row)) →
     IsAtTurn names first most turn points all → most ≤ turn → 0 < most → length points ≤ length all
 all_have names first most turn points all h over some = by_cases h.made
@@ -220,6 +222,13 @@ all_have names first most turn points all h over some = by_cases h.made
     by_cases : (length all ≡ turn) ⊎ (length all ≡ length points) → length points ≤ length all
     by_cases (inl e) = let few = h.few some in omega (arith, few, e, over)
     by_cases (inr e) = omega (arith, e)
+
+pub whole_at_last : (names : Names) (first : List ℕ) (most turn : ℕ) (points : List Point) (all : List (List Row)) →
+    IsAtTurn names first most turn points all → most ≤ turn → 0 < most → length (map path_of points) ≡ length all
+whole_at_last names first most turn points all h over some =
+    let have = all_have names first most turn points all h over some in
+    let few = h.way.few in
+    omega (arith, have, few, length-map points path_of)
 
 -- where a row leads to a number, that is the number of a path
 target_is_path : (names : Names) (paths : List (List ℕ)) (r : Told) (rows : List Row) (thread to : ℕ) →

@@ -4,5 +4,6 @@ pub mod Tracing
 pub mod Leading
 pub mod Walking
 pub mod Seeing
+pub mod Weighing
 pub mod Growing
 pub mod Cutting

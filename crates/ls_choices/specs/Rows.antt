@@ -1,5 +1,6 @@
 -- The states that are kept, and the next step of each thread in them.
-use Rattle.std.specs.Prelude.{◌≡◌, ◌≤◌, ℕ, Bool, List, Option, None, Some, length, min, slice_get}
+use Rattle.std.specs.Prelude.{◌≡◌, ◌≤◌, ◌<◌, ◌+◌, ◌-◌, ◌/◌, ◌⊎◌, ℕ, Bool, List, Option, None, Some, length, min}
+use Rattle.std.specs.Prelude.{slice_get, sum_by, take}
 use Rattle.ls_checked.specs.CheckedProgram.{Program}
 use Rattle.ls_report.specs.Events.{Text}
 use Rattle.ls_labels.specs.Names.{Names}
@@ -43,12 +44,28 @@ abbrev pub AreRowsOfAll : Names → List (List ℕ) → List (List Row) → Type
 AreRowsOfAll names paths all = (number : ℕ) (path : List ℕ) (rows : List Row) → slice_get paths number ≡ Some path →
     slice_get all number ≡ Some rows → AreRows names paths (told_after names path) rows
 
--- a step leads to no state that is kept only if so many are kept
-abbrev pub AreRowsCut : ℕ → ℕ → List Row → Type 0
-AreRowsCut most total rows = (thread : ℕ) (row : Row) → slice_get rows thread ≡ Some row → row.to ≡ None → most ≤ total
+-- what the state after a schedule weighs: 1 for each object, and 1 for each 16 steps
+abbrev pub weight_of : Names → List ℕ → ℕ
+weight_of names path = length (told_after names path).state.store.things + length path / 16
 
-abbrev pub AreCut : ℕ → ℕ → List (List Row) → Type 0
-AreCut most total all = (number : ℕ) (rows : List Row) → slice_get all number ≡ Some rows → AreRowsCut most total rows
+-- the most that the states that are kept weigh together, but for the last of them
+abbrev pub most_weight : ℕ
+most_weight = 4194304
+
+-- there are so many, or they weigh more than that
+abbrev pub IsFull : {A : Type 0} → (A → ℕ) → ℕ → List A → Type 0
+IsFull weighs most states = (most ≤ length states) ⊎ (most_weight < sum_by weighs states)
+
+-- all but the last weigh no more than that
+abbrev pub AreLight : {A : Type 0} → (A → ℕ) → List A → Type 0
+AreLight weighs states = sum_by weighs (take (length states - 1) states) ≤ most_weight
+
+-- a step leads to no state that is kept only where this holds
+abbrev pub AreRowsCut : Type 0 → List Row → Type 0
+AreRowsCut Full rows = (thread : ℕ) (row : Row) → slice_get rows thread ≡ Some row → row.to ≡ None → Full
+
+abbrev pub AreCut : Type 0 → List (List Row) → Type 0
+AreCut Full all = (number : ℕ) (rows : List Row) → slice_get all number ≡ Some rows → AreRowsCut Full rows
 
 -- each state has so many rows
 abbrev pub HaveRows : ℕ → List (List Row) → Type 0

@@ -1,5 +1,5 @@
 -- What the code keeps of a run, in the definitions' words.
-use Rattle.std.specs.Prelude.{◌≡◌, ℕ, List, Some, length, map, slice_get, string_bytes}
+use Rattle.std.specs.Prelude.{◌≡◌, ◌+◌, ◌-◌, ◌/◌, ℕ, List, Some, length, map, slice_get, string_bytes, sum_by}
 use Rattle.ls_events.specs.declared.event.Event.{Event}
 use Rattle.ls_meaning.specs.Store.{Store}
 use Rattle.ls_source_store.specs.SeenStore.{store_of}
@@ -11,9 +11,10 @@ use Rattle.ls_labels.specs.declared.label.Label.{Label}
 use Rattle.ls_labels.specs.Names.{Names}
 use Rattle.ls_trace.specs.Told.{Told}
 use Rattle.ls_choices.specs.Schedules.{told_after}
-use Rattle.ls_choices.specs.Rows.{Graph, Row}
+use Rattle.ls_choices.specs.Rows.{Graph, Row, most_weight}
 use Rattle.ls_choices.specs.declared.moment.Moment.{Moment}
 use Rattle.ls_choices.specs.declared.points.Point.{Point}
+use Rattle.ls_choices.specs.declared.points.Points.{Points}
 use Rattle.ls_choices.specs.declared.rows.Row.{Row as KeptRow}
 use Rattle.ls_choices.specs.declared.graph.Choices.{Choices}
 
@@ -59,6 +60,14 @@ path_of p = p.path.items
 abbrev pub AreSeen : Names → List Point → Type 0
 AreSeen names points = (number : ℕ) (p : Point) → slice_get points number ≡ Some p →
     IsSeen names (seen_of p.moment) (told_after names (path_of p))
+
+-- what a point weighs
+abbrev pub weighs : Point → ℕ
+weighs p = length p.moment.playing.store_and_events.store.things.items + length p.path.items / 16
+
+-- what is left of the most that points weigh together, and 1 more
+abbrev pub IsWeighed : Points → Type 0
+IsWeighed points = points.room ≡ most_weight + 1 - sum_by weighs points.points.items
 
 -- the point of this number is like a moment
 pub record IsFound (points : List Point) (m : Moment) (number : ℕ) : Type 0 where

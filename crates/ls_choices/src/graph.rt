@@ -4,9 +4,10 @@ ghost use Rattle.std.specs.Prelude.{◌≡◌, ◌<◌, ◌≤◌, ℕ, List, If
 ghost use Rattle.ls_labels.specs.Names.{names_of};
 ghost use Rattle.ls_transitions.specs.Tables.{Keeps};
 ghost use Rattle.ls_choices.specs.Reaching.{IsClosed};
-ghost use Rattle.ls_choices.specs.Rows.{AreCut, AreRows, AreRowsCut, HaveRows, IsGraphFrom, rows_of_threads};
+ghost use Rattle.ls_choices.specs.Rows.{AreCut, AreLight, AreRows, AreRowsCut, HaveRows, IsFull, IsGraphFrom};
+ghost use Rattle.ls_choices.specs.Rows.{rows_of_threads, weight_of};
 ghost use Rattle.ls_choices.specs.Schedules.{told_after};
-ghost use Rattle.ls_choices.specs.Seen.{AreSeen, graph_of, path_of, row_of};
+ghost use Rattle.ls_choices.specs.Seen.{AreSeen, IsWeighed, graph_of, path_of, row_of, weighs};
 
 use crate::moment::Moment;
 use crate::points::Points;
@@ -26,6 +27,7 @@ fn first_point<'a>(alloc: Global, names: Names<'a>, first: &[u8]) -> Result<Poin
     ensures begins { IfOk result (λ p. slice_get (map path_of p.points.items) 0 ≡ Some first.now) }
     ensures seen { IfOk result (λ p. AreSeen (names_of names.entry) p.points.items) }
     ensures one { IfOk result (λ p. length p.points.items ≡ 1) }
+    ensures weighed { IfOk result (λ p. IsWeighed p) }
 {
     let mut path = Vec::new(alloc);
     path.extend_from_slice(first)?;
@@ -57,14 +59,17 @@ fn next_rows<'a>(
 ) -> Result<Vec<Row>, AllocError>
     requires seen { AreSeen (names_of names) points.old.points.items }
     requires there { number < length points.old.points.items }
+    requires weighed { IsWeighed points.old }
     ensures rows { IfOk result (λ v. (path : List ℕ) →
         slice_get (map path_of points.new.points.items) number ≡ Some path →
         AreRows (names_of names.entry) (map path_of points.new.points.items) (told_after (names_of names.entry) path)
         (map row_of v.items)) }
     ensures seen { OnOk result (AreSeen (names_of names.entry) points.new.points.items) }
     ensures keeps { OnOk result (Keeps points.old.points.items points.new.points.items) }
-    ensures full { IfOk result (λ v. AreRowsCut most (length points.new.points.items) (map row_of v.items)) }
+    ensures full { IfOk result (λ v. AreRowsCut (IsFull weighs most points.new.points.items) (map row_of v.items)) }
     ensures few { OnOk result (length points.old.points.items ≤ most → length points.new.points.items ≤ most) }
+    ensures light { OnOk result (AreLight weighs points.old.points.items → AreLight weighs points.new.points.items) }
+    ensures weighed { OnOk result (IsWeighed points.new) }
     ensures threads { IfOk result (λ v. length v.items ≡ rows_of_threads (names_of names.entry).program) }
 {
     let steps = path_at(alloc, points, number)?;
@@ -73,7 +78,9 @@ fn next_rows<'a>(
 }
 
 /// All states of a program from a schedule on, whose steps are numbers of threads. So many are kept at most, and the
-/// first is. None is left out if there are fewer. The only refusal is that memory ran out.
+/// first is. All but the last weigh 4,194,304 together at most: 1 for each object of a state's store, and 1 for each 16
+/// steps of its path. None is left out if there are fewer, and they weigh no more than that. The only refusal is that
+/// memory ran out.
 pub fn all_choices<'a>(
     alloc: Global,
     names: Names<'a>,
@@ -82,7 +89,10 @@ pub fn all_choices<'a>(
 ) -> Result<Choices<'a>, AllocError>
     ensures graph { IfOk result (λ c. IsGraphFrom (names_of names.entry) first.now (graph_of c)) }
     ensures few { 0 < most → IfOk result (λ c. length c.rows.items ≤ most) }
-    ensures cut { IfOk result (λ c. AreCut most (length c.rows.items) (graph_of c).rows) }
+    ensures whole { 0 < most → IfOk result (λ c. length (graph_of c).paths ≡ length (graph_of c).rows) }
+    ensures light { IfOk result (λ c. AreLight (weight_of (names_of names.entry)) (graph_of c).paths) }
+    ensures cut { IfOk result (λ c.
+        AreCut (IsFull (weight_of (names_of names.entry)) most (graph_of c).paths) (graph_of c).rows) }
     ensures threads { IfOk result (λ c.
         HaveRows (rows_of_threads (names_of names.entry).program) (graph_of c).rows) }
     ensures closed { 0 < most → IfOk result (λ c. IsClosed (graph_of c)) }

@@ -5,9 +5,9 @@ ghost use Rattle.ls_labels.specs.Names.{names_of};
 ghost use Rattle.ls_trace.specs.SeenTeller.{RunsNamed, names_in, told_of};
 ghost use Rattle.ls_trace.specs.Told.{after_step};
 ghost use Rattle.ls_transitions.specs.Tables.{Keeps};
-ghost use Rattle.ls_choices.specs.Rows.{AreRows, AreRowsCut, IsRow, LeadsTo, rows_of_threads};
+ghost use Rattle.ls_choices.specs.Rows.{AreLight, AreRows, AreRowsCut, IsFull, IsRow, LeadsTo, rows_of_threads};
 ghost use Rattle.ls_choices.specs.Schedules.{acts, is_action, is_waiting, told_after, waits, words_of};
-ghost use Rattle.ls_choices.specs.Seen.{AreSeen, path_of, row_of};
+ghost use Rattle.ls_choices.specs.Seen.{AreSeen, IsWeighed, path_of, row_of, weighs};
 
 use crate::moment::Moment;
 use crate::points::Points;
@@ -113,14 +113,17 @@ fn lead<'a>(
     thread: u8,
     most: usize,
 ) -> Result<Option<usize>, AllocError>
-    requires { AreSeen (names_of names) points.old.points.items }
+    requires seen { AreSeen (names_of names) points.old.points.items }
+    requires weighed { IsWeighed points.old }
     ensures leads { IfOk result (λ o. (n : ℕ) → o ≡ Some n →
         LeadsTo (names_of names.entry) (map path_of points.new.points.items)
         (after_step (names_of names.entry) (told_after (names_of names.entry) steps.now) thread) n) }
     ensures seen { OnOk result (AreSeen (names_of names.entry) points.new.points.items) }
     ensures keeps { OnOk result (Keeps points.old.points.items points.new.points.items) }
-    ensures full { IfOk result (λ o. o ≡ None → most ≤ length points.new.points.items) }
+    ensures full { IfOk result (λ o. o ≡ None → IsFull weighs most points.new.points.items) }
     ensures few { OnOk result (length points.old.points.items ≤ most → length points.new.points.items ≤ most) }
+    ensures light { OnOk result (AreLight weighs points.old.points.items → AreLight weighs points.new.points.items) }
+    ensures weighed { OnOk result (IsWeighed points.new) }
 {
     let path = path_with(alloc, steps, thread)?;
     let moment = Moment::after(alloc, names, &path)?;
@@ -137,13 +140,16 @@ fn row_of_thread<'a>(
     thread: u8,
     most: usize,
 ) -> Result<Row, AllocError>
-    requires { AreSeen (names_of names) points.old.points.items }
+    requires seen { AreSeen (names_of names) points.old.points.items }
+    requires weighed { IsWeighed points.old }
     ensures row { IfOk result (λ r. IsRow (names_of names.entry) (map path_of points.new.points.items)
         (told_after (names_of names.entry) steps.now) thread (row_of r)) }
     ensures seen { OnOk result (AreSeen (names_of names.entry) points.new.points.items) }
     ensures keeps { OnOk result (Keeps points.old.points.items points.new.points.items) }
-    ensures full { IfOk result (λ r. r.to ≡ None → most ≤ length points.new.points.items) }
+    ensures full { IfOk result (λ r. r.to ≡ None → IsFull weighs most points.new.points.items) }
     ensures few { OnOk result (length points.old.points.items ≤ most → length points.new.points.items ≤ most) }
+    ensures light { OnOk result (AreLight weighs points.old.points.items → AreLight weighs points.new.points.items) }
+    ensures weighed { OnOk result (IsWeighed points.new) }
 {
     let Told { words, acts, waits } = tell(alloc, names, steps, thread as usize)?;
     let to = lead(alloc, names, points, steps, thread, most)?;
@@ -164,13 +170,16 @@ pub fn rows_after<'a>(
     steps: &[u8],
     most: usize,
 ) -> Result<Vec<Row>, AllocError>
-    requires { AreSeen (names_of names) points.old.points.items }
+    requires seen { AreSeen (names_of names) points.old.points.items }
+    requires weighed { IsWeighed points.old }
     ensures rows { IfOk result (λ v. AreRows (names_of names.entry) (map path_of points.new.points.items)
         (told_after (names_of names.entry) steps.now) (map row_of v.items)) }
     ensures seen { OnOk result (AreSeen (names_of names.entry) points.new.points.items) }
     ensures keeps { OnOk result (Keeps points.old.points.items points.new.points.items) }
-    ensures full { IfOk result (λ v. AreRowsCut most (length points.new.points.items) (map row_of v.items)) }
+    ensures full { IfOk result (λ v. AreRowsCut (IsFull weighs most points.new.points.items) (map row_of v.items)) }
     ensures few { OnOk result (length points.old.points.items ≤ most → length points.new.points.items ≤ most) }
+    ensures light { OnOk result (AreLight weighs points.old.points.items → AreLight weighs points.new.points.items) }
+    ensures weighed { OnOk result (IsWeighed points.new) }
     ensures threads { IfOk result (λ v. length v.items ≡ rows_of_threads (names_of names.entry).program) }
 {
     let mut rows = Vec::new(alloc);

@@ -15,6 +15,7 @@ use Rattle.ls_source_rows.specs.Rows as rows
 use Rattle.ls_source_rows.specs.declared.rows.Ending.{Ending as SourceEnding}
 use Rattle.ls_source_rows.specs.declared.rows.Ending.TheVariants as source
 use Rattle.ls_source_rows.specs.declared.rows.Row.{Row as SourceRow}
+use Rattle.ls_search.specs.Verdicts.{IsCut}
 use Rattle.ls_search_laws.proofs.Acting.{acts_more}
 use Rattle.ls_explore.specs.declared.rows.Ending.{Ending}
 use Rattle.ls_explore.specs.declared.rows.Ending.TheVariants as ending
@@ -153,7 +154,8 @@ module _ (all : List SourceRow) where
 
     pub tell_source : (limit kept : ℕ) (complete : Bool) → rows.AreTrue file program k all → rows.AreApart all →
         rows.StandAlone all → IsSorted rows.row_order all → rows.TellStates file program k all kept →
-        (complete ≡ true → rows.TellWhole file program all) → (complete ≡ false → kept ≡ limit) → kept ≤ limit →
+        (complete ≡ true → rows.TellWhole file program all) → (complete ≡ false → IsCut file program limit k kept) →
+        kept ≤ limit →
         TellSource file program limit k (map told_of all) kept complete
     tell_source limit kept complete is_true is_apart is_alone is_ordered kept_so tells cut few = record {
       truth = truth is_true;

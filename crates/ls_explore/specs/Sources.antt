@@ -2,6 +2,7 @@
 use Rattle.std.specs.Prelude.{◌≡◌, ◌≤◌, ℕ, Bool, true, false, List, IsSorted}
 use Rattle.ls_checked.specs.CheckedTree.{File}
 use Rattle.ls_checked.specs.CheckedProgram.{Program}
+use Rattle.ls_search.specs.Verdicts.{IsCut}
 use Rattle.ls_source_rows.specs.declared.rows.Ending.{Ending as SourceEnding}
 use Rattle.ls_source_rows.specs.declared.rows.Ending.TheVariants as source
 use Rattle.ls_source_rows.specs.declared.rows.Row.{Row as SourceRow}
@@ -29,13 +30,13 @@ told_of r = record { path = r.path.items; history = r.history.items; ending = en
 
 -- Rows that tell the truth, the shortest schedule first, no two with one history. So many states were kept, at most
 -- the limit. If the rows are complete, they tell of all schedules, and it was seen how each row ends. If they are cut,
--- as many states were kept as may be.
+-- as many states were kept as may be, or the states have over 4,194,304 objects together.
 pub record TellSource (file : File) (program : Program) (limit k : ℕ) (rows : List Told) (kept : ℕ) (complete : Bool) :
     Type 0 where
   pub truth : TellTruth file program k rows
   pub states : TellStates file program k rows kept
   pub few : kept ≤ limit
-  pub cut : complete ≡ false → kept ≡ limit
+  pub cut : complete ≡ false → IsCut file program limit k kept
   pub whole : complete ≡ true → TellWhole file program rows
   pub seen : complete ≡ true → NoneEnds ending.NotSeen rows
   pub cells : NoneEnds ending.OutOfCells rows

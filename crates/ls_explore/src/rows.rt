@@ -18,7 +18,7 @@ pub enum Ending {
     OutOfCells,
     /// A thread acts.
     GoesOn,
-    /// What the threads do wasn't looked at, since the states that may be kept were used up.
+    /// What the threads do wasn't looked at, since no more states may be kept.
     NotSeen,
 }
 

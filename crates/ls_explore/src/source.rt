@@ -82,12 +82,14 @@ fn explore_states<W: Watch>(
     })
 }
 
-/// Explores all schedules of the program of an image by the states of its source, and keeps at most so many. While it
-/// goes on it tells how many there are. No machine is needed, so none runs out of cells.
+/// Explores all schedules of the program of an image by the states of its source, and keeps at most so many, and no
+/// more where these have over 4,194,304 objects together. While it goes on it tells how many there are. No machine is
+/// needed, so none runs out of cells.
 ///
 /// The rows are as those of `explore_image`. If they are complete, the history of each schedule of source steps, of any
 /// length, is the beginning of a row's. If no thread acts after the schedule, its history is that of a row that is
-/// over. The history of a row that goes on begins that of no other.
+/// over. The history of a row that goes on begins that of no other. If the rows are cut, as many states were kept as
+/// may be, or the states that were kept have over 4,194,304 objects together.
 ///
 /// Refused with 61 if no states may be kept, or more than 16,777,216. Else, where memory doesn't run out, refused with
 /// 62 exactly if the setup acts in each of 100,001 source steps, and has not ended in 100,000.

@@ -11,6 +11,7 @@ use Rattle.ls_checked.specs.PlainProgram.{plain_program}
 use Rattle.ls_checked.specs.declared.program.Program.{Program as CodeProgram}
 use Rattle.ls_image.specs.Images.{code_of_image, program_of_image}
 use Rattle.ls_image.specs.declared.image.Image.{Image}
+use Rattle.ls_search.specs.Verdicts.{IsCut}
 use Rattle.ls_translation.specs.Texts.{file_of, program_of}
 use Rattle.ls_explore.specs.Rows.{AreApart, TellStates, Told, row_order}
 use Rattle.ls_explore.specs.Machines.{TellMachine}
@@ -60,7 +61,7 @@ pub judged_so : LinearityIsMeant → NoneIllegal → NoneIllegalThatFits → Non
     TellTruth (file_of i) (program_of i) k rows →
     TellStates (file_of i) (program_of i) k rows kept →
     kept ≤ limit →
-    (complete ≡ false → kept ≡ limit) →
+    (complete ≡ false → IsCut (file_of i) (program_of i) limit k kept) →
     TellBy count (file_of i) (program_of i) limit k rows kept complete roomy →
     (complete ≡ true → roomy ≡ true → TellWhole (file_of i) (program_of i) rows) → AreApart rows →
     IsSorted row_order rows → All (IsJudged (program_of i)) judged →

@@ -46,7 +46,7 @@ module _ (i : Image) (limit : ℕ) where
           truth = truth;
           states = states;
           few = few;
-          cut = exact;
+          cut = λ no. inl (exact no);
           by = record {
             truth = truth;
             fits = fits;

@@ -3,6 +3,7 @@ use Rattle.std.proofs.Common.{◌≡◌, ◌⊎◌, ◌≤◌, inl, inr, ℕ, Bo
 use Rattle.std.specs.Prelude.{All, IsErrOf, IsSorted, Option}
 use Rattle.ls_image.specs.Images.{code_of_image}
 use Rattle.ls_image.specs.declared.image.Image.{Image}
+use Rattle.ls_search.specs.Verdicts.{IsCut}
 use Rattle.ls_translation.specs.Texts.{file_of, program_of}
 use Rattle.ls_translation.specs.declared.fault.TranslationFault.{TranslationFault}
 use Rattle.ls_translation.specs.declared.fault.TranslationFault.TheVariants as translation
@@ -29,7 +30,7 @@ pub like_so : NoneIsUnlike → NoneIsUnlikeThatFits → (s i : Image) (count : O
     TellTruth (file_of i) (program_of i) k rows →
     TellStates (file_of i) (program_of i) k rows kept →
     kept ≤ limit →
-    (complete ≡ false → kept ≡ limit) →
+    (complete ≡ false → IsCut (file_of i) (program_of i) limit k kept) →
     TellBy count (file_of i) (program_of i) limit k rows kept complete roomy →
     (complete ≡ true → roomy ≡ true → TellWhole (file_of i) (program_of i) rows) → AreApart rows →
     IsSorted row_order rows → AreMeant (file_of s) (program_of s) judged →

@@ -5,6 +5,7 @@ use Rattle.ls_machine.specs.Room.{AreBadCells}
 use Rattle.ls_meaning.specs.Runs.{source_history}
 use Rattle.ls_image.specs.Images.{code_of_image}
 use Rattle.ls_image.specs.declared.image.Image.{Image}
+use Rattle.ls_search.specs.Verdicts.{IsCut}
 use Rattle.ls_translation.specs.Texts.{file_of, program_of}
 use Rattle.ls_translation.specs.declared.fault.TranslationFault.{TranslationFault}
 use Rattle.ls_translation.specs.declared.fault.TranslationFault.TheVariants as translation
@@ -32,13 +33,14 @@ use Rattle.ls_explore_commands.specs.Finding.{AreGoodFor, HasGoodCells, TellBy}
 -- the rows and the serial runs say of its linearizability. Below each is what the command `order` tells of its history,
 -- if orders are asked for. Each of so many states has a row, and each row a state. If a number of cells is asked for,
 -- each row's schedule fits, and where they are complete they tell of all schedules that fit; where no schedule runs out
--- of cells, of all. Where they are cut, as many states were kept as may be.
+-- of cells, of all. Where they are cut, as many states were kept as may be, or the states have over 4,194,304 objects
+-- together.
 pub record IsExploration (i : Image) (count : Option ℕ) (limit : ℕ) (orders : Bool) (k : ℕ) (judged : List Judged)
     (kept : ℕ) (complete roomy : Bool) : Type 0 where
   pub truth : TellTruth (file_of i) (program_of i) k (rows_of judged)
   pub states : TellStates (file_of i) (program_of i) k (rows_of judged) kept
   pub few : kept ≤ limit
-  pub cut : complete ≡ false → kept ≡ limit
+  pub cut : complete ≡ false → IsCut (file_of i) (program_of i) limit k kept
   pub by : TellBy count (file_of i) (program_of i) limit k (rows_of judged) kept complete roomy
   pub whole : complete ≡ true → roomy ≡ true → TellWhole (file_of i) (program_of i) (rows_of judged)
   pub apart : AreApart (rows_of judged)

@@ -6,6 +6,7 @@ use Rattle.ls_code.specs.Code.{Code}
 use Rattle.ls_machine.specs.Room.{AreBadCells}
 use Rattle.ls_image.specs.Images.{code_of_image}
 use Rattle.ls_image.specs.declared.image.Image.{Image}
+use Rattle.ls_search.specs.Verdicts.{IsCut}
 use Rattle.ls_translation.specs.Texts.{file_of, program_of}
 use Rattle.ls_explore.specs.Rows.{AreApart, TellStates, Told, row_order}
 use Rattle.ls_explore.specs.Faults.{AreBadStates, AreGood, StaysSource}
@@ -41,7 +42,7 @@ pub record IsFound (i : Image) (count : Option ℕ) (limit : ℕ) (e : ImageExpl
   pub truth : TellTruth (file_of i) (program_of i) e.setup e.rows.items
   pub states : TellStates (file_of i) (program_of i) e.setup e.rows.items e.states
   pub few : e.states ≤ limit
-  pub cut : e.complete ≡ false → e.states ≡ limit
+  pub cut : e.complete ≡ false → IsCut (file_of i) (program_of i) limit e.setup e.states
   pub by : TellBy count (file_of i) (program_of i) limit e.setup e.rows.items e.states e.complete e.roomy
   pub whole : e.complete ≡ true → e.roomy ≡ true → TellWhole (file_of i) (program_of i) e.rows.items
   pub apart : AreApart e.rows.items

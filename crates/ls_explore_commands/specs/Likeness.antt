@@ -24,6 +24,7 @@ use Rattle.ls_machine.specs.Room.{AreBadCells}
 use Rattle.ls_meaning.specs.Runs.{source_history}
 use Rattle.ls_preservation.specs.Same.{Fits}
 use Rattle.ls_report.specs.Events.{Text}
+use Rattle.ls_search.specs.Verdicts.{IsCut}
 use Rattle.ls_translation.specs.Texts.{file_of, program_of}
 use Rattle.ls_translation.specs.declared.fault.TranslationFault.{TranslationFault}
 use Rattle.ls_translation.specs.declared.fault.TranslationFault.TheVariants as translation
@@ -38,7 +39,7 @@ pub record IsExplorationLike (s i : Image) (count : Option ℕ) (limit : ℕ) (o
   pub truth : TellTruth (file_of i) (program_of i) k (rows_of judged)
   pub states : TellStates (file_of i) (program_of i) k (rows_of judged) kept
   pub few : kept ≤ limit
-  pub cut : complete ≡ false → kept ≡ limit
+  pub cut : complete ≡ false → IsCut (file_of i) (program_of i) limit k kept
   pub by : TellBy count (file_of i) (program_of i) limit k (rows_of judged) kept complete roomy
   pub whole : complete ≡ true → roomy ≡ true → TellWhole (file_of i) (program_of i) (rows_of judged)
   pub apart : AreApart (rows_of judged)

@@ -20,9 +20,10 @@ use ls_graph::walks::edges_to_last;
 use ls_observers::observer::Observer;
 use ls_search::nameless::Nameless;
 use ls_search::numbering::Numbered;
+use ls_search::objects::MOST_OBJECTS;
 use ls_search::roots::Root;
 use ls_search::searching::Ground;
-use ls_search::space::{Beginning, Kept, MOST_OBJECTS, StateSpace, Wanted, begin};
+use ls_search::space::{Beginning, Kept, StateSpace, Wanted, begin};
 use std::alloc::{AllocError, Global};
 
 /// What is looked for, and how far.

@@ -10,6 +10,7 @@ use Rattle.ls_endless_calls.specs.Waits.{IsPending}
 use Rattle.ls_explore.specs.Faults.{AreBadStates}
 use Rattle.ls_explore.specs.Rows.{TellStates, Told}
 use Rattle.ls_explore.specs.Settings.{GoesOnFor}
+use Rattle.ls_search.specs.Verdicts.{HaveManyObjects}
 use Rattle.ls_serial_search.specs.Found.{IsNotJudged}
 use Rattle.ls_serial_search.specs.Told.{usual}
 use Rattle.ls_serial_search.specs.declared.telling.Doubt.{Doubt}
@@ -22,13 +23,15 @@ use Rattle.ls_find.specs.declared.verdict.Reason.{Reason}
 use Rattle.ls_find.specs.declared.verdict.Reason.TheVariants as reasons
 
 -- Why not all schedules are looked at. No such number of states may be kept. Or the setup acts in each of 100,001
--- steps. Or there are as many states as may be kept, each with a path of its own. Or a schedule is bad that has more
--- steps than a schedule may have, each of which acts.
+-- steps. Or there are as many states as may be kept, each with a path of its own. Or the states to which some schedules
+-- lead, each of which goes on from an earlier one, have over 4,194,304 objects together. Or a schedule is bad that has
+-- more steps than a schedule may have, each of which acts.
 pub data IsCutShort (states : ℕ) (given : Given) (file : File) (program : Program) : Type 0 where
   NoStates : AreBadStates states → IsCutShort states given file program
   SetupGoesOn : GoesOnFor file program 100001 → IsCutShort states given file program
   ManyStates : (k : ℕ) (rows : List Told) → TellStates file program k rows states →
       IsCutShort states given file program
+  ManyObjects : (k kept : ℕ) → HaveManyObjects file program k kept → IsCutShort states given file program
   LongSchedule : (reason : Reason) (schedule : List ℕ) →
       IsBadSchedule reason given file program schedule →
       most_steps < length schedule →

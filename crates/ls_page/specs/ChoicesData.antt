@@ -18,7 +18,7 @@ use Rattle.ls_page.specs.Data.{Texts, field, texts_text}
 use Rattle.ls_page.specs.Quoted.{quoted}
 use Rattle.ls_page.specs.declared.parts.Reference.{Reference as GivenReference}
 use Rattle.ls_specification.specs.Specification.{spec_file, spec_program}
-use Rattle.ls_choices.specs.Rows.{AreCut, Graph, HaveRows, IsGraphFrom, rows_of_threads}
+use Rattle.ls_choices.specs.Rows.{AreCut, AreLight, Graph, HaveRows, IsFull, IsGraphFrom, rows_of_threads, weight_of}
 use Rattle.ls_choices.specs.Walks.{numbered, words_along}
 use Rattle.ls_choices.specs.Laws.{whole_trace}
 use Rattle.ls_choices.specs.Reaching.{IsReach, TellsLeftOut}
@@ -118,15 +118,18 @@ abbrev pub serial_program : Option Reference → Names → Program
 serial_program None names = names.program
 serial_program (Some r) names = r.program
 
--- The graph is one of the program's states from the end of the first steps on, of at most so many states. Each has a
--- row for each thread. A step leads to no state that is kept only if so many are kept. The lines along each walk are
--- those of `trace`. Each list of threads is a walk, or each up to the number of steps that is told. That each is one is
--- said exactly if no thread's step is left out.
+-- The graph is one of the program's states from the end of the first steps on, of at most so many states. All but the
+-- last weigh no more than they may together. Each has a row for each thread. A step leads to no state that is kept only
+-- if so many are kept, or they weigh more than they may. The lines along each walk are those of `trace`. Each list of
+-- threads is a walk, or each up to the number of steps that is told. That each is one is said exactly if no thread's
+-- step is left out.
 pub record IsChoice (names : Names) (first : List ℕ) (most : ℕ) (g : Graph) (reach : Reach) : Type 0 where
   pub states : IsGraphFrom names first g
   pub threads : HaveRows (rows_of_threads names.program) g.rows
   pub few : length g.rows ≤ most
-  pub cut : AreCut most (length g.rows) g.rows
+  pub whole : length g.paths ≡ length g.rows
+  pub light : AreLight (weight_of names) g.paths
+  pub cut : AreCut (IsFull (weight_of names) most g.paths) g.rows
   pub walks : (threads : List ℕ) (words : List Text) → words_along g 0 threads ≡ Some words →
       whole_trace names (first ++ threads) ≡ whole_trace names first ++ numbered (length first + 1) words
   pub reaches : IsReach (length names.program.threads) g reach

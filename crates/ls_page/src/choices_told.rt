@@ -188,7 +188,8 @@ fn data_of(
 
 /// The data of a page on which one chooses who steps next, after the first steps, whose numbers are those of threads:
 /// a JSON object in one line. If a reference is given, it has its text, and the serial histories are those of the
-/// reference. So many states are kept at most. The only refusal is that memory ran out.
+/// reference. So many states are kept at most. All but the last weigh 4,194,304 together at most, as `all_choices`
+/// says. The only refusal is that memory ran out.
 pub fn choices_data(
     alloc: Global,
     names: Names,

@@ -1,5 +1,6 @@
 pub mod Strides
 pub mod Pairs
+pub mod Counting
 pub mod Sounding
 pub mod Settling
 pub mod Reaching

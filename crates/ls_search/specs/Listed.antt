@@ -1,13 +1,17 @@
 -- States with how each was found: by one step of a thread after an earlier one.
-use Rattle.std.specs.Prelude.{◌≡◌, ◌⊎◌, ℕ, ◌+◌, ◌<◌, ◌≤◌, List, [], ◌∷◌, ◌++◌, Option, None, Some, slice_get}
+use Rattle.std.specs.Prelude.{◌≡◌, ◌⊎◌, ℕ, ◌+◌, ◌<◌, ◌≤◌, List, [], ◌∷◌, ◌++◌, Option, None, Some, length, slice_get}
 use Rattle.std.specs.List.{fold}
 use Rattle.ls_checked.specs.CheckedTree.{File}
+use Rattle.ls_graph.specs.Weights.{total}
 use Rattle.ls_meaning.specs.Still.{IsActing}
 use Rattle.ls_search_laws.specs.Configuration.{stride}
 use Rattle.ls_search_laws.specs.Noticing.{Noticed}
+use Rattle.ls_transitions.specs.Tables.{Table}
 use Rattle.ls_search.specs.declared.places.Looked.{Looked}
 use Rattle.ls_search.specs.declared.places.Looked.TheVariants as looked
 use Rattle.ls_search.specs.declared.places.Node.{Node}
+use Rattle.ls_search.specs.Objects.{most_objects, weight_of}
+use Rattle.ls_search.specs.Places.{IsThere, configuration_of}
 
 -- ---- paths
 
@@ -66,3 +70,21 @@ pub record IsStepOf {S : Type 0} (file : File) (pairs : List (Noticed S)) (at : 
 -- each of these states but the first was found so
 abbrev pub AreSteps : {S : Type 0} → File → List (Noticed S) → List Node → Type 0
 AreSteps file pairs nodes = (at : ℕ) (n : Node) → slice_get nodes at ≡ Some n → 0 < at → IsStepOf file pairs at n
+
+-- ---- how many are kept
+
+-- the numbers of each stand for something
+abbrev pub AreAllThere : Table → List Node → Type 0
+AreAllThere t nodes = (at : ℕ) (n : Node) → slice_get nodes at ≡ Some n → IsThere t n.place
+
+-- how many objects they have together
+abbrev pub objects_of : Table → List Node → ℕ
+objects_of t nodes = total (λ (n : Node). weight_of (configuration_of t n.place)) nodes
+
+-- there are as many as there may be, or they have too many objects together
+abbrev pub AreFull : Table → ℕ → List Node → Type 0
+AreFull t limit nodes = (limit ≤ length nodes) ⊎ (most_objects < objects_of t nodes)
+
+-- the same where there are no more than there may be
+abbrev pub AreCut : Table → ℕ → List Node → Type 0
+AreCut t limit nodes = (length nodes ≡ limit) ⊎ (most_objects < objects_of t nodes)

@@ -25,10 +25,11 @@ ghost use Rattle.ls_search.specs.Searched.{HidesNames};
 ghost use Rattle.ls_search.specs.Tried.{HasTried};
 
 use crate::noting::Pool;
+use crate::objects::MOST_OBJECTS;
 use crate::places::NumberedState;
 use crate::roots::{Root, is_bad_at};
 use crate::searching::Ground;
-use crate::space::{Beginning, Kept, MOST_OBJECTS, StateSpace, Tables, Wanted, begin, is_stuck_at};
+use crate::space::{Beginning, Kept, StateSpace, Tables, Wanted, begin, is_stuck_at};
 use ls_graph::closing::{Closing, Edge, Graph, Halt, Plan, close, is_whole};
 use ls_graph::costs::Counted;
 use ls_graph::marks::is_marked;

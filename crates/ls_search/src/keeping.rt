@@ -1,17 +1,27 @@
 // States that were found, by what they are.
 
 ghost use Rattle.std.specs.Prelude.{◌≡◌, ◌<◌, ◌≤◌, ◌⊎◌, ◌++◌, ◌∷◌, [], IfOk, IsTrue, OnOk, false, length};
+ghost use Rattle.ls_transitions.specs.Seen.{table_of};
 ghost use Rattle.ls_search.specs.Found.{HasPlace, Pushed};
+ghost use Rattle.ls_search.specs.Listed.{AreAllThere, AreFull};
+ghost use Rattle.ls_search.specs.Places.{IsThere};
 
+use crate::objects::{MOST_OBJECTS, have_many, weigh};
 use crate::places::{Node, NumberedState};
 use ls_observers::hashing::hashed;
 use ls_transitions::hash_index::HashIndex;
+use ls_transitions::transitions::Transitions;
 use std::alloc::{AllocError, Global};
 
 /// The states that were found.
 #[derive(Drop)]
 pub struct Nodes {
     pub nodes: Vec<Node>,
+    /// How many objects are counted for them, or fewer where that is no number of 64 bits. Nothing that is told
+    /// depends on it: where it is too much, all objects are counted.
+    weight: usize,
+    /// By the number of a store: whether its objects are counted.
+    counted: Vec<bool>,
     hints: HashIndex,
 }
 
@@ -56,15 +66,27 @@ fn is_at(nodes: &[Node], at: usize, place: &NumberedState) -> bool
 
 impl Nodes {
     /// This state alone.
-    pub fn first(alloc: Global, node: Node) -> Result<Nodes, AllocError>
+    pub fn first(
+        alloc: Global,
+        transitions: &Transitions<'_>,
+        node: Node,
+    ) -> Result<Nodes, AllocError>
+        requires { IsThere (table_of transitions.now) node.place }
         ensures { IfOk result (λ n. n.nodes.items ≡ node ∷ []) }
     {
         let hash = hash_of(&node.place);
+        let mut counted = Vec::new(alloc);
+        let weight = weigh(transitions, &mut counted, &node.place)?;
         let mut nodes = Vec::new(alloc);
         nodes.push(node)?;
         let mut hints = HashIndex::new(alloc);
         hints.add(alloc, hash)?;
-        Ok(Nodes { nodes, hints })
+        Ok(Nodes {
+            nodes,
+            weight,
+            counted,
+            hints,
+        })
     }
 
     /// Whether a state is there. True only where it is.
@@ -84,11 +106,37 @@ impl Nodes {
         false
     }
 
-    /// Keeps a state if it is new. Answers false where there are as many as there may be.
-    pub fn keep(&mut self, alloc: Global, limit: usize, node: Node) -> Result<bool, AllocError>
+    /// Whether there are as many states as there may be, or their stores have too many objects. True only where it is
+    /// so.
+    fn is_full(&self, transitions: &Transitions<'_>, limit: usize) -> bool
+        requires { AreAllThere (table_of transitions.now) self.now.nodes.items }
+        ensures full { IsTrue result → AreFull (table_of transitions.now) limit self.now.nodes.items }
+        ensures room { result ≡ false → length self.now.nodes.items < limit }
+    {
+        if self.nodes.len() >= limit {
+            return true;
+        }
+        if self.weight <= MOST_OBJECTS {
+            return false;
+        }
+        have_many(transitions, &self.nodes)
+    }
+
+    /// Keeps a state if it is new. Answers false where there are as many as there may be, or where their stores have
+    /// over 4,194,304 objects together.
+    pub fn keep(
+        &mut self,
+        alloc: Global,
+        transitions: &Transitions<'_>,
+        limit: usize,
+        node: Node,
+    ) -> Result<bool, AllocError>
+        requires known { AreAllThere (table_of transitions.now) self.old.nodes.items }
+        requires new { IsThere (table_of transitions.now) node.place }
         ensures there { IfOk result (λ kept. IsTrue kept → HasPlace self.new.nodes.items node.place) }
         ensures pushed { OnOk result (Pushed self.old.nodes.items self.new.nodes.items node) }
-        ensures full { IfOk result (λ kept. kept ≡ false → limit ≤ length self.new.nodes.items) }
+        ensures full { IfOk result (λ kept. kept ≡ false →
+            AreFull (table_of transitions.now) limit self.new.nodes.items) }
         ensures same { IfOk result (λ kept. kept ≡ false → self.new.nodes.items ≡ self.old.nodes.items) }
         ensures few { OnOk result (length self.old.nodes.items ≤ limit → length self.new.nodes.items ≤ limit) }
     {
@@ -96,9 +144,11 @@ impl Nodes {
         if self.has(hash, &node.place) {
             return Ok(true);
         }
-        if self.nodes.len() >= limit {
+        if self.is_full(transitions, limit) {
             return Ok(false);
         }
+        let weight = weigh(transitions, &mut self.counted, &node.place)?;
+        self.weight = self.weight.saturating_add(weight);
         self.hints.add(alloc, hash)?;
         self.nodes.push(node)?;
         Ok(true)

@@ -10,6 +10,7 @@ pub mod moving;
 pub mod nameless;
 pub mod noting;
 pub mod numbering;
+pub mod objects;
 pub mod observing;
 pub mod places;
 pub mod roots;

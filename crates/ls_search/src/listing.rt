@@ -7,7 +7,7 @@ ghost use Rattle.ls_meaning.specs.Constants.{FileHasConstants};
 ghost use Rattle.ls_transitions.specs.Tables.{Keeps};
 ghost use Rattle.ls_transitions.specs.Seen.{table_of};
 ghost use Rattle.ls_search.specs.Answers.{root_of};
-ghost use Rattle.ls_search.specs.Listed.{AreDistinct, AreSteps, StandOnce, paths_of};
+ghost use Rattle.ls_search.specs.Listed.{AreCut, AreDistinct, AreFull, AreSteps, StandOnce, paths_of};
 ghost use Rattle.ls_search.specs.Places.{AreThere};
 ghost use Rattle.ls_search.specs.Searched.{AreExpanded, HidesNames};
 ghost use Rattle.ls_search.specs.SeenSearch.{IsSoundSearch, pairs_of};
@@ -24,7 +24,7 @@ use ls_transitions::transitions::Transitions;
 use std::alloc::AllocError;
 
 /// Looks at what each thread does at the state at a place, one step at once. Answers false where there are as many
-/// states as there may be.
+/// states as there may be, or where their stores have over 4,194,304 objects together.
 fn expand<O: Observer>(
     ground: &Ground<'_, O>,
     search: &mut Search<'_, O::Noted>,
@@ -61,7 +61,8 @@ fn expand<O: Observer>(
     ensures distinct { IfOk result (λ done. IsTrue done →
         AreDistinct (paths_of search.new.found.nodes.items) (at + 1) 0) }
     ensures count { IfOk result (λ done. IsTrue done → length search.new.seen.items ≡ at + 1) }
-    ensures full { IfOk result (λ done. done ≡ false → ground.now.limit ≤ length search.new.found.nodes.items) }
+    ensures full { IfOk result (λ done. done ≡ false →
+        AreFull (table_of search.new.transitions) ground.now.limit search.new.found.nodes.items) }
     ensures few { OnOk result (length search.old.found.nodes.items ≤ ground.now.limit →
         length search.new.found.nodes.items ≤ ground.now.limit) }
     ensures within { OnOk result (length search.new.seen.items ≤ length search.new.found.nodes.items) }
@@ -94,7 +95,7 @@ fn tell_progress<W: Watch>(watch: &mut W, nodes: &[Node], at: usize)
 }
 
 /// Looks at what each thread does at each state, and tells how many there are. Answers false where there are as many
-/// states as there may be, before all were looked at.
+/// states as there may be, or where their stores have over 4,194,304 objects together, before all were looked at.
 fn close<O: Observer, W: Watch>(
     ground: &Ground<'_, O>,
     search: &mut Search<'_, O::Noted>,
@@ -127,7 +128,8 @@ fn close<O: Observer, W: Watch>(
     ensures once { OnOk result (StandOnce (paths_of search.new.found.nodes.items)) }
     ensures all { IfOk result (λ done. IsTrue done →
         length search.new.seen.items ≡ length search.new.found.nodes.items) }
-    ensures cut { IfOk result (λ done. done ≡ false → length search.new.found.nodes.items ≡ ground.now.limit) }
+    ensures cut { IfOk result (λ done. done ≡ false →
+        AreCut (table_of search.new.transitions) ground.now.limit search.new.found.nodes.items) }
     ensures few { OnOk result (length search.new.found.nodes.items ≤ ground.now.limit) }
     ensures within { OnOk result (length search.new.seen.items ≤ length search.new.found.nodes.items) }
 {
@@ -151,8 +153,9 @@ pub struct Listing<'a, N> {
 }
 
 /// Lists all states that the root leads to, by one step after another, but for names of objects. Each thread acts in
-/// turn at each state that was found. At most so many states are kept, and while it goes on it tells how many there
-/// are. A refusal is that memory ran out, or that a store, a work or a state has no number left.
+/// turn at each state that was found. At most so many states are kept, and no more where their stores have over
+/// 4,194,304 objects together. While it goes on it tells how many there are. A refusal is that memory ran out, or that
+/// a store, a work or a state has no number left.
 pub fn list_states<'a, O: Observer, W: Watch>(
     ground: &Ground<'_, O>,
     transitions: Transitions<'a>,
@@ -183,7 +186,8 @@ pub fn list_states<'a, O: Observer, W: Watch>(
     ensures once { IfOk result (λ l. StandOnce (paths_of l.search.found.nodes.items)) }
     ensures all { IfOk result (λ l. IsTrue l.complete →
         length l.search.seen.items ≡ length l.search.found.nodes.items) }
-    ensures cut { IfOk result (λ l. l.complete ≡ false → length l.search.found.nodes.items ≡ ground.now.limit) }
+    ensures cut { IfOk result (λ l. l.complete ≡ false →
+        AreCut (table_of l.search.transitions) ground.now.limit l.search.found.nodes.items) }
     ensures few { IfOk result (λ l. length l.search.found.nodes.items ≤ ground.now.limit) }
     ensures within { IfOk result (λ l. length l.search.seen.items ≤ length l.search.found.nodes.items) }
 {

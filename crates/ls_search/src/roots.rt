@@ -78,7 +78,7 @@ pub(crate) fn start<'a, O: Observer>(
         thread: 0,
         steps: 0,
     };
-    let found = Nodes::first(ground.alloc, node)?;
+    let found = Nodes::first(ground.alloc, &transitions, node)?;
     Ok(Search {
         transitions,
         renumbering: Renumbering::new(ground.alloc),

@@ -5,7 +5,8 @@ ghost use Rattle.ls_checked.specs.Plain.{plain_file};
 ghost use Rattle.ls_checked.specs.PlainProgram.{plain_program};
 ghost use Rattle.ls_search_laws.specs.Noticing.{noticed_of};
 ghost use Rattle.ls_search_laws.specs.Stepping.{SetsUp};
-ghost use Rattle.ls_search.specs.Listed.{AreSteps, StandOnce, paths_of};
+ghost use Rattle.ls_transitions.specs.Seen.{table_of};
+ghost use Rattle.ls_search.specs.Listed.{AreCut, AreSteps, StandOnce, paths_of};
 ghost use Rattle.ls_search.specs.Searched.{AreExpanded, HidesNames};
 ghost use Rattle.ls_search.specs.SeenSearch.{IsSoundSearch, pairs_of};
 ghost use Rattle.ls_search.specs.Watching.{GoesOn};
@@ -40,9 +41,10 @@ impl Clone for Reach {
     }
 }
 
-/// Runs the setup as long as it acts, and lists all states that threads lead to from there. While it goes on it tells
-/// how many there are. A refusal is that memory ran out, that a store, a work or a state has no number left, or that a
-/// constant of the file names an object, which none does of a file that was read.
+/// Runs the setup as long as it acts, and lists all states that threads lead to from there. At most so many states are
+/// kept, and no more where their stores have over 4,194,304 objects together. While it goes on it tells how many there
+/// are. A refusal is that memory ran out, that a store, a work or a state has no number left, or that a constant of the
+/// file names an object, which none does of a file that was read.
 pub fn list_run<'a, O: Observer, W: Watch>(
     alloc: Global,
     observer: &O,
@@ -73,7 +75,7 @@ pub fn list_run<'a, O: Observer, W: Watch>(
     ensures all { IfOk result (λ r. IsTrue r.listing.complete →
         length r.listing.search.seen.items ≡ length r.listing.search.found.nodes.items) }
     ensures cut { IfOk result (λ r. r.listing.complete ≡ false →
-        length r.listing.search.found.nodes.items ≡ reach.states) }
+        AreCut (table_of r.listing.search.transitions) reach.states r.listing.search.found.nodes.items) }
     ensures few { IfOk result (λ r. length r.listing.search.found.nodes.items ≤ reach.states) }
     ensures within { IfOk result (λ r.
         length r.listing.search.seen.items ≤ length r.listing.search.found.nodes.items) }

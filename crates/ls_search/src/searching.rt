@@ -14,7 +14,7 @@ ghost use Rattle.ls_transitions.specs.declared.moves.Move.TheVariants.{Acts};
 ghost use Rattle.ls_transitions.specs.Tables.{Grows, Keeps};
 ghost use Rattle.ls_transitions.specs.Seen.{table_of};
 ghost use Rattle.ls_search.specs.declared.places.Node.{Node as NodeValue};
-ghost use Rattle.ls_search.specs.Listed.{FoundAs, FoundBy};
+ghost use Rattle.ls_search.specs.Listed.{AreFull, FoundAs, FoundBy};
 ghost use Rattle.ls_search.specs.Places.{IsThere, configuration_of};
 ghost use Rattle.ls_search.specs.Strides.{ActsBy, HasStarted, IsStrideBy};
 ghost use Rattle.ls_search.specs.Searched.{ActsIn, IsLooked, IsNode, IsOther, Reaches, noticed_at};
@@ -206,7 +206,7 @@ pub(crate) fn go_on<'a, O: Observer>(
 }
 
 /// Keeps the state after a thread's action at the state at a place. Answers false where there are as many as there may
-/// be.
+/// be, or where their stores have over 4,194,304 objects together.
 fn reach<O: Observer>(
     ground: &Ground<'_, O>,
     search: &mut Search<'_, O::Noted>,
@@ -238,7 +238,8 @@ fn reach<O: Observer>(
         ActsIn (O.first ground.now.observer.now) (O.next ground.now.observer.now) (plain_file ground.now.file.now)
         (plain_program ground.now.program.now)
         (pairs_of (O.first ground.now.observer.now) (O.stands ground.now.observer.now) search.new) p thread) }
-    ensures full { IfOk result (λ kept. kept ≡ false → ground.now.limit ≤ length search.new.found.nodes.items) }
+    ensures full { IfOk result (λ kept. kept ≡ false →
+        AreFull (table_of search.new.transitions) ground.now.limit search.new.found.nodes.items) }
     ensures found { OnOk result (FoundBy search.old.found.nodes.items search.new.found.nodes.items at thread
         ground.now.most) }
     ensures same { IfOk result (λ kept. kept ≡ false →
@@ -263,13 +264,15 @@ fn reach<O: Observer>(
         thread,
         steps: after.steps + 1,
     };
-    let kept = search.found.keep(ground.alloc, ground.limit, node)?;
+    let kept = search
+        .found
+        .keep(ground.alloc, &search.transitions, ground.limit, node)?;
     Ok(kept)
 }
 
 /// Looks at what a thread does at the state at a place, where it is known whether the setup has ended there. If it
-/// acts,
-/// the state after that is kept. Answers nothing where there are as many states as there may be.
+/// acts, the state after that is kept. Answers nothing where there are as many states as there may be, or where their
+/// stores have over 4,194,304 objects together.
 pub(crate) fn look<O: Observer>(
     ground: &Ground<'_, O>,
     search: &mut Search<'_, O::Noted>,
@@ -299,7 +302,8 @@ pub(crate) fn look<O: Observer>(
         IsLooked (O.first ground.now.observer.now) (O.next ground.now.observer.now) (plain_file ground.now.file.now)
         (plain_program ground.now.program.now)
         (pairs_of (O.first ground.now.observer.now) (O.stands ground.now.observer.now) search.new) p thread l)) }
-    ensures full { IfOk result (λ found. IfNone found (ground.now.limit ≤ length search.new.found.nodes.items)) }
+    ensures full { IfOk result (λ found. IfNone found
+        (AreFull (table_of search.new.transitions) ground.now.limit search.new.found.nodes.items)) }
     ensures found { IfOk result (λ found. IfSome found (λ l.
         FoundAs search.old.found.nodes.items search.new.found.nodes.items at thread ground.now.most l)) }
     ensures same { IfOk result (λ found. IfNone found

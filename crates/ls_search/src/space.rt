@@ -23,11 +23,11 @@ ghost use Rattle.ls_search.specs.Strides.{ActsBy, HasStarted, IsStrideBy};
 use crate::keeping::{hash_of, is_same_place};
 use crate::moving::has_setup_ended;
 use crate::noting::{Pool, keep_noted, note};
+use crate::objects::weigh;
 use crate::places::{Looked, NumberedState};
 use crate::roots::{Root, is_bad_at};
 use crate::searching::{Ground, go_on, step_from};
 use ls_graph::closing::number_of;
-use ls_graph::marks::{is_marked, mark};
 use ls_graph::space::{Space, Step as Leading};
 use ls_observers::observer::Observer;
 use ls_renaming::constants::file_has_constants;
@@ -53,9 +53,6 @@ pub struct Kept {
     pub place: NumberedState,
     pub weight: usize,
 }
-
-/// The most objects that the states that are kept have together, but for the last of them.
-pub const MOST_OBJECTS: usize = 0x40_0000;
 
 /// Which states are looked for.
 #[derive(Copy)]
@@ -102,22 +99,6 @@ fn move_from<'a>(
     let ended = has_setup_ended(alloc, transitions, place)?;
     let made = step_from(alloc, transitions, place, thread as usize, ended)?;
     Ok(made)
-}
-
-/// How many objects are counted for a state.
-fn weigh<'a>(
-    transitions: &Transitions<'a>,
-    counted: &mut Vec<bool>,
-    place: &NumberedState,
-) -> Result<usize, AllocError>
-    requires { IsThere (table_of transitions.now) place.now }
-    ensures { IfOk result (λ w. w ≤ weight_of (configuration_of (table_of transitions.now) place.now)) }
-{
-    if is_marked(counted, place.store) {
-        return Ok(0);
-    }
-    mark(counted, place.store)?;
-    Ok(transitions.store_at(place.store).things.len())
 }
 
 /// Whether what is noted after a step is what is left out. True only where it is.

@@ -8,3 +8,4 @@ pub mod Choosing
 pub mod Permuting
 pub mod Paths
 pub mod Rowing
+pub mod Cutting

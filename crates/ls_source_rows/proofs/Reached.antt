@@ -84,7 +84,7 @@ module _ {S : Type 0} (first : S) (next : S → Event → S) (file : File) (prog
       (sound : IsSound first next file program threads t states nodes)
       (steps : AreSteps file (pairs_at first t states nodes) nodes) (root : Noticed S)
       (begins : slice_get (pairs_at first t states nodes) 0 ≡ Some root) where
-    pairs_within : (i : ℕ) (q : Noticed S) → slice_get (pairs_at first t states nodes) i ≡ Some q → i < length nodes
+    pub pairs_within : (i : ℕ) (q : Noticed S) → slice_get (pairs_at first t states nodes) i ≡ Some q → i < length nodes
     pairs_within i q e =
         let b = below (pairs_at first t states nodes) i q e in omega (arith, b, pairs_length first t states nodes)
 

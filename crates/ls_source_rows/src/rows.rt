@@ -12,7 +12,7 @@ pub enum Ending {
     Waiting,
     /// A thread acts.
     GoesOn,
-    /// What the threads do wasn't looked at, since as many states were kept as may be.
+    /// What the threads do wasn't looked at, since no more states may be kept.
     NotSeen,
 }
 

@@ -6,6 +6,7 @@ ghost use Rattle.ls_history_numbers.specs.Choices.{IsChosen};
 ghost use Rattle.ls_source_rows.specs.declared.rows.Row.{Row as RowValue};
 ghost use Rattle.ls_checked.specs.Plain.{plain_file};
 ghost use Rattle.ls_checked.specs.PlainProgram.{plain_program};
+ghost use Rattle.ls_search.specs.Verdicts.{IsCut};
 ghost use Rattle.ls_search.specs.Watching.{GoesOn};
 ghost use Rattle.ls_search_laws.specs.Stepping.{SetsUp};
 ghost use Rattle.ls_search.specs.declared.places.Node.{Node as NodeValue};
@@ -251,7 +252,8 @@ fn rows_of(alloc: Global, found: &Found<'_>) -> Result<Vec<Row>, AllocError>
 /// Each of these acts. The row ends as the program does after that schedule.
 ///
 /// If the rows are complete, the history of each schedule, of any length, is the beginning of a row's. If no thread
-/// acts after the schedule, it is that of a row that ends. If the rows are cut, as many states were kept as may be.
+/// acts after the schedule, it is that of a row that ends. If the rows are cut, as many states were kept as may be, or
+/// the states that were kept have over 4,194,304 objects together.
 ///
 /// No two rows have one history. The history of a row that doesn't end begins that of no other row. The shortest path
 /// comes first, and of those of one length the least. A refusal is that memory ran out, or that a store, a work or a
@@ -276,7 +278,8 @@ pub fn tell_rows<W: Watch>(
         TellStates (plain_file file.now) (plain_program program.now) t.setup t.rows.items t.states) }
     ensures all { IfOk result (λ t. IsTrue t.complete →
         TellWhole (plain_file file.now) (plain_program program.now) t.rows.items) }
-    ensures cut { IfOk result (λ t. t.complete ≡ false → t.states ≡ reach.states) }
+    ensures cut { IfOk result (λ t. t.complete ≡ false →
+        IsCut (plain_file file.now) (plain_program program.now) reach.states t.setup t.states) }
     ensures few { IfOk result (λ t. t.states ≤ reach.states) }
 {
     let histories = Histories;

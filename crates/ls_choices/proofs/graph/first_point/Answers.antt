@@ -16,6 +16,6 @@ returns-clause-seen c =
     let p : Point = record { path = c.extend_from_slice.new.self; moment = m } in
     let path : p.path.items ≡ first = search rules in
     seen_pushed names [] c.add.new.self.points.items p
-    (c.in_ok-add.ensures.added ∙ ap (λ l. l ++ p ∷ []) c.new-points.ensures) (λ n q at. cc)
+    (c.in_ok-add.ensures.added ∙ ap (λ l. l ++ p ∷ []) c.new-points.ensures.none) (λ n q at. cc)
     (subst (λ l. IsSeen names (seen_of m) (told_after names l)) (sym path)
     (seen_is names m (told_after names first) c.in_ok-moment.ensures))

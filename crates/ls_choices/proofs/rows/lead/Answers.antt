@@ -19,7 +19,7 @@ returns-clause-leads c = λ n e.
     let here : IsSeen names (seen_of m) (told_after names path) =
     subst (λ l. IsSeen names (seen_of m) (told_after names l)) c.deref.ensures.value
     (seen_is names m (told_after names c.deref.result.now) c.in_ok-moment.ensures) in
-    let seen = c.in_ok-to.ensures.seen names c.requires here in
+    let seen = c.in_ok-to.ensures.seen names c.requires.seen here in
     let found : IsFound points m n = subst (λ o. IfSome o (IsFound points m)) e c.in_ok-to.ensures.found in
     subst (λ r. LeadsTo names (map path_of points) r n)
     (ap (told_after names) c.in_ok-path.ensures ∙ from_more names (begun names.program) c.args.steps.now c.args.thread)
@@ -32,4 +32,4 @@ returns-clause-seen c =
     let here : IsSeen names (seen_of m) (told_after names c.in_ok-path.path.items) =
     subst (λ l. IsSeen names (seen_of m) (told_after names l)) c.deref.ensures.value
     (seen_is names m (told_after names c.deref.result.now) c.in_ok-moment.ensures) in
-    c.in_ok-to.ensures.seen names c.requires here
+    c.in_ok-to.ensures.seen names c.requires.seen here

@@ -6,9 +6,11 @@ use Rattle.std.proofs.lemmas.List.{length-map}
 use Rattle.ls_checked.specs.PlainProgram.{plain_thread}
 use Rattle.ls_labels.specs.Names.{names_of}
 use Rattle.ls_choices.specs.Schedules.{told_after}
-use Rattle.ls_choices.specs.Seen.{path_of, row_of}
-use Rattle.ls_choices.proofs.Growing.{keeps_longer, keeps_then, rows_cut_more, rows_more}
+use Rattle.ls_choices.specs.Rows.{IsFull}
+use Rattle.ls_choices.specs.Seen.{path_of, row_of, weighs}
+use Rattle.ls_choices.proofs.Growing.{keeps_then, rows_cut_more, rows_more}
 use Rattle.ls_choices.proofs.Seeing.{keeps_mapped, rows_keep}
+use Rattle.ls_choices.proofs.Weighing.{full_keeps}
 use Rattle.ls_choices.proofs.rows.rows_after.Goals as goal
 
 pub loop-thread-preserved : goal.loop-thread-preserved
@@ -30,9 +32,11 @@ loop-thread-preserved c =
           inv.rows) more.row;
       seen = more.seen;
       keeps = keeps_then c.args.points.now.points.items xs ys inv.keeps more.keeps;
-      cut = rows_cut_more c.args.most (length xs) (length ys) old c.push.new.self.items new
-          (keeps_longer xs ys more.keeps) pushed inv.cut more.full;
+      cut = rows_cut_more (IsFull weighs c.args.most xs) (IsFull weighs c.args.most ys) old c.push.new.self.items new
+          (full_keeps weighs c.args.most xs ys more.keeps) pushed inv.cut more.full;
       few = λ fits. more.few (inv.few fits);
+      light = λ fits. more.light (inv.light fits);
+      weighed = more.weighed;
     }
 
 pub returns-clause-threads : goal.returns-clause-threads

@@ -2,20 +2,17 @@
 
 use Rattle.std.proofs.Common.{inl, subst, sym}
 use Rattle.std.proofs.lemmas.Result.{IfOk-weaker}
-use Rattle.ls_explore.specs.Rows.{TellStates}
 use Rattle.ls_translation.specs.Texts.{file_of, program_of}
-use Rattle.ls_find.specs.Said.{ManyStates}
 use Rattle.ls_find.specs.Sought.{IsSetVerdict}
-use Rattle.ls_find.proofs.Cuts.{fault_cuts}
+use Rattle.ls_find.proofs.Cuts.{fault_cuts, rows_cut}
 use Rattle.ls_find.proofs.legal.set_verdict.Goals as goal
 
 pub returns-then-not-found : goal.returns-then-not-found
 returns-then-not-found c = λ given.
     let e = c.in-Ok.found in
     let tells = c.in-Ok.ensures.tells in
-    inl (ManyStates e.setup e.rows.items
-    (subst (TellStates (file_of c.args.image.now) (program_of c.args.image.now) e.setup e.rows.items)
-    (tells.cut c.if-not-found.true) tells.states))
+    inl (rows_cut c.args.states e.setup e.states given (file_of c.args.image.now) (program_of c.args.image.now)
+    e.rows.items tells.states (tells.cut c.if-not-found.true))
 
 pub returns-in-Err : goal.returns-in-Err
 returns-in-Err c =

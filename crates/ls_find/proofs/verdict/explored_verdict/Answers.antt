@@ -2,21 +2,20 @@
 
 use Rattle.std.proofs.Common.{List, inl, subst, sym}
 use Rattle.std.proofs.lemmas.Result.{IfOk-weaker}
-use Rattle.ls_explore.specs.Rows.{NoneEnds, TellStates, Told}
+use Rattle.ls_explore.specs.Rows.{NoneEnds, Told}
 use Rattle.ls_explore.specs.declared.rows.Ending.TheVariants.{OutOfCells}
 use Rattle.ls_specification.specs.Specification.{given_of}
 use Rattle.ls_translation.specs.Texts.{file_of, program_of}
-use Rattle.ls_find.specs.Said.{IsVerdict, ManyStates}
-use Rattle.ls_find.proofs.Cuts.{fault_cuts}
+use Rattle.ls_find.specs.Said.{IsVerdict}
+use Rattle.ls_find.proofs.Cuts.{fault_cuts, rows_cut}
 use Rattle.ls_find.proofs.verdict.explored_verdict.Goals as goal
 
 pub returns-then-not-found : goal.returns-then-not-found
 returns-then-not-found c =
     let e = c.in-Ok.found in
     let tells = c.in-Ok.ensures.tells in
-    inl (ManyStates e.setup e.rows.items
-    (subst (TellStates (file_of c.args.image.now) (program_of c.args.image.now) e.setup e.rows.items)
-    (tells.cut c.if-not-found.true) tells.states))
+    inl (rows_cut c.args.states e.setup e.states (given_of c.args.given) (file_of c.args.image.now)
+    (program_of c.args.image.now) e.rows.items tells.states (tells.cut c.if-not-found.true))
 
 pub whole_verdict-requires-clause-cells : goal.whole_verdict-requires-clause-cells
 whole_verdict-requires-clause-cells c =

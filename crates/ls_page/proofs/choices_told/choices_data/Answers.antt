@@ -5,7 +5,6 @@ use Rattle.std.proofs.lemmas.List.{length-map}
 use Rattle.ls_checked.specs.PlainProgram.{plain_thread}
 use Rattle.ls_labels.specs.Names.{names_of}
 use Rattle.ls_choices.specs.Reaching.{IsReach, TellsLeftOut}
-use Rattle.ls_choices.specs.Rows.{AreCut}
 use Rattle.ls_choices.specs.Seen.{graph_of, row_of}
 use Rattle.ls_choices.proofs.Tracing.{walks_are_traced}
 use Rattle.ls_serial_search.specs.Histories.{lists_of}
@@ -33,7 +32,9 @@ returns c = λ some.
       choice = record {
         states = c.in_ok-choices.ensures.graph;
         few = subst (λ n. n ≤ c.args.most) (sym same) (c.in_ok-choices.ensures.few some);
-        cut = subst (λ n. AreCut c.args.most n g.rows) (sym same) c.in_ok-choices.ensures.cut;
+        whole = c.in_ok-choices.ensures.whole some;
+        light = c.in_ok-choices.ensures.light;
+        cut = c.in_ok-choices.ensures.cut;
         walks = walks_are_traced names first g c.in_ok-choices.ensures.graph;
         threads = c.in_ok-choices.ensures.threads;
         reaches = subst (λ n. IsReach n g c.in_ok-reach.reach) each

@@ -16,6 +16,7 @@ use Rattle.ls_search.specs.Listed.{FoundBy}
 use Rattle.ls_search.specs.Places.{configuration_of}
 use Rattle.ls_search.specs.Strides.{ActsBy}
 use Rattle.ls_search.specs.Searched.{Reaches, noticed_at}
+use Rattle.ls_search.proofs.Counting.{all_there}
 use Rattle.ls_search.proofs.Looking.{acts_reached, keeps_reached, sound_reached}
 use Rattle.ls_search.proofs.searching.reach.Goals as goal
 
@@ -30,6 +31,17 @@ go_on-requires-clause-acts g c =
 
 pub go_on-requires-clause-constants : goal.go_on-requires-clause-constants
 go_on-requires-clause-constants g c = subst FileHasConstants (sym c.requires.sound.file_is) c.requires.sound.constants
+
+pub keep-requires-clause-known : goal.keep-requires-clause-known
+keep-requires-clause-known g c =
+    all_there (g.O.Observer.first c.args.ground.now.observer.now) (g.O.Observer.next c.args.ground.now.observer.now)
+    (plain_file c.args.ground.now.file.now) (plain_program c.args.ground.now.program.now)
+    c.args.ground.now.threads (table_of c.args.search.now.transitions) (table_of c.go_on.new.transitions)
+    (map (g.O.Observer.stands c.args.ground.now.observer.now) c.args.search.now.pool.values.items)
+    c.args.search.now.found.nodes.items c.requires.sound c.go_on.ensures.grows
+
+pub keep-requires-clause-new : goal.keep-requires-clause-new
+keep-requires-clause-new g c = c.in_ok-after.ensures.node.numbers
 
 pub returns-clause-sound : goal.returns-clause-sound
 returns-clause-sound g c =
