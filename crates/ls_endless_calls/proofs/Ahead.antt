@@ -19,7 +19,7 @@ use Rattle.ls_search.specs.Places.{AreThere, IsThere, configuration_at, configur
 use Rattle.ls_search.specs.Strides.{ActsBy, HasStarted, IsStrideBy}
 use Rattle.ls_search.proofs.Settling.{not_same, started_after, there_after}
 use Rattle.ls_search.proofs.Strides.{stays, there_still}
-use Rattle.ls_spinning.specs.Spots.{IsStillMove}
+use Rattle.ls_spinning.specs.Moves.{IsStillMove}
 use Rattle.ls_spinning.proofs.Seeing.{still_by}
 use Rattle.ls_endless_calls.specs.Breaking.{Breaks, CanBreak, IsAhead}
 

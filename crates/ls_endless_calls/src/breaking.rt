@@ -8,7 +8,7 @@ ghost use Rattle.ls_search_laws.specs.Configuration.{stride};
 ghost use Rattle.ls_transitions.specs.Seen.{table_of};
 ghost use Rattle.ls_transitions.specs.Tables.{Grows};
 ghost use Rattle.ls_search.specs.Places.{IsThere, configuration_of};
-ghost use Rattle.ls_spinning.specs.Spots.{IsStillMove};
+ghost use Rattle.ls_spinning.specs.Moves.{IsStillMove};
 ghost use Rattle.ls_endless_calls.specs.Breaking.{CanBreak, IsAhead};
 
 use ls_events::action::Action;

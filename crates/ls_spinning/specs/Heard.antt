@@ -1,32 +1,20 @@
--- States from which steps lead to where a thread has an event.
-use Rattle.std.specs.Prelude.{◌≡◌, ◌++◌, ◌∷◌, ◌⊎◌, ℕ, Bool, true, List, [], Some, slice_get}
-use Rattle.ls_spinning.specs.declared.graph.Edge.{Edge}
-use Rattle.ls_spinning.specs.declared.graph.Seen.{Seen}
+-- States from which steps lead to where an event comes.
+use Rattle.std.specs.Prelude.{◌≡◌, ℕ, Bool, true, List, [], ◌∷◌, Some, slice_get}
+use Rattle.ls_graph.specs.declared.closing.Edge.{Edge}
 
--- a step between these places is the last, or none was kept
-pub record IsKept (old new : List Edge) (from to : ℕ) : Type 0 where
-  pub edge : Edge
-  pub more : new ≡ old ++ edge ∷ []
-  pub from_is : edge.from ≡ from
-  pub to_is : edge.to ≡ to
-
-abbrev pub HasEdge : List Edge → List Edge → ℕ → ℕ → Type 0
-HasEdge old new from to = (new ≡ old) ⊎ IsKept old new from to
-
-module _ (seen : List Seen) (edges : List Edge) where
-  -- the steps of these numbers lead from one state to the next, and at the last a thread has an event
+module _ (loud : List Bool) (edges : List Edge) where
+  -- the edges of these numbers lead from one state to the next, and the last is marked
   abbrev pub HeardAlong : ℕ → List ℕ → Type 0
-  HeardAlong at [] = (s : Seen) × (slice_get seen at ≡ Some s) × (s.loud ≡ true)
-  HeardAlong at (i ∷ path) =
-      (e : Edge) × (slice_get edges i ≡ Some e) × (e.from ≡ at) × HeardAlong e.to path
+  HeardAlong at [] = slice_get loud at ≡ Some true
+  HeardAlong at (i ∷ path) = (e : Edge) × (slice_get edges i ≡ Some e) × (e.from ≡ at) × HeardAlong e.to path
 
   abbrev pub IsHeard : ℕ → Type 0
   IsHeard at = (path : List ℕ) × HeardAlong at path
 
-  -- so it is of each that is marked
+  -- so it is of each that has one of these marks
   abbrev pub AreHeard : List Bool → Type 0
   AreHeard marks = (at : ℕ) → slice_get marks at ≡ Some true → IsHeard at
 
-  -- so it is of each state at which a thread acts
+  -- so it is of each state from which an edge leads
   abbrev pub EachIsHeard : Type 0
-  EachIsHeard = (at : ℕ) (s : Seen) → slice_get seen at ≡ Some s → s.acts ≡ true → IsHeard at
+  EachIsHeard = (i : ℕ) (e : Edge) → slice_get edges i ≡ Some e → IsHeard e.from

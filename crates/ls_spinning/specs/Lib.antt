@@ -1,6 +1,7 @@
 pub mod Turning
 pub mod Told
+pub mod Mute
+pub mod Moves
+pub mod States
 pub mod Heard
-pub mod Quiet
-pub mod Spots
 pub mod Sounding

@@ -1,120 +1,50 @@
 // Whether threads turn for ever after a schedule.
 
-ghost use Rattle.std.specs.Prelude.{◌≡◌, IfOk, IsTrue, ℕ, Some, false, length, slice_get, true};
+ghost use Rattle.std.specs.Prelude.{◌≡◌, ◌<◌, IfOk, IsTrue, ℕ, Some, length, slice_get, true};
 ghost use Rattle.ls_checked.specs.Plain.{plain_file};
 ghost use Rattle.ls_checked.specs.PlainProgram.{plain_program};
-ghost use Rattle.ls_meaning.specs.Constants.{FileHasConstants};
-ghost use Rattle.ls_meaning.specs.Runs.{source_run};
-ghost use Rattle.ls_search.specs.Runs.{progress_at};
-ghost use Rattle.ls_search_laws.specs.Configuration.{configuration_of};
-ghost use Rattle.ls_source.specs.Stands.{StandsFor};
-ghost use Rattle.ls_spinning.specs.Quiet.{Closes};
+ghost use Rattle.ls_graph.specs.declared.closing.Edge.{Edge as EdgeValue};
 ghost use Rattle.ls_spinning.specs.Turning.{TurnsForEver};
-ghost use Rattle.ls_spinning.specs.declared.graph.Seen.{Seen as SeenValue};
 
-use crate::closing::close;
-use crate::graph::{Graph, Ground, Seen};
-use crate::spots::{Spot, Spots};
+use crate::mute::Mute;
+use crate::sounding::loud_of;
+use crate::states::{Led, Scope, led_from};
 use ls_checked::program::Program;
 use ls_checked::tree::File;
 use ls_events::schedule::Schedule;
+use ls_graph::closing::{Edge, is_whole};
+use ls_graph::marks::is_marked;
+use ls_graph::walks::left_by;
 use ls_renaming::constants::file_has_constants;
-use ls_renaming::renumbering::Renumbering;
-use ls_search::numbering::{Numbered, number};
-use ls_search::places::NumberedState;
-use ls_source::playing::Playing;
 use std::alloc::{AllocError, Global};
 
-/// What a schedule leads to, but for names of objects, and whether these are all states.
-#[derive(Drop)]
-pub struct Led<'a> {
-    pub graph: Graph<'a>,
-    pub whole: bool,
-}
-
-/// The run after a schedule.
-fn playing_after<'a>(
-    alloc: Global,
-    file: &'a File,
-    program: &'a Program,
-    steps: &[u8],
-) -> Result<Playing<'a>, AllocError>
-    ensures { IfOk result (λ r. StandsFor r
-        (progress_at (plain_file file.now) (plain_program program.now) steps.now)) }
+/// Whether no steps were taken at once.
+fn are_single(edges: &[Edge]) -> bool
+    ensures { IsTrue result → (i : ℕ) (e : EdgeValue) → slice_get edges.now i ≡ Some e → e.mark ≡ 0 }
 {
-    let mut playing = Playing::new(alloc, file, program)?;
-    for thread in steps {
-        let _did = playing.step(alloc, *thread as usize)?;
+    for edge in edges {
+        if edge.mark > 0 {
+            return false;
+        }
     }
-    Ok(playing)
+    true
 }
 
-/// The states that a schedule leads to. At most so many are kept, and at most so many steps are taken at once.
-pub(crate) fn led_from<'a>(
-    alloc: Global,
-    file: &'a File,
-    program: &'a Program,
-    steps: &[u8],
-    limit: usize,
-    most: usize,
-) -> Result<Led<'a>, AllocError>
-    requires { FileHasConstants (plain_file file.now) }
-    ensures { IfOk result (λ l. IsTrue l.whole →
-        Closes (plain_file file.now) (length (plain_program program.now).threads) most
-        (configuration_of (plain_file file.now) (plain_program program.now)
-        (source_run (plain_file file.now) (plain_program program.now) steps.now)) l.graph.seen.items
-        l.graph.edges.items) }
+/// Whether a state has the one mark, and hasn't the other.
+fn turns(left: &[bool], loud: &[bool], at: usize) -> bool
+    ensures left { IsTrue result → slice_get left.now at ≡ Some true }
+    ensures silent { IsTrue result → slice_get loud.now at ≡ Some true → ⊥ }
 {
-    let playing = playing_after(alloc, file, program, steps)?;
-    let Numbered {
-        transitions,
-        store,
-        works,
-    } = number(alloc, &playing)?;
-    let root = Spot {
-        place: NumberedState {
-            store,
-            works,
-            noted: 0,
-        },
-        before: 0,
-        thread: 0,
-        steps: 0,
-    };
-    let spots = Spots::first(alloc, root)?;
-    let mut graph = Graph {
-        transitions,
-        renumbering: Renumbering::new(alloc),
-        spots,
-        seen: Vec::new(alloc),
-        edges: Vec::new(alloc),
-    };
-    let ground = Ground {
-        alloc,
-        file,
-        threads: program.threads.len() as u8,
-        limit,
-        most,
-    };
-    let whole = close(&ground, &mut graph)?;
-    Ok(Led { graph, whole })
+    is_marked(left, at) && !is_marked(loud, at)
 }
 
-/// Whether a thread acts, and none has an event.
-fn turns(seen: Seen) -> bool
-    ensures acts { IsTrue result → seen.acts ≡ true }
-    ensures silent { IsTrue result → seen.loud ≡ false }
+/// Whether it is so of each of the first so many states.
+fn turn_all(left: &[bool], loud: &[bool], count: usize) -> bool
+    ensures left { IsTrue result → (at : ℕ) → at < count → slice_get left.now at ≡ Some true }
+    ensures silent { IsTrue result → (at : ℕ) → at < count → slice_get loud.now at ≡ Some true → ⊥ }
 {
-    seen.acts && !seen.loud
-}
-
-/// Whether it is so at each state.
-fn turn_all(seen: &[Seen]) -> bool
-    ensures { IsTrue result → (at : ℕ) (s : SeenValue) → slice_get seen.now at ≡ Some s →
-        (s.acts ≡ true) × (s.loud ≡ false) }
-{
-    for at in 0..seen.len() {
-        if !turns(seen[at]) {
+    for at in 0..count {
+        if !turns(left, loud, at) {
             return false;
         }
     }
@@ -123,27 +53,26 @@ fn turn_all(seen: &[Seen]) -> bool
 
 /// Whether threads turn for ever after a schedule. True only where they do. It is false also where more states would
 /// be needed.
-pub(crate) fn are_turning(
-    alloc: Global,
-    file: &File,
-    program: &Program,
-    steps: &[u8],
-    limit: usize,
-) -> Result<bool, AllocError>
-    requires { FileHasConstants (plain_file file.now) }
+pub(crate) fn are_turning(scope: Scope<'_>, steps: &[u8]) -> Result<bool, AllocError>
     ensures { IfOk result (λ b. IsTrue b →
-        TurnsForEver (plain_file file.now) (plain_program program.now) steps.now) }
+        TurnsForEver (plain_file scope.entry.file.now) (plain_program scope.entry.program.now) steps.now) }
 {
-    let led = led_from(alloc, file, program, steps, limit, 0)?;
-    if !led.whole {
+    let mute = Mute;
+    let led = led_from(&mute, scope, steps, 0)?;
+    let Led { closing, tables } = led;
+    let mut tables = tables;
+    if !is_whole(&closing) || !are_single(&closing.graph.edges) {
         return Ok(false);
     }
-    Ok(turn_all(&led.graph.seen))
+    let left = left_by(scope.alloc, &closing.graph)?;
+    let loud = loud_of(scope.alloc, &mut tables.transitions, &closing.graph)?;
+    Ok(turn_all(&left, &loud, closing.graph.found.nodes.len()))
 }
 
 /// Whether threads turn for ever after a schedule. True only where they do. It is false also where more states would be
-/// needed than this limit, and where a constant of the file names an object, which none does of a file that was read. A
-/// refusal is that memory ran out, or that a store or a work has no number left.
+/// needed than this limit, where these have over 4,194,304 objects together, and where a constant of the file names an
+/// object, which none does of a file that was read. A refusal is that memory ran out, or that a store, a work or a
+/// state has no number left.
 pub fn turns_after(
     alloc: Global,
     file: &File,
@@ -157,5 +86,11 @@ pub fn turns_after(
     if !file_has_constants(file) {
         return Ok(false);
     }
-    are_turning(alloc, file, program, schedule.steps(), limit)
+    let scope = Scope {
+        alloc,
+        file,
+        program,
+        limit,
+    };
+    are_turning(scope, schedule.steps())
 }

@@ -1,54 +1,39 @@
 // From which states an event can come.
 
-ghost use Rattle.std.specs.Prelude.{◌≡◌, ◌<◌, ◌⊎◌, IfNone, IfOk, IsTrue, List, Some, ℕ, false, length, map, slice_get, true};
+ghost use Rattle.std.specs.Prelude.{◌≡◌, ◌<◌, ◌⊎◌, IfNone, IfOk, IfSome, IsTrue, List, OnOk, Some, ℕ, Bool, length};
+ghost use Rattle.std.specs.Prelude.{slice_get, true};
+ghost use Rattle.ls_graph.specs.Found.{AreFound, HasAny};
+ghost use Rattle.ls_graph.specs.declared.closing.Edge.{Edge as EdgeValue};
 ghost use Rattle.ls_spinning.specs.Heard.{AreHeard, EachIsHeard};
-ghost use Rattle.ls_spinning.specs.declared.graph.Seen.{Seen as SeenValue};
 
-use crate::graph::{Edge, Graph, Seen};
-use crate::spots::Spot;
+use ls_graph::closing::{Edge, Graph};
+use ls_graph::marks::{is_marked, mark};
+use ls_graph::walks::edges_to;
+use ls_search::space::Kept;
 use std::alloc::{AllocError, Global};
 
-/// Whether a state is marked.
-fn is_marked(marks: &[bool], at: usize) -> bool
-    ensures { IsTrue result → slice_get marks.now at ≡ Some true }
-{
-    match marks.get(at) {
-        None => false,
-        Some(mark) => *mark,
-    }
-}
-
-/// Marks a state.
-fn mark(marks: &mut Vec<bool>, at: usize)
-    ensures { (i : ℕ) → slice_get marks.new.items i ≡ Some true →
-        (i ≡ at) ⊎ (slice_get marks.old.items i ≡ Some true) }
-{
-    if at < marks.len() {
-        marks[at] = true;
-    }
-}
-
-/// Whether a step leads from a state that isn't marked to one that is.
+/// Whether an edge leads from a state that isn't marked to one that is.
 fn leads_on(marks: &[bool], edge: Edge) -> bool
     ensures { IsTrue result → slice_get marks.now edge.to ≡ Some true }
 {
     !is_marked(marks, edge.from as usize) && is_marked(marks, edge.to as usize)
 }
 
-/// Marks the state that a step leads from, if it isn't marked and the one that it leads to is. Answers whether it was so.
-fn mark_back(marks: &mut Vec<bool>, edge: Edge) -> bool
-    ensures { (i : ℕ) → slice_get marks.new.items i ≡ Some true →
+/// Marks the state that an edge leads from, if it isn't marked and the one that it leads to is. Answers whether it was
+/// so.
+fn mark_back(marks: &mut Vec<bool>, edge: Edge) -> Result<bool, AllocError>
+    ensures { OnOk result ((i : ℕ) → slice_get marks.new.items i ≡ Some true →
         (slice_get marks.old.items i ≡ Some true) ⊎
-        ((i ≡ edge.from) × (slice_get marks.old.items edge.to ≡ Some true)) }
+        ((i ≡ edge.from) × (slice_get marks.old.items edge.to ≡ Some true))) }
 {
     if !leads_on(marks, edge) {
-        return false;
+        return Ok(false);
     }
-    mark(marks, edge.from as usize);
-    true
+    mark(marks, edge.from as usize)?;
+    Ok(true)
 }
 
-/// The step that so many come after.
+/// The edge that so many come after.
 fn edge_before(edges: &[Edge], after: usize) -> Edge
     requires { after < length edges.now }
     ensures { (i : ℕ) × (slice_get edges.now i ≡ Some result) }
@@ -56,97 +41,80 @@ fn edge_before(edges: &[Edge], after: usize) -> Edge
     edges[edges.len() - (after + 1)]
 }
 
-/// Marks each state from which a step leads to one that is marked, from the last step to the first. Answers whether one
-/// was marked.
-fn spread(edges: &[Edge], marks: &mut Vec<bool>) -> bool
-    ensures { (seen : List SeenValue) → AreHeard seen edges.now marks.old.items →
-        AreHeard seen edges.now marks.new.items }
+/// Marks each state from which an edge leads to one that is marked, from the last edge to the first. Answers whether
+/// one was marked.
+fn spread(edges: &[Edge], marks: &mut Vec<bool>) -> Result<bool, AllocError>
+    ensures { OnOk result ((loud : List Bool) → AreHeard loud edges.now marks.old.items →
+        AreHeard loud edges.now marks.new.items) }
 {
     let mut changed = false;
     for after in 0..edges.len() {
         let edge = edge_before(edges, after);
-        let marked = mark_back(marks, edge);
+        let marked = mark_back(marks, edge)?;
         changed = marked || changed;
     }
-    changed
+    Ok(changed)
 }
 
-/// Marks each state from which steps lead to one that is marked, in at most so many rounds.
-fn spread_all(edges: &[Edge], marks: &mut Vec<bool>, most: usize)
-    ensures { (seen : List SeenValue) → AreHeard seen edges.now marks.old.items →
-        AreHeard seen edges.now marks.new.items }
+/// Marks each state from which edges lead to one that is marked, in at most so many rounds.
+fn spread_all(edges: &[Edge], marks: &mut Vec<bool>, most: usize) -> Result<(), AllocError>
+    ensures { OnOk result ((loud : List Bool) → AreHeard loud edges.now marks.old.items →
+        AreHeard loud edges.now marks.new.items) }
 {
     for _ in 0..most {
-        if !spread(edges, marks) {
-            return;
+        if !spread(edges, marks)? {
+            return Ok(());
         }
     }
+    Ok(())
 }
 
-/// The states at which a thread has an event.
-fn loud_of(alloc: Global, seen: &[Seen]) -> Result<Vec<bool>, AllocError>
-    ensures { IfOk result (λ marks. marks.items ≡ map (λ s. s.loud) seen.now) }
+/// The first state from which an edge leads and that isn't marked.
+fn first_left(edges: &[Edge], marks: &[bool]) -> Option<usize>
+    ensures none { IfNone result ((i : ℕ) (e : EdgeValue) → slice_get edges.now i ≡ Some e →
+        slice_get marks.now e.from ≡ Some true) }
+    ensures some { IfSome result (HasAny edges.now) }
 {
-    let mut marks = Vec::new(alloc);
-    for one in seen {
-        marks.push(one.loud)?;
-    }
-    Ok(marks)
-}
-
-/// Whether a thread acts at a state that isn't marked.
-fn is_left(seen: Seen, marks: &[bool], at: usize) -> bool
-    ensures { result ≡ false → seen.acts ≡ true → slice_get marks.now at ≡ Some true }
-{
-    seen.acts && !is_marked(marks, at)
-}
-
-/// The first state at which a thread acts and that isn't marked.
-fn first_left(seen: &[Seen], marks: &[bool]) -> Option<usize>
-    ensures { IfNone result ((at : ℕ) (s : SeenValue) → slice_get seen.now at ≡ Some s → s.acts ≡ true →
-        slice_get marks.now at ≡ Some true) }
-{
-    for at in 0..seen.len() {
-        if is_left(seen[at], marks, at) {
-            return Some(at);
+    for edge in edges {
+        if !is_marked(marks, edge.from as usize) {
+            return Some(edge.from as usize);
         }
     }
     None
 }
 
-/// The first state at which a thread acts, and from which no event can come. Where there is none, an event can come from
-/// each state at which a thread acts.
-pub(crate) fn first_turning(alloc: Global, graph: &Graph<'_>) -> Result<Option<usize>, AllocError>
-    ensures { IfOk result (λ found. IfNone found (EachIsHeard graph.now.seen.items graph.now.edges.items)) }
+/// The first state from which an edge leads, and from which none of these that are marked can be reached. Where there
+/// is none, one of them can be reached from each state from which an edge leads.
+pub(crate) fn first_turning(
+    graph: &Graph<Kept>,
+    loud: Vec<bool>,
+) -> Result<Option<usize>, AllocError>
+    ensures none { IfOk result (λ o. IfNone o (EachIsHeard loud.items graph.now.edges.items)) }
+    ensures some { IfOk result (λ o. IfSome o (HasAny graph.now.edges.items)) }
 {
-    let mut marks = loud_of(alloc, &graph.seen)?;
-    spread_all(&graph.edges, &mut marks, graph.seen.len());
-    Ok(first_left(&graph.seen, &marks))
+    let mut marks = loud;
+    spread_all(&graph.edges, &mut marks, graph.found.nodes.len())?;
+    Ok(first_left(&graph.edges, &marks))
 }
 
 /// Adds a thread so many times.
-fn push_times(steps: &mut Vec<u8>, thread: u8, count: usize) -> Result<(), AllocError> {
+fn push_times(steps: &mut Vec<u8>, thread: u8, count: u32) -> Result<(), AllocError> {
     for _ in 0..count {
         steps.push(thread)?;
     }
     Ok(())
 }
 
-/// The threads whose steps lead from the first state to the one at a place. Nothing depends on it.
-pub(crate) fn path_to(alloc: Global, spots: &[Spot], at: usize) -> Result<Vec<u8>, AllocError> {
+/// The threads whose steps lead from the first state to the one at a place.
+pub(crate) fn path_to(alloc: Global, graph: &Graph<Kept>, at: usize) -> Result<Vec<u8>, AllocError>
+    requires within { at < length graph.now.found.nodes.items }
+    requires found { AreFound graph.now.edges.items (length graph.now.found.nodes.items) graph.now.by.items }
+{
+    let path = edges_to(alloc, graph, at)?;
     let mut steps = Vec::new(alloc);
-    let mut place = at;
-    for _ in 0..spots.len() {
-        let Some(spot) = spots.get(place) else {
-            break;
-        };
-        if spot.before >= place {
-            break;
-        }
-        push_times(&mut steps, spot.thread, spot.steps)?;
-        steps.push(spot.thread)?;
-        place = spot.before;
+    for edge in &path {
+        steps.push(edge.actor)?;
+        push_times(&mut steps, edge.actor, edge.mark)?;
     }
-    steps.reverse();
     Ok(steps)
 }

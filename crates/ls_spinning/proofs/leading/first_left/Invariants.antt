@@ -1,10 +1,9 @@
--- What the loop `at` of `first_left` in src/leading.rt keeps.
-
+-- What the loop `edge` of `first_left` in src/leading.rt keeps.
 use Rattle.std.proofs.Common.{◌≡◌, ◌<◌, ℕ, Some, true}
 use Rattle.std.specs.Prelude.{slice_get}
-use Rattle.ls_spinning.specs.declared.graph.Seen.{Seen}
+use Rattle.ls_graph.specs.declared.closing.Edge.{Edge}
 use Rattle.ls_spinning.proofs.leading.first_left.Given as goal
 
-abbrev pub invariant-loop-at : goal.invariant-loop-at
-invariant-loop-at l = (at : ℕ) (s : Seen) → at < l.at → slice_get l.seen at ≡ Some s → s.acts ≡ true →
-    slice_get l.marks at ≡ Some true
+abbrev pub invariant-loop-edge : goal.invariant-loop-edge
+invariant-loop-edge l = (i : ℕ) (e : Edge) → i < l.edge-index → slice_get l.edges i ≡ Some e →
+    slice_get l.marks e.from ≡ Some true

@@ -4,6 +4,6 @@ use Rattle.ls_spinning.proofs.Marking.{heard_more}
 use Rattle.ls_spinning.proofs.leading.spread.Goals as goal
 
 pub loop-after-preserved : goal.loop-after-preserved
-loop-after-preserved c = λ seen was.
-    heard_more seen c.args.edges.now c.loop-after.marks.items c.mark_back-marked.new.marks.items c.edge_before-edge.ensures.0
-    c.edge_before-edge.result c.edge_before-edge.ensures.1 c.mark_back-marked.ensures (c.loop-after.invariant seen was)
+loop-after-preserved c = λ loud was.
+    heard_more loud c.args.edges.now c.loop-after.marks.items c.mark_back.new.marks.items c.edge_before-edge.ensures.0
+    c.edge_before-edge.result c.edge_before-edge.ensures.1 c.in_ok-marked.ensures (c.loop-after.invariant loud was)

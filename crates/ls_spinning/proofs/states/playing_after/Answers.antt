@@ -1,4 +1,4 @@
--- Why `playing_after` in src/confirming.rt keeps its loop `thread`.
+-- Why `playing_after` in src/states.rt keeps its loop `thread`.
 
 use Rattle.std.proofs.Common.{rules, take, subst}
 use Rattle.ls_checked.specs.CheckedTree.{File}
@@ -9,7 +9,7 @@ use Rattle.ls_source.specs.Progress.{Progress}
 use Rattle.ls_source.specs.Stands.{StandsFor}
 use Rattle.ls_search.specs.Runs.{progress_at}
 use Rattle.ls_spinning.proofs.Staying.{gone_next}
-use Rattle.ls_spinning.proofs.confirming.playing_after.Goals as goal
+use Rattle.ls_spinning.proofs.states.playing_after.Goals as goal
 
 pub loop-thread-preserved : goal.loop-thread-preserved
 loop-thread-preserved c =

@@ -1,0 +1,8 @@
+-- What the loop `edge` of `are_single` in src/confirming.rt keeps.
+use Rattle.std.proofs.Common.{◌≡◌, ◌<◌, ℕ, Some}
+use Rattle.std.specs.Prelude.{slice_get}
+use Rattle.ls_graph.specs.declared.closing.Edge.{Edge}
+use Rattle.ls_spinning.proofs.confirming.are_single.Given as goal
+
+abbrev pub invariant-loop-edge : goal.invariant-loop-edge
+invariant-loop-edge l = (i : ℕ) (e : Edge) → i < l.edge-index → slice_get l.edges i ≡ Some e → e.mark ≡ 0
