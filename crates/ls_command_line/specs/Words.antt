@@ -143,6 +143,7 @@ explore_line =
     (with_rule
     (with_rule
     (with_rule
+    (with_rule
     (with_rule (with_explain (codes "explore")) cells_rule)
     (number_rule false (codes "states")))
     (flag_rule (codes "illegal")))
@@ -150,6 +151,7 @@ explore_line =
     (flag_rule (codes "order")))
     (flag_rule (codes "progress")))
     (flag_rule (codes "verdict")))
+    (flag_rule (codes "races")))
     spec_rule
 
 abbrev pub bounds_line : App
@@ -183,9 +185,11 @@ find_line =
     (with_rule
     (with_rule
     (with_rule
+    (with_rule
     (with_rule numbers_line (flag_rule (codes "no-waiting")))
     (flag_rule (codes "no-turning")))
     (flag_rule (codes "set")))
+    (flag_rule (codes "races")))
     (flag_rule (codes "check")))
     (flag_rule (codes "progress")))
     spec_rule
@@ -283,10 +287,12 @@ abbrev pub is_mixed : List Row → Bool
 is_mixed rows = is_some (number_asked (codes "cells") rows) || (flag_of (codes "illegal") rows ||
     (flag_of (codes "first") rows || (flag_of (codes "order") rows || flag_of (codes "progress") rows)))
 
--- the histories of all schedules, or a wrong run alone
+-- the histories of all schedules, or a wrong run alone, or a run with a data race
 abbrev pub asked_explore : List Row → Request
 asked_explore rows =
-    if flag_of (codes "verdict") rows
+    if flag_of (codes "races") rows
+    then requests.Races (number_of (codes "states") 1000000 rows) (is_mixed rows || flag_of (codes "verdict") rows)
+    else if flag_of (codes "verdict") rows
     then requests.Verdict (number_of (codes "states") 1000000 rows) (is_mixed rows)
     else requests.Explore (number_asked (codes "cells") rows) (number_of (codes "states") 1000000 rows)
     (flag_of (codes "illegal") rows) (flag_of (codes "first") rows) (flag_of (codes "order") rows)
@@ -308,6 +314,7 @@ asked_find rows = record {
   waiting = not (flag_of (codes "no-waiting") rows);
   turning = not (flag_of (codes "no-turning") rows);
   set = flag_of (codes "set") rows;
+  races = flag_of (codes "races") rows;
   check = flag_of (codes "check") rows;
   progress = flag_of (codes "progress") rows;
 }

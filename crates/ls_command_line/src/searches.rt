@@ -81,6 +81,12 @@ pub(crate) fn explore_command<'a>(alloc: Global) -> Result<Command<'a>, AllocErr
         "prints the simplest wrong run alone, or that there is none; no cells are needed, and fewer states",
     );
     let command = with_option(command, verdict);
+    let races = flag_option(
+        alloc,
+        "races",
+        "prints the simplest run with a data race alone, or that there is none; as many states as --verdict",
+    );
+    let command = with_option(command, races);
     with_reference(alloc, command)
 }
 
@@ -200,6 +206,8 @@ pub(crate) fn find_command<'a>(alloc: Global) -> Result<Command<'a>, AllocError>
         "looks for histories of a set too that have no legal order",
     );
     let command = with_option(command, set);
+    let races = flag_option(alloc, "races", "looks for data races, and for nothing else");
+    let command = with_option(command, races);
     let check = flag_option(
         alloc,
         "check",

@@ -51,6 +51,8 @@ pub struct Seeking {
     pub turning: bool,
     /// Whether histories are looked for that are illegal as those of a set.
     pub set: bool,
+    /// Whether data races are looked for, and nothing else.
+    pub races: bool,
     /// Whether the exit status says what is found.
     pub check: bool,
     /// Whether it tells on standard error how many programs are done.
@@ -156,6 +158,12 @@ pub enum Request {
     Verdict {
         states: u64,
         /// Whether an option is given that goes with the histories alone.
+        mixed: bool,
+    },
+    /// A run with a data race alone, by the states of the source: the most that are kept.
+    Races {
+        states: u64,
+        /// Whether an option is given that goes with the histories or with a wrong run.
         mixed: bool,
     },
     /// The first program of a class that isn't good for what is looked for.
@@ -351,6 +359,7 @@ fn asked_find(options: &ArgMatches<'_>) -> Seeking
         waiting: !flag(options, "no-waiting"),
         turning: !flag(options, "no-turning"),
         set: flag(options, "set"),
+        races: flag(options, "races"),
         check: flag(options, "check"),
         progress: flag(options, "progress"),
     }
@@ -379,7 +388,12 @@ fn asked_explore(options: &ArgMatches<'_>) -> Request
     ensures { result ≡ asked_explore (rows_of (found_of options.now)) }
 {
     let states = number(options, "states", STATES);
-    if flag(options, "verdict") {
+    let verdict = flag(options, "verdict");
+    if flag(options, "races") {
+        let mixed = is_mixed(options) || verdict;
+        return Request::Races { states, mixed };
+    }
+    if verdict {
         let mixed = is_mixed(options);
         return Request::Verdict { states, mixed };
     }

@@ -194,7 +194,8 @@ module _ (f : ℕ → ℕ) where
 
     -- ---- stores
 
-    at_other : (s : Store) (o : ℕ) → thing_at (other_store s) o ≡ option_map other_thing (thing_at s o)
+    -- the thing of a number is the same with the other number of its owner
+    pub at_other : (s : Store) (o : ℕ) → thing_at (other_store s) o ≡ option_map other_thing (thing_at s o)
     at_other s o = by_null (nat_eq o 0)
       where
         by_null : (b : Bool) →

@@ -12,3 +12,4 @@ pub mod Same
 pub mod Named
 pub mod Below
 pub mod Places
+pub mod Meeting

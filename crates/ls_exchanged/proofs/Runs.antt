@@ -232,6 +232,11 @@ module _ (file : File) (f : ℕ → ℕ) (p q : Program) (r : AreAlike f p q) wh
       (step_other (source_run file p schedule) (source_run file q (map f schedule))
       (run_from schedule (start p) (start q) start_other) t).did
 
+  -- and the store is that with the other numbers
+  pub stores : (schedule : List ℕ) →
+      (source_run file q (map f schedule)).store ≡ other_store f (source_run file p schedule).store
+  stores schedule = (run_from schedule (start p) (start q) start_other).store
+
 -- the schedule of exchanged threads has the history of exchanged threads
 pub histories_exchanged : HistoriesAreExchanged
 histories_exchanged file u v p q e = histories file (exchanged u v) p q (alike u v p q e)

@@ -7,6 +7,8 @@ use Rattle.ls_source_judge.specs.Judged.{AllLike}
 use Rattle.ls_endless_calls.specs.Laws.{NoneWaitsForEver}
 use Rattle.ls_endless_calls.specs.Turning.{NoneTurnsUnexcused}
 use Rattle.ls_explore_reports.specs.Verdicts.{HasLegalOrder}
+use Rattle.ls_race_laws.specs.Accesses.{Volatile}
+use Rattle.ls_race_laws.specs.Meeting.{NeverMeets}
 use Rattle.ls_exchanged.specs.Exchanged.{AreExchanged, HaveNamesByPlace, exchanged, exchanged_event}
 
 -- the first program is the second with the same two threads exchanged
@@ -57,3 +59,9 @@ ExchangedIsLegal =
     (file : File) (u v : ℕ) (p q : Program) → AreExchanged u v p q → HaveNamesByPlace p q →
     ((schedule : List ℕ) → HasLegalOrder p (source_history file p schedule)) →
     (schedule : List ℕ) → HasLegalOrder q (source_history file q schedule)
+
+-- If accesses of two threads never meet in the first, they never do in the second.
+abbrev pub ExchangedNeverMeets : Type 0
+ExchangedNeverMeets =
+    (volatile : Volatile) (file : File) (u v : ℕ) (p q : Program) → AreExchanged u v p q →
+    NeverMeets volatile file p → NeverMeets volatile file q

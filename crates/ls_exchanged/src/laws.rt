@@ -1,7 +1,8 @@
 // The laws, each as the contract of a function that computes nothing.
 
 ghost use Rattle.ls_exchanged.specs.Laws.{ExchangedBack, ExchangedIsLegal, ExchangedIsLinearizable};
-ghost use Rattle.ls_exchanged.specs.Laws.{ExchangedNeverTurns, ExchangedNeverWaits, HistoriesAreExchanged};
+ghost use Rattle.ls_exchanged.specs.Laws.{ExchangedNeverMeets, ExchangedNeverTurns, ExchangedNeverWaits};
+ghost use Rattle.ls_exchanged.specs.Laws.{HistoriesAreExchanged};
 ghost use Rattle.ls_exchanged.specs.Laws.{StepsAreExchanged};
 
 /// If a program is another with two threads exchanged, the other is it with the same two exchanged.
@@ -37,4 +38,9 @@ pub fn exchanged_never_turns()
 /// If each history has a legal order, so has each with two threads exchanged, where threads have their names by place.
 pub fn exchanged_is_legal()
     ensures { ExchangedIsLegal }
+{}
+
+/// If accesses of two threads never meet, none do with two threads exchanged.
+pub fn exchanged_never_meets()
+    ensures { ExchangedNeverMeets }
 {}

@@ -47,9 +47,3 @@ same_text make t ns ns' p p' s s' n n' b b' names program steps states complete 
     (subst (λ x. t ≡ make ns (thread_names p) x n' b') steps
     (subst (λ x. t ≡ make ns (thread_names p) s x b') states
     (subst (λ x. t ≡ make ns (thread_names p) s n x) complete is))))
-
--- what holds of a file and a program holds of equal ones
-pub at_same : (P : File → Program → Type 0) {file file' : File} {program program' : Program} → file ≡ file' →
-    program ≡ program' → P file program → P file' program'
-at_same P {file} {file'} {program} {program'} same_file same_program h =
-    subst (λ (p : Program). P file' p) same_program (subst (λ (f : File). P f program) same_file h)

@@ -36,7 +36,7 @@ use ls_spinning::{Turning, find_turning};
 use std::alloc::{AllocError, Global};
 
 /// Whether no states may be kept, or too many.
-fn are_bad_states(states: usize) -> bool
+pub(crate) fn are_bad_states(states: usize) -> bool
     ensures { IsTrue result ↔ AreBadStates states }
 {
     states == 0 || states > MOST_STATES

@@ -49,7 +49,7 @@ fn doubt_words(doubt: Doubt) -> &'static str
 }
 
 /// Adds how many states were kept, and whether these are all.
-fn push_last(out: &mut String, extent: Extent) -> Result<(), AllocError>
+pub(crate) fn push_last(out: &mut String, extent: Extent) -> Result<(), AllocError>
     ensures { OnOk result (string_bytes out.new ≡ string_bytes out.old ++ last_text extent.states extent.complete) }
 {
     let states = extent.states;
@@ -68,7 +68,7 @@ fn history_after(alloc: Global, names: Names<'_>, schedule: &Schedule) -> Result
 }
 
 /// Adds what is wrong with a run, its context switches, its schedule, its history's lines, an empty line.
-fn push_run(
+pub(crate) fn push_run(
     alloc: Global,
     out: &mut String,
     names: Names<'_>,

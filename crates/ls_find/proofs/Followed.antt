@@ -64,7 +64,7 @@ are_named named o text u p q is doubles = record {
 -- ---- one text over one class text
 
 -- the programs of these images are exchanged, whichever images a text gives
-at_images : OneAnswer → OneProgram → DoublesAreExchanged → (u : ℕ) (classes first second : Text) (i : Image) →
+pub at_images : OneAnswer → OneProgram → DoublesAreExchanged → (u : ℕ) (classes first second : Text) (i : Image) →
     ExchangesAt u classes first second → Compiles classes first i →
     (j : Image) × Compiles classes second j × AreDoubles u (program_of i) (program_of j)
 at_images one alone exchanged u classes first second i e is = (
@@ -74,7 +74,8 @@ at_images one alone exchanged u classes first second i e is = (
       (same_program one alone classes first e.before i e.of_first is) e.doubles,
 )
 
-same_files : OneAnswer → (classes first second : Text) (i j : Image) → Compiles classes first i →
+-- and their files are one
+pub same_files : OneAnswer → (classes first second : Text) (i j : Image) → Compiles classes first i →
     Compiles classes second j → file_of i ≡ file_of j
 same_files one classes first second i j is js =
     ap (λ (o : ElaboratedFile). o.file) (same_outcome one classes first second i j is js)

@@ -79,7 +79,7 @@ fn judged(
 
 /// Whether a class text compiles with both programs, and there the second is the first with a thread, which isn't the
 /// setup, and the next exchanged; and its number.
-fn exchanged_in(classes: &str, alloc: Global, first: &str, second: &str) -> Option<usize>
+pub fn exchanged_in(classes: &str, alloc: Global, first: &str, second: &str) -> Option<usize>
     ensures { IfSome result (λ u. ExchangesAt u classes.now first.now second.now) }
 {
     let Ok(image) = compile(alloc, classes, second) else {

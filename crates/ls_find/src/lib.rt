@@ -14,6 +14,6 @@ mod states;
 mod verdict;
 mod waiting;
 
-pub use explorer::{Explorer, Why};
+pub use explorer::{Explorer, Why, exchanged_in};
 pub use sought::{Sought, sought_verdict};
 pub use verdict::{ProgramVerdict, Reason, verdict_on};

@@ -1,5 +1,6 @@
 -- What the command `find` says.
-use Rattle.std.specs.Prelude.{◌≡◌, ◌+◌, ◌-◌, ◌<◌, ◌≤◌, ◌⊎◌, ℕ, List, Option, None, Some, Result, Ok, Err}
+use Rattle.std.specs.Prelude.{◌≡◌, ◌↔◌, ◌+◌, ◌-◌, ◌<◌, ◌≤◌, ◌⊎◌, ℕ, Bool, true, false, List, ◌++◌, Option, None}
+use Rattle.std.specs.Prelude.{Some, Result, Ok, Err}
 use Rattle.std.specs.Prelude.{length, min}
 use Rattle.std.specs.Prelude.{slice_get}
 use Rattle.std.specs.Prelude.{string_bytes}
@@ -23,12 +24,15 @@ use Rattle.ls_faults.specs.declared.fault.ToolFault.{ToolFault}
 use Rattle.ls_faults.specs.declared.fault.ToolFault.TheVariants as faults
 use Rattle.ls_find.specs.Family.{IsFound, PassedAreSound}
 use Rattle.ls_find.specs.declared.sought.Sought.{Sought}
+use Rattle.ls_find_races.specs.Family.{IsRaceFinding, PassedAreFree}
+use Rattle.ls_find_races.specs.declared.explorer.RaceWhy.{RaceWhy}
 use Rattle.ls_find.specs.declared.explorer.Why.{Why}
 use Rattle.ls_find.specs.declared.explorer.Why.TheVariants as whys
 use Rattle.ls_find_reports.specs.Printing.{figures_of, found_text, none_text}
 use Rattle.ls_find_reports.specs.declared.figures.Figures.{Figures}
 use Rattle.ls_report.specs.Events.{Text}
 use Rattle.ls_find_commands.specs.Lacking.{IsFirstFault, IsNoReference, LacksNone, no_calls}
+use Rattle.ls_find_commands.specs.Racing.{IsBeside, race_halted_answer}
 use Rattle.ls_find_commands.specs.declared.command.Range.{Range}
 
 -- no program, of so many, has the first number, or the last comes before it
@@ -48,17 +52,49 @@ halted_answer before to count ps None = Ok (none_text (figures_of before to coun
 halted_answer before to count ps (Some h) =
     why_answer (figures_of before to count ps) (before + length ps + 1) (string_bytes h.program) h.halt
 
+-- What a search for data races finds is told as what any search finds: as many are passed, and it ends so.
+pub record AreTold (f : Finding RaceWhy) (g : Finding Why) : Type 0 where
+  pub passed : g.passed.items ≡ f.passed.items
+  pub none : f.halted ≡ None → g.halted ≡ None
+  pub answer : (before to count : ℕ) (ps : List Passed) →
+      halted_answer before to count ps g.halted ≡ race_halted_answer before to count ps f.halted
+
+-- the same, with what is said beside `none`
+abbrev pub answer_beside : ℕ → ℕ → ℕ → List Passed → Option (Halted Why) → Text → Result Text ToolFault
+answer_beside before to count ps None beside = Ok (none_text (figures_of before to count ps) ++ beside)
+answer_beside before to count ps (Some h) beside = halted_answer before to count ps (Some h)
+
+-- no range is asked for: it has the numbers of all programs that a family may have
+abbrev pub AreAllNumbers : Range → Type 0
+AreAllNumbers r = (r.from ≡ 1) × (1000000 ≤ r.to)
+
+-- data races are told beside `none` where no range is asked for
+abbrev pub IsAskedBeside : Range → Option (Halted Why) → Bool → Type 0
+IsAskedBeside r halted asked = (asked ≡ true) ↔ (AreAllNumbers r × (halted ≡ None))
+
 -- What is found among programs: what a search of the numbers of a range says, by a reference if one is given. Each
--- program that it has passed is good for what is looked for, if none up to that one is cut.
+-- program that it has passed is good for what is looked for, if none up to that one is cut. Beside `none` it is said
+-- what a search for data races says; or such a search alone is asked for.
 pub data FindsIn (reference : Option Text) (classes : Text) (p : Programs) (r : Range) : Result Text ToolFault → Type 0
   where
     NoNumbers : IsBadRange r (length (plans p.family)) → FindsIn reference classes p r (Err faults.BadNumbers)
-    Searched : (f : Finding Why) →
+    Searched : (f : Finding Why) (asked : Bool) (beside : Text) →
         ¬ IsBadRange r (length (plans p.family)) →
+        r.races ≡ false →
         IsFound r.sought r.states reference classes p (r.from - 1) (min r.to (length (plans p.family))) f →
         PassedAreSound r.sought reference classes p (r.from - 1) f →
+        IsAskedBeside r f.halted asked →
+        IsBeside asked classes p beside →
         FindsIn reference classes p r
-        (halted_answer (r.from - 1) (min r.to (length (plans p.family))) (length (plans p.family)) f.passed.items
+        (answer_beside (r.from - 1) (min r.to (length (plans p.family))) (length (plans p.family)) f.passed.items
+        f.halted beside)
+    Raced : (f : Finding RaceWhy) →
+        ¬ IsBadRange r (length (plans p.family)) →
+        r.races ≡ true →
+        IsRaceFinding classes p (r.from - 1) (min r.to (length (plans p.family))) f →
+        PassedAreFree classes p (r.from - 1) f →
+        FindsIn reference classes p r
+        (race_halted_answer (r.from - 1) (min r.to (length (plans p.family))) (length (plans p.family)) f.passed.items
         f.halted)
 
 -- each entry of a menu that is written by hand is calls of the class, as each of so many threads makes them
@@ -108,10 +144,6 @@ abbrev pub HasNoPrograms : Choosing → Option Text → Text → Option Text →
 HasNoPrograms o None classes menu f = HasNoOwn o classes menu f
 HasNoPrograms o (Some reference) classes menu f = HasNoLike o reference classes menu f
 
--- no range is asked for: it has the numbers of all programs that a family may have
-abbrev pub AreAllNumbers : Range → Type 0
-AreAllNumbers r = (r.from ≡ 1) × (1000000 ≤ r.to)
-
 -- the programs of the class in which each int that a call passes is 1: their menu has each method
 abbrev pub smallest : Choosing → Choosing
 smallest o =
@@ -143,6 +175,7 @@ pub data FindsTo (o : Choosing) (r : Range) (reference : Option Text) (classes :
   AtOnce : (text : Text) →
       ¬ AreBadStates r.states →
       AreAllNumbers r →
+      r.races ≡ false →
       reference ≡ None →
       IsWhole o r.sought classes menu text →
       FindsTo o r reference classes menu (Ok text)

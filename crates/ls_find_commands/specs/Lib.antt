@@ -1,3 +1,4 @@
 pub mod Found
 pub mod Ranges
 pub mod Lacking
+pub mod Racing

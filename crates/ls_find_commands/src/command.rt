@@ -1,23 +1,26 @@
 // The command `find`.
 
-ghost use Rattle.std.specs.Prelude.{◌≡◌, ◌+◌, ◌<◌, ◌≤◌, ◌^◌, ◌↔◌, IfSome, IsTrue, false, length};
+ghost use Rattle.std.specs.Prelude.{◌≡◌, ◌+◌, ◌-◌, ◌<◌, ◌≤◌, ◌^◌, ◌↔◌, IfSome, IsTrue, false, length, min, true};
 ghost use Rattle.std.specs.Prelude.{option_map};
 ghost use Rattle.ls_explore.specs.Watching.{GoesOn};
 ghost use Rattle.ls_explore.specs.Faults.{AreBadStates};
+ghost use Rattle.ls_families.specs.Families.{plans};
 ghost use Rattle.ls_faults.specs.Given.{GivesText};
 ghost use Rattle.ls_items.specs.Cutting.{plain_text};
-ghost use Rattle.ls_find_commands.specs.Found.{FindsIn, FindsTo, IsBadRange, PrintsTo};
-ghost use Rattle.ls_find_commands.specs.Found.{halted_answer, why_answer};
+ghost use Rattle.ls_find_commands.specs.Found.{FindsIn, FindsTo, IsAskedBeside, IsBadRange, PrintsTo};
+ghost use Rattle.ls_find_commands.specs.Found.{answer_beside, why_answer};
 
 use crate::menus::{Texts, programs_for};
 use crate::noting::searched;
-use crate::whole::at_once;
+use crate::racing::{beside, told_finding};
+use crate::whole::{are_all_numbers, at_once};
 use ls_class_programs::Choosing;
 use ls_explore::{ExploreFault, MOST_STATES, Watch};
 use ls_families::print_plan;
 use ls_family_search::{Finding, Halted, Numbers, Programs};
 use ls_faults::fault::ToolFault;
 use ls_find::{Explorer, Sought, Why};
+use ls_find_races::RaceExplorer;
 use ls_find_reports::{Figures, Shown, figures_of, print_found, print_none};
 use ls_specified::SpecificationFault;
 use std::alloc::{AllocError, Global};
@@ -30,6 +33,8 @@ pub struct Range {
     pub states: usize,
     /// What is looked for.
     pub sought: Sought,
+    /// Whether data races are looked for, and nothing else.
+    pub races: bool,
     /// The first number and the last, from 1.
     pub from: u64,
     pub to: u64,
@@ -82,18 +87,21 @@ fn why_text(
     }
 }
 
-/// The text of what is found of the numbers after so many, up to one, of so many in all.
+/// The text of what is found of the numbers after so many, up to one, of so many in all. With it comes what is said
+/// beside `none`.
 fn finding_text(
     alloc: Global,
     before: u64,
     to: u64,
     count: u64,
     finding: Finding<Why>,
+    beside: &str,
 ) -> Result<String, ToolFault>
     requires first { before + 1 < 2 ^ 64 }
     requires last { before + length finding.passed.items < 2 ^ 64 }
     requires next { IfSome finding.halted (λ h. before + length finding.passed.items + 1 < 2 ^ 64) }
-    ensures { GivesText (λ answer. answer ≡ halted_answer before to count finding.passed.items finding.halted) result }
+    ensures { GivesText (λ answer. answer ≡ answer_beside before to count finding.passed.items finding.halted
+        beside.now) result }
 {
     let Finding { passed, halted } = finding;
     let figures = figures_of(before, to, count, passed.as_slice());
@@ -102,12 +110,101 @@ fn finding_text(
             let number = before + passed.len() as u64 + 1;
             why_text(alloc, figures, number, program.as_str(), halt)
         }
-        None => Ok(print_none(alloc, figures)?),
+        None => {
+            let mut text = print_none(alloc, figures)?;
+            text.push_str(beside)?;
+            Ok(text)
+        }
     }
 }
 
-/// What is found among programs of a class text.
+/// The numbers of a range that has some, among so many: from the one after the first number on.
+fn numbers_of(range: Range, count: u64) -> Numbers
+    requires { ¬ IsBadRange range count }
+    ensures from { result.from ≡ range.from - 1 }
+    ensures to { result.to ≡ min range.to count }
+    ensures order { result.from ≤ result.to }
+    ensures there { result.to ≤ count }
+{
+    Numbers {
+        from: range.from - 1,
+        to: range.to.min(count),
+    }
+}
+
+/// Whether data races are told beside `none`: where none is found, and no range is asked for.
+fn is_asked_beside(range: Range, finding: &Finding<Why>) -> bool
+    ensures { IsAskedBeside range finding.now.halted result }
+{
+    match &finding.halted {
+        Some(_) => false,
+        None => are_all_numbers(range),
+    }
+}
+
+/// What is found among programs of a class text, and what is said of data races beside `none`.
 fn found<W: Watch>(
+    rt: &(impl Threads + Sync),
+    alloc: Global,
+    texts: Texts<'_>,
+    programs: &Programs<'_>,
+    range: Range,
+    watch: &mut W,
+) -> Result<String, ToolFault>
+    requires good { ¬ IsBadRange range (length (plans programs.now.family)) }
+    requires all { range.races ≡ false }
+    ensures gives { GivesText (FindsIn (option_map plain_text texts.entry.reference) texts.entry.classes.now
+        programs.now range) result }
+    ensures watched { GoesOn W.Since watch.old watch.new }
+{
+    let count = programs.family().count();
+    let numbers = numbers_of(range, count);
+    let Numbers { from, to } = numbers;
+    let explorer = Explorer {
+        specification: texts.reference,
+        classes: texts.classes,
+        states: range.states,
+        sought: range.sought,
+    };
+    let finding = searched(rt, &explorer, alloc, programs, numbers, watch)?;
+    let asked = is_asked_beside(range, &finding);
+    let races = RaceExplorer {
+        classes: texts.classes,
+        states: range.states,
+    };
+    let said = beside(rt, alloc, asked, &races, programs, watch)?;
+    finding_text(alloc, from, to, count, finding, said.as_str())
+}
+
+/// What is found of data races among programs of a class text.
+fn raced<W: Watch>(
+    rt: &(impl Threads + Sync),
+    alloc: Global,
+    texts: Texts<'_>,
+    programs: &Programs<'_>,
+    range: Range,
+    watch: &mut W,
+) -> Result<String, ToolFault>
+    requires good { ¬ IsBadRange range (length (plans programs.now.family)) }
+    requires alone { range.races ≡ true }
+    ensures gives { GivesText (FindsIn (option_map plain_text texts.entry.reference) texts.entry.classes.now
+        programs.now range) result }
+    ensures watched { GoesOn W.Since watch.old watch.new }
+{
+    let count = programs.family().count();
+    let numbers = numbers_of(range, count);
+    let Numbers { from, to } = numbers;
+    let races = RaceExplorer {
+        classes: texts.classes,
+        states: range.states,
+    };
+    let finding = searched(rt, &races, alloc, programs, numbers, watch)?;
+    let shown = told_finding(alloc, finding)?;
+    finding_text(alloc, from, to, count, shown, "")
+}
+
+/// What is found among programs of a class text: of data races alone, if that is asked.
+fn found_in<W: Watch>(
     rt: &(impl Threads + Sync),
     alloc: Global,
     texts: Texts<'_>,
@@ -119,21 +216,13 @@ fn found<W: Watch>(
         programs.now range) result }
     ensures watched { GoesOn W.Since watch.old watch.new }
 {
-    let count = programs.family().count();
-    if is_bad_range(range, count) {
+    if is_bad_range(range, programs.family().count()) {
         return Err(ToolFault::BadNumbers);
     }
-    let from = range.from - 1;
-    let to = range.to.min(count);
-    let numbers = Numbers { from, to };
-    let explorer = Explorer {
-        specification: texts.reference,
-        classes: texts.classes,
-        states: range.states,
-        sought: range.sought,
-    };
-    let finding = searched(rt, &explorer, alloc, programs, numbers, watch)?;
-    finding_text(alloc, from, to, count, finding)
+    if range.races {
+        return raced(rt, alloc, texts, programs, range, watch);
+    }
+    found(rt, alloc, texts, programs, range, watch)
 }
 
 /// The first program of a class text, by numbers of a range, that has a history that isn't linearizable; or, if these
@@ -145,6 +234,10 @@ fn found<W: Watch>(
 ///
 /// If no range is asked for and no reference is given, each call of the class runs alone, under one lock, and that
 /// decides what is looked for, this is said at once, whatever the bounds.
+///
+/// If no range is asked for and none is found, a line says of data races what a search for them says: that there is
+/// none, or the first program with one and the variable. If data races are looked for, nothing else is: the first
+/// program with one is found, and a schedule whose last two steps are the accesses.
 ///
 /// Refused with 61 as `explore` is; else as `programs_for` is; else with 70 if no program has the first number, or the
 /// last number comes before it; else as `compile` is for a program.
@@ -170,7 +263,7 @@ pub fn find<W: Watch>(
     }
     let made = programs_for(alloc, choosing, texts)?;
     let programs = made.programs();
-    found(rt, alloc, texts, &programs, range, watch)
+    found_in(rt, alloc, texts, &programs, range, watch)
 }
 
 /// The text of the program of a number, from 1, of a class text.

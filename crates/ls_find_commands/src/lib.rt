@@ -6,6 +6,7 @@ mod lacking;
 pub mod laws;
 mod menus;
 mod noting;
+mod racing;
 mod whole;
 
 pub use command::{Range, find, print_program};

@@ -1,14 +1,12 @@
 // Who watches explorations is told of programs.
 
-ghost use Rattle.std.specs.Prelude.{◌≤◌, IfOk, length, option_map};
-ghost use Rattle.ls_items.specs.Cutting.{plain_text};
+ghost use Rattle.std.specs.Prelude.{◌≤◌, IfOk, length};
 ghost use Rattle.ls_explore.specs.Watching.{GoesOn};
 ghost use Rattle.ls_families.specs.Families.{plans};
-ghost use Rattle.ls_find.specs.Family.{IsFound, PassedAreSound};
+ghost use Rattle.ls_family_search.specs.Searched.{IsFinding, PassedAreGood};
 
 use ls_explore::Watch;
-use ls_family_search::{Finding, Numbers, Programs, SearchWatch, search};
-use ls_find::{Explorer, Why};
+use ls_family_search::{Finding, Judge, Numbers, Programs, SearchWatch, search};
 use std::alloc::{AllocError, Global};
 use std::thread::Threads;
 
@@ -41,23 +39,21 @@ impl<W: Watch> SearchWatch for Noting<'_, W> {
 }
 
 /// What a search of programs finds. The watch notes how many are done.
-pub(crate) fn searched<W: Watch>(
+pub(crate) fn searched<J: Judge + Sync, W: Watch>(
     rt: &(impl Threads + Sync),
-    explorer: &Explorer<'_>,
+    judge: &J,
     alloc: Global,
     programs: &Programs<'_>,
     numbers: Numbers,
     watch: &mut W,
-) -> Result<Finding<Why>, AllocError>
+) -> Result<Finding<J::Why>, AllocError>
     requires order { numbers.from ≤ numbers.to }
     requires there { numbers.to ≤ length (plans programs.now.family) }
-    ensures finding { IfOk result (IsFound explorer.now.sought explorer.now.states
-        (option_map plain_text explorer.now.specification) explorer.now.classes.now programs.now numbers.from
-        numbers.to) }
-    ensures sound { IfOk result (PassedAreSound explorer.now.sought (option_map plain_text explorer.now.specification)
-        explorer.now.classes.now programs.now numbers.from) }
+    ensures finding { IfOk result (IsFinding programs.now (J.IsGood judge.now) (J.IsCut judge.now) (J.Halts judge.now)
+        numbers.from numbers.to) }
+    ensures good { IfOk result (PassedAreGood programs.now (J.IsGood judge.now) numbers.from) }
     ensures watched { GoesOn W.Since watch.old watch.new }
 {
     let mut noting = Noting::new(watch);
-    search(rt, explorer, alloc, programs, numbers, &mut noting)
+    search(rt, judge, alloc, programs, numbers, &mut noting)
 }

@@ -1,6 +1,6 @@
 // What is said of a class at once, whatever the bounds.
 
-ghost use Rattle.std.specs.Prelude.{◌≡◌, ◌↔◌, IfOk, IfSome, IsTrue, None, option_map, string_bytes};
+ghost use Rattle.std.specs.Prelude.{◌≡◌, ◌↔◌, IfOk, IfSome, IsTrue, None, false, option_map, string_bytes};
 ghost use Rattle.ls_items.specs.Cutting.{plain_text};
 ghost use Rattle.ls_find_commands.specs.Found.{AreAllNumbers, IsWhole, smallest};
 
@@ -57,13 +57,13 @@ fn whole(
 }
 
 /// Whether no range is asked for: it has the numbers of all programs that a family may have.
-fn are_all_numbers(range: Range) -> bool
+pub(crate) fn are_all_numbers(range: Range) -> bool
     ensures { IsTrue result ↔ AreAllNumbers range }
 {
     range.from == 1 && range.to >= 1_000_000
 }
 
-/// The same, if no range is asked for, and no reference is given.
+/// The same, if no range is asked for, no reference is given, and data races alone aren't looked for.
 pub(crate) fn at_once(
     alloc: Global,
     choosing: Choosing,
@@ -71,11 +71,12 @@ pub(crate) fn at_once(
     texts: Texts<'_>,
 ) -> Result<Option<String>, AllocError>
     ensures numbers { IfOk result (λ some. IfSome some (λ text. AreAllNumbers range)) }
+    ensures calls { IfOk result (λ some. IfSome some (λ text. range.races ≡ false)) }
     ensures own { IfOk result (λ some. IfSome some (λ text. option_map plain_text texts.entry.reference ≡ None)) }
     ensures text { IfOk result (λ some. IfSome some (λ text. IsWhole choosing range.sought texts.entry.classes.now
         (option_map plain_text texts.entry.menu) (string_bytes text))) }
 {
-    if texts.reference.is_some() || !are_all_numbers(range) {
+    if range.races || texts.reference.is_some() || !are_all_numbers(range) {
         return Ok(None);
     }
     whole(alloc, choosing, range.sought, texts)

@@ -22,6 +22,7 @@ abbrev pub range_of : Seeking → Range
 range_of s = record {
   states = s.states;
   sought = record { waiting = s.waiting; turning = s.turning; set = s.set };
+  races = s.races;
   from = s.from;
   to = s.to;
 }

@@ -26,6 +26,7 @@ use Rattle.ls_explore_commands.specs.Explored.{ExploresTo}
 use Rattle.ls_explore_commands.specs.Likeness.{ExploresLike, VerdictsLike}
 use Rattle.ls_explore_reports.specs.declared.printing.Exploring.{Exploring}
 use Rattle.ls_explore_commands.specs.Verdicts.{VerdictsTo}
+use Rattle.ls_explore_commands.specs.Races.{RacesTo}
 use Rattle.ls_commands.specs.Viewed.{ViewsTo}
 use Rattle.ls_commands.specs.declared.showing.View.{View}
 use Rattle.ls_commands.specs.declared.showing.View.TheVariants as views
@@ -113,11 +114,17 @@ abbrev pub Verdicts : Bool → ℕ → Text → Text → Result Text ToolFault �
 Verdicts false states classes program answer = VerdictsTo states classes program answer
 Verdicts true states classes program answer = answer ≡ Err faults.BadOptions
 
+-- a run with a data race alone, where no option is given that goes with the histories or with a wrong run
+abbrev pub Races : Bool → ℕ → Text → Text → Result Text ToolFault → Type 0
+Races false states classes program answer = RacesTo states classes program answer
+Races true states classes program answer = answer ≡ Err faults.BadOptions
+
 -- and one that goes through all schedules
 abbrev pub Explores : Request → List Text → Result Text ToolFault → Type 0
 Explores (requests.Explore cells states illegal first order progress) parts answer = OnTwo
     (ExploresTo (exploring cells states illegal first order)) parts answer
 Explores (requests.Verdict states mixed) parts answer = OnTwo (Verdicts mixed states) parts answer
+Explores (requests.Races states mixed) parts answer = OnTwo (Races mixed states) parts answer
 Explores other parts answer = answer ≡ Err faults.WrongParts
 
 -- what a command may answer on the parts of an input: a text or a fault
@@ -142,6 +149,7 @@ Answers (requests.Sample seed steps switch cells) parts answer = Samples (reques
 Answers (requests.Explore cells states illegal first order progress) parts answer = Explores
     (requests.Explore cells states illegal first order progress) parts answer
 Answers (requests.Verdict states mixed) parts answer = Explores (requests.Verdict states mixed) parts answer
+Answers (requests.Races states mixed) parts answer = Explores (requests.Races states mixed) parts answer
 Answers (requests.Find seeking) parts answer = OnFind seeking parts answer
 Answers (requests.Merge count) parts answer = answer ≡ Err faults.WrongParts
 
@@ -166,7 +174,8 @@ abbrev pub VerdictsBy : Bool → ℕ → Text → Text → Text → Result Text 
 VerdictsBy false states classes program reference answer = VerdictsLike states reference classes program answer
 VerdictsBy true states classes program reference answer = answer ≡ Err faults.BadOptions
 
--- what a command may answer that a reference is given; no other takes one
+-- What a command may answer that a reference is given; no other takes one. None goes with data races, which are those
+-- of a class text alone.
 abbrev pub AnswersByReference : Request → List Text → Result Text ToolFault → Type 0
 AnswersByReference requests.Order parts answer =
     OnFour (λ classes program history reference. OrdersLike reference classes program history) parts answer
@@ -174,6 +183,7 @@ AnswersByReference (requests.Explore cells states illegal first order progress) 
     (λ classes program reference. ExploresLike (exploring cells states illegal first order) reference classes program)
     parts answer
 AnswersByReference (requests.Verdict states mixed) parts answer = OnThree (VerdictsBy mixed states) parts answer
+AnswersByReference (requests.Races states mixed) parts answer = answer ≡ Err faults.BadOptions
 AnswersByReference (requests.Batch seed count steps switch cells judge) parts answer = OnThree
     (BatchesLike judge cells (sampling seed count (drawing steps switch))) parts answer
 AnswersByReference (requests.Find seeking) parts answer = FindsByReference seeking parts answer

@@ -57,9 +57,9 @@ fn decide<R: Threads + Wait + Sync, W: Watch>(
         Request::Translate { to, cells } => on_translate(alloc, to, cells as usize, parts),
         Request::Live { cells, limit } => on_live(rt, alloc, cells as usize, limit as usize, parts),
         Request::Batch { .. } | Request::Sample { .. } => on_samples(rt, alloc, request, parts),
-        Request::Explore { .. } | Request::Verdict { .. } => on_schedules(
-            alloc, request, parts, watch,
-        ),
+        Request::Explore { .. } | Request::Verdict { .. } | Request::Races { .. } => {
+            on_schedules(alloc, request, parts, watch)
+        }
         Request::Find(seeking) => on_find(rt, alloc, seeking, parts, watch),
         Request::Merge { .. } => Err(ToolFault::WrongParts),
     }
@@ -92,6 +92,7 @@ fn decide_like<R: Threads + Wait + Sync, W: Watch>(
             on_explore_like(alloc, exploring, parts, watch)
         }
         Request::Verdict { states, mixed } => on_verdict_like(alloc, states as usize, mixed, parts),
+        Request::Races { .. } => Err(ToolFault::BadOptions),
         Request::Batch {
             seed,
             count,

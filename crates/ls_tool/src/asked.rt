@@ -60,6 +60,7 @@ fn range_of(seeking: Seeking) -> Range
             turning: seeking.turning,
             set: seeking.set,
         },
+        races: seeking.races,
         from: seeking.from,
         to: seeking.to,
     }

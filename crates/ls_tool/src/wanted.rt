@@ -18,7 +18,8 @@ fn wanted_parts(request: Request) -> &'static str
         | Request::Batch { .. }
         | Request::Sample { .. }
         | Request::Explore { .. }
-        | Request::Verdict { .. } => "two parts, class text and thread program",
+        | Request::Verdict { .. }
+        | Request::Races { .. } => "two parts, class text and thread program",
         Request::Page(_) => {
             "two to four parts, class text, thread program, schedule and an order"
         }

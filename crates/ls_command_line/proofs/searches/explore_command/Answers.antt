@@ -10,4 +10,5 @@ returns-clause-shape c =
     let order = c.with_option-command-3.ensures.shape _ _ first c.flag_option-order.ensures.rule in
     let progress = c.with_option-command-4.ensures.shape _ _ order c.flag_option-progress.ensures.rule in
     let verdict = c.with_option-command-5.ensures.shape _ _ progress c.flag_option-verdict.ensures.rule in
-    c.with_reference.ensures.shape _ verdict
+    let races = c.with_option-command-6.ensures.shape _ _ verdict c.flag_option-races.ensures.rule in
+    c.with_reference.ensures.shape _ races

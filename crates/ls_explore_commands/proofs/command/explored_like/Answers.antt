@@ -18,7 +18,7 @@ use Rattle.ls_explore_reports.specs.ImageNames.{names_in}
 use Rattle.ls_explore_reports.specs.Judged.{AreMeant, IsToldBelowLike, Judged}
 use Rattle.ls_explore_reports.specs.Printing.{last_text, rows_text, shown}
 use Rattle.ls_explore_commands.specs.Likeness.{ExploredLike, Tells}
-use Rattle.ls_explore_commands.proofs.Decisions.{at_same}
+use Rattle.ls_race_reports.proofs.Same.{at_same}
 use Rattle.ls_explore_commands.proofs.LikenessLemmas.{like_fails, like_so, long_like_fails}
 use Rattle.ls_explore_commands.proofs.command.explored_like.Goals as goal
 

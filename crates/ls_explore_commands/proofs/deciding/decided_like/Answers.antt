@@ -10,7 +10,7 @@ use Rattle.ls_types_checked.specs.CheckedFile.{elaborated_file}
 use Rattle.ls_specification.specs.Specification.{spec_file, spec_program}
 use Rattle.ls_translation.specs.Texts.{file_of, program_of}
 use Rattle.ls_explore_commands.specs.Verdicts.{Decided}
-use Rattle.ls_explore_commands.proofs.Decisions.{at_same}
+use Rattle.ls_race_reports.proofs.Same.{at_same}
 use Rattle.ls_explore_commands.proofs.deciding.decided_like.Goals as goal
 
 pub returns : goal.returns

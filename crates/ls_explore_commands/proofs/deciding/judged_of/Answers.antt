@@ -12,7 +12,7 @@ use Rattle.ls_translation.specs.Texts.{file_of, program_of}
 use Rattle.ls_search_laws.specs.Stepping.{SetsUp}
 use Rattle.ls_search.specs.Verdicts.{AreAll, AreReached, IsCut, NeverStuck}
 use Rattle.ls_source_judge.specs.Judged.{AllLike, IsStuckRun, IsUnjudgedRun, IsUnlikeRun}
-use Rattle.ls_explore_commands.proofs.Decisions.{at_same}
+use Rattle.ls_race_reports.proofs.Same.{at_same}
 use Rattle.ls_explore_commands.proofs.deciding.judged_of.Goals as goal
 
 pub returns-clause-free : goal.returns-clause-free

@@ -8,7 +8,7 @@ use Rattle.ls_checked.specs.PlainProgram.{plain_program}
 use Rattle.ls_types_checked.specs.CheckedFile.{elaborated_file}
 use Rattle.ls_spinning.specs.Told.{IsTurning}
 use Rattle.ls_translation.specs.Texts.{file_of, program_of}
-use Rattle.ls_explore_commands.proofs.Decisions.{at_same}
+use Rattle.ls_race_reports.proofs.Same.{at_same}
 use Rattle.ls_explore_commands.proofs.deciding.turning_of.Goals as goal
 
 pub returns : goal.returns

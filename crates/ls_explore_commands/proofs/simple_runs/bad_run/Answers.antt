@@ -10,7 +10,7 @@ use Rattle.ls_search_laws.specs.Stepping.{ActAll}
 use Rattle.ls_source_judge.specs.Judged.{IsNotLike, IsSimplestUnlike}
 use Rattle.ls_specification.specs.Specification.{spec_file, spec_program}
 use Rattle.ls_translation.specs.Texts.{file_of, program_of}
-use Rattle.ls_explore_commands.proofs.Decisions.{at_same}
+use Rattle.ls_race_reports.proofs.Same.{at_same}
 use Rattle.ls_explore_commands.proofs.SimpleRuns.{kept}
 use Rattle.ls_explore_commands.proofs.simple_runs.bad_run.Goals as goal
 

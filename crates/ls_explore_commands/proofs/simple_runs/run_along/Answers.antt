@@ -12,7 +12,7 @@ use Rattle.ls_search_laws.specs.Stepping.{ActAll}
 use Rattle.ls_source_judge.specs.Judged.{IsUnexplained}
 use Rattle.ls_serial_search.specs.Told.{usual}
 use Rattle.ls_translation.specs.Texts.{file_of, program_of}
-use Rattle.ls_explore_commands.proofs.Decisions.{at_same}
+use Rattle.ls_race_reports.proofs.Same.{at_same}
 use Rattle.ls_explore_commands.proofs.SimpleRuns.{kept}
 use Rattle.ls_explore_commands.proofs.simple_runs.run_along.Goals as goal
 

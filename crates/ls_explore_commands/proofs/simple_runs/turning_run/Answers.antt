@@ -10,7 +10,7 @@ use Rattle.ls_search_laws.specs.Stepping.{ActAll}
 use Rattle.ls_spinning.specs.Turning.{TurnsForEver}
 use Rattle.ls_translation.specs.Texts.{file_of, program_of}
 use Rattle.ls_explore_commands.specs.Readable.{IsReadBack}
-use Rattle.ls_explore_commands.proofs.Decisions.{at_same}
+use Rattle.ls_race_reports.proofs.Same.{at_same}
 use Rattle.ls_explore_commands.proofs.SimpleRuns.{turns_too}
 use Rattle.ls_explore_commands.proofs.simple_runs.turning_run.Goals as goal
 

@@ -1,6 +1,6 @@
 -- Why `find` in src/command.rt keeps its clause `gives`.
 
-use Rattle.std.proofs.Common.{◌≡◌, subst}
+use Rattle.std.proofs.Common.{◌≡◌, false, subst}
 use Rattle.std.specs.Prelude.{IfSome, None, option_map, string_bytes}
 use Rattle.std.proofs.lemmas.Result.{err_from_is_err_and}
 use Rattle.ls_explore.specs.Faults.{AreBadStates}
@@ -24,6 +24,7 @@ returns-in-Some-clause-gives g c =
     let classes = c.args.texts.classes.now in
     AtOnce (string_bytes c.in-Some.text) good
     (subst (λ o. IfSome o (λ text. AreAllNumbers c.args.range)) c.in-Some.is c.in_ok-text.ensures.numbers)
+    (subst (λ o. IfSome o (λ text. c.args.range.races ≡ false)) c.in-Some.is c.in_ok-text.ensures.calls)
     (subst (λ o. IfSome o (λ text. option_map plain_text c.args.texts.reference ≡ None)) c.in-Some.is
     c.in_ok-text.ensures.own)
     (subst (λ o. IfSome o (λ text. IsWhole c.args.choosing c.args.range.sought classes menu (string_bytes text)))
@@ -47,7 +48,7 @@ returns-clause-gives g c =
     let classes = c.args.texts.classes.now in
     let reference = option_map plain_text c.args.texts.reference in
     wider (FindsIn reference classes c.programs-programs.result c.args.range)
-    (FindsTo c.args.choosing c.args.range reference classes (option_map plain_text c.args.texts.menu)) c.found.result
+    (FindsTo c.args.choosing c.args.range reference classes (option_map plain_text c.args.texts.menu)) c.found_in.result
     (λ a h. Among c.in_ok-made.made a good c.in_ok-made.ensures.programs
     (subst (λ (p : Programs). FindsIn reference classes p c.args.range a) c.programs-programs.ensures h))
-    c.found.ensures.gives
+    c.found_in.ensures.gives

@@ -1,0 +1,3 @@
+pub mod Raced
+pub mod Doubles
+pub mod Family

@@ -1,0 +1,5 @@
+pub mod Quiet
+pub mod Renamed
+pub mod Setup
+pub mod Shapes
+pub mod Racing

@@ -1,0 +1,3 @@
+pub mod ClassFlags
+pub mod Sure
+pub mod Words

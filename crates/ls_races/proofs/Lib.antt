@@ -1,0 +1,7 @@
+mod Configurations
+mod Nexts
+mod Stepped
+mod Replayed
+mod Covering
+mod Sights
+mod Told

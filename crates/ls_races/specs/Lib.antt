@@ -1,0 +1,6 @@
+pub mod Volatile
+pub mod Met
+pub mod Moves
+pub mod Races
+pub mod Flags
+pub mod Sought
