@@ -1,11 +1,10 @@
 -- What a graph of a program's states tells of the data races of all its schedules.
-use Rattle.std.proofs.Common.{◌≡◌, ◌⊎◌, inl, inr, ◌<◌, ℕ, Bool, List, [], ◌∷◌, ◌++◌, None, fold, length, refl, sym, ap}
-use Rattle.std.proofs.Common.{◌∙◌, subst, append-nil, append_assoc}
+use Rattle.std.proofs.Common.{ℕ, Bool, List, [], fold, length, subst, sym}
 use Rattle.ls_checked.specs.CheckedTree.{File}
 use Rattle.ls_checked.specs.CheckedProgram.{Program}
 use Rattle.ls_meaning.specs.Runs.{source_run}
-use Rattle.ls_search_laws.specs.Configuration.{configuration_of, stride}
-use Rattle.ls_search_laws.specs.Noticing.{Noticed, noticed_of}
+use Rattle.ls_search_laws.specs.Configuration.{configuration_of}
+use Rattle.ls_search_laws.specs.Noticing.{noticed_of}
 use Rattle.ls_search_laws.proofs.Cells.{turns_fair}
 use Rattle.ls_search.specs.Near.{Run}
 use Rattle.ls_search.proofs.Covering.{run_of}
