@@ -1,8 +1,7 @@
 // The data races of an image's program.
 
-ghost use Rattle.std.specs.Prelude.{IfOk, IsTrue, [], map};
+ghost use Rattle.std.specs.Prelude.{◌≡◌, [], IfOk, IsTrue, map};
 ghost use Rattle.std.specs.Option.{option_copied};
-ghost use Rattle.std.specs.Prelude.{◌≡◌};
 ghost use Rattle.ls_race_laws.specs.Meeting.{NeverMeets};
 ghost use Rattle.ls_races.specs.Races.{AllAreOn, AreRaces, kinds_of};
 ghost use Rattle.ls_races.specs.Volatile.{volatile_by};

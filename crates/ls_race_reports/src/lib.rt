@@ -1,4 +1,4 @@
-//! Which fields of a class text are volatile, and the variables on which accesses race, as words.
+//! The data races of an image's program, by the fields that its class text declares volatile, and variables as words.
 #![tactic(auto)]
 
 mod declared;

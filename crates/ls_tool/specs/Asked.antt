@@ -1,5 +1,5 @@
 -- What `find` is asked.
-use Rattle.std.specs.Prelude.{◌≡◌, ℕ, MatchBool, Option, Some, None, Result, Err}
+use Rattle.std.specs.Prelude.{◌≡◌, ◌&&◌, ◌||◌, ℕ, Bool, MatchBool, Option, Some, None, Result, Err, not}
 use Rattle.ls_class_programs.specs.declared.choosing.Choosing.{Choosing}
 use Rattle.ls_command_line.specs.declared.words.Seeking.{Seeking}
 use Rattle.ls_faults.specs.declared.fault.ToolFault.{ToolFault}
@@ -27,9 +27,19 @@ range_of s = record {
   to = s.to;
 }
 
+-- data races are looked for, and an option is given for what is looked for else
+abbrev pub is_mixed : Seeking → Bool
+is_mixed s = s.races && (s.set || not (s.waiting && s.turning))
+
+-- the first program that is bad; data races are looked for alone
+abbrev pub FindsFirst : Seeking → Option Text → Text → Option Text → Result Text ToolFault → Type 0
+FindsFirst s reference classes menu answer =
+    MatchBool (is_mixed s) (answer ≡ Err faults.BadOptions)
+    (FindsTo (choosing_of s) (range_of s) reference classes menu answer)
+
 -- one program is printed, or the first is found that is bad
 abbrev pub asked_for : Seeking → Option ℕ → Option Text → Text → Option Text → Result Text ToolFault → Type 0
-asked_for s None reference classes menu answer = FindsTo (choosing_of s) (range_of s) reference classes menu answer
+asked_for s None reference classes menu answer = FindsFirst s reference classes menu answer
 asked_for s (Some n) reference classes menu answer = PrintsTo (choosing_of s) n reference classes menu answer
 
 -- on a class text, and on a reference and a menu that is written by hand if they are given

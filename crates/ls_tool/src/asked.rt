@@ -4,7 +4,7 @@ ghost use Rattle.std.specs.Prelude.{◌≡◌, map, option_map};
 ghost use Rattle.ls_explore.specs.Watching.{GoesOn};
 ghost use Rattle.ls_faults.specs.Given.{GivesText};
 ghost use Rattle.ls_items.specs.Cutting.{plain_text};
-ghost use Rattle.ls_tool.specs.Asked.{OnClass, OnClassLike, choosing_of, range_of};
+ghost use Rattle.ls_tool.specs.Asked.{FindsFirst, OnClass, OnClassLike, choosing_of, is_mixed, range_of};
 ghost use Rattle.ls_tool.specs.Output.{FindsByReference, OnFind};
 
 use ls_command_line::Seeking;
@@ -13,6 +13,32 @@ use ls_faults::fault::ToolFault;
 use ls_find_commands::{Bounds, Choosing, Range, Sought, Texts, find, print_program};
 use std::alloc::Global;
 use std::thread::Threads;
+
+/// Whether data races are looked for, and an option is given for what is looked for else.
+fn is_mixed(seeking: Seeking) -> bool
+    ensures { result ≡ is_mixed seeking }
+{
+    seeking.races && (seeking.set || !(seeking.waiting && seeking.turning))
+}
+
+/// The first program that is bad. Data races are looked for alone: else the options are refused with 71.
+fn find_first<R: Threads + Sync, W: Watch>(
+    rt: &R,
+    alloc: Global,
+    seeking: Seeking,
+    texts: Texts<'_>,
+    watch: &mut W,
+) -> Result<String, ToolFault>
+    ensures gives { GivesText (FindsFirst seeking (option_map plain_text texts.entry.reference)
+        texts.entry.classes.now (option_map plain_text texts.entry.menu)) result }
+    ensures watched { GoesOn W.Since watch.old watch.new }
+{
+    if is_mixed(seeking) {
+        return Err(ToolFault::BadOptions);
+    }
+    let choosing = choosing_of(seeking);
+    find(rt, alloc, choosing, range_of(seeking), texts, watch)
+}
 
 /// What `find` answers on a class text, and on a reference and a menu that is written by hand if they are given.
 fn on_class<R: Threads + Sync, W: Watch>(
@@ -26,11 +52,10 @@ fn on_class<R: Threads + Sync, W: Watch>(
         texts.entry.classes.now (option_map plain_text texts.entry.menu)) result }
     ensures watched { GoesOn W.Since watch.old watch.new }
 {
-    let choosing = choosing_of(seeking);
     if let Some(number) = seeking.print {
-        return print_program(alloc, choosing, number, texts);
+        return print_program(alloc, choosing_of(seeking), number, texts);
     }
-    find(rt, alloc, choosing, range_of(seeking), texts, watch)
+    find_first(rt, alloc, seeking, texts, watch)
 }
 
 /// Which class of the text is chosen, and what its programs may be.
