@@ -1,5 +1,6 @@
 //! Steps of the machine, to be timed: `bench_machine WAY PART STEPS`. The way is step or run: by `Machine::step`, or by
-//! `Machine::run` of schedules of 1,000 steps. The part is arithmetic, fields, calls, locks, whole_locks, turns or methods.
+//! `Machine::run` of schedules of 1,000 steps. The part is arithmetic, fields, calls, locks, whole_locks, turns or
+//! methods.
 #![tactic(auto)]
 
 mod images;
@@ -52,8 +53,8 @@ fn run(machine: &mut Machine, schedule: &Schedule, steps: u64, by_turns: bool) {
     step(machine, steps % TURN, by_turns);
 }
 
-/// A number of the machines after so many steps, the same for the same machines. Steps of short methods are taken on one machine
-/// after another.
+/// A number of the machines after so many steps, the same for the same machines. Steps of short methods are taken on
+/// one machine after another.
 fn timed(alloc: Global, code: &Code, part: Part, steps: u64, way: Way) -> Result<u64, LoadFault> {
     let (machines, cells, each) = match part {
         Part::Methods => (steps / SHORT_STEPS, 1024, SHORT_STEPS),

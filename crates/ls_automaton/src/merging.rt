@@ -64,8 +64,8 @@ fn renamed_row(
     Ok(renamed)
 }
 
-/// The outcomes of each state, from the last state to the first. Each leads to the last state that does the same as the one
-/// to which it led, if one was found. The only refusal is that memory ran out.
+/// The outcomes of each state, from the last state to the first. Each leads to the last state that does the same as the
+/// one to which it led, if one was found. The only refusal is that memory ran out.
 fn renamed_rows(alloc: Global, rows: &[Vec<Outcome>]) -> Result<Vec<Vec<Outcome>>, AllocError> {
     let mut names = Vec::new(alloc);
     for state in 0..rows.len() {
@@ -106,7 +106,8 @@ fn is_alike(rows: &[Vec<Outcome>], outcome: &Outcome, other: &Outcome) -> bool
     are_same_outcomes(row_at(rows, outcome.after), row_at(rows, other.after))
 }
 
-/// Whether outcomes have the same ends, one by one, and lead to states with the same outcomes. True only where it is so.
+/// Whether outcomes have the same ends, one by one, and lead to states with the same outcomes. True only where it is
+/// so.
 fn are_alike(rows: &[Vec<Outcome>], row: &[Outcome], other: &[Outcome]) -> bool
     ensures { IsTrue result → AreAlikeIn rows.now row.now other.now }
 {

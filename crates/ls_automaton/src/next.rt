@@ -37,8 +37,8 @@ fn add_calls(rows: &[Vec<Outcome>], pair: &Pair, next: &mut Vec<Event>) -> Resul
     Ok(())
 }
 
-/// Adds the ends with which pending calls may end from a pair, if at most so many take effect before. The only refusal is
-/// that memory ran out.
+/// Adds the ends with which pending calls may end from a pair, if at most so many take effect before. The only refusal
+/// is that memory ran out.
 fn add_ends(
     alloc: Global,
     rows: &[Vec<Outcome>],

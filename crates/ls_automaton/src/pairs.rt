@@ -84,7 +84,8 @@ pub(crate) fn taking_pair(alloc: Global, pair: &Pair, outcome: &Outcome) -> Resu
     })
 }
 
-/// Adds what a pair becomes with this end, if the call has taken effect with it. The only refusal is that memory ran out.
+/// Adds what a pair becomes with this end, if the call has taken effect with it. The only refusal is that memory ran
+/// out.
 fn add_kept(
     alloc: Global,
     pair: &Pair,

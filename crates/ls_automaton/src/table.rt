@@ -116,8 +116,8 @@ fn steps_to<'a>(alloc: Global, spots: &[Spot<'a>], number: usize) -> Result<Vec<
     Ok(steps)
 }
 
-/// What calls do in each state to which calls lead that run one at a time, each for at most so many steps. None if there
-/// are more states than so many. The source alone is run, with no cells. The only refusal is that memory ran out.
+/// What calls do in each state to which calls lead that run one at a time, each for at most so many steps. None if
+/// there are more states than so many. The source alone is run, with no cells. The only refusal is that memory ran out.
 pub fn table_of(
     alloc: Global,
     file: &File,

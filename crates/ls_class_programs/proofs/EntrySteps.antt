@@ -42,7 +42,8 @@ all_items P xs i all before k y e = by_place (cases_lt k i)
         absurd (none_is (sym (slice_get_past xs k over) ∙ e))
 
 -- entries before one are calls, and that one isn't
-pub no_call : (classes making : Text) (threads : ℕ) (menu : Text) (i : ℕ) (e : Entry) → slice_get (entries menu) i ≡ Some e →
+pub no_call : (classes making : Text) (threads : ℕ) (menu : Text) (i : ℕ) (e : Entry) →
+    slice_get (entries menu) i ≡ Some e →
     ((k : ℕ) → k < i → (y : Entry) → slice_get (entries menu) k ≡ Some y → AreCalls classes making threads y) →
     (f : EntryFault) → (f ≡ faults.Memory) ⊎ IsNoCall classes making threads e f →
     (f ≡ faults.Memory) ⊎ HasNoCall classes making threads menu f

@@ -112,5 +112,6 @@ pub place_fails : {T : Type 0} (o : Choosing) (classes : Text) (menu : Option Te
     ((c : ClassTree) → slice_get cs at ≡ Some c → Chooses o classes c) → IfErr r (LacksAtPlace o menu cs at) →
     IfErr r (IsClassFault o classes menu)
 place_fails o classes menu cs at (Ok x) chooses lacks = tt
-place_fails o classes menu cs at (Err f) chooses (inl memory) = subst (IsClassFault o classes menu) (sym memory) OutOfMemory
+place_fails o classes menu cs at (Err f) chooses (inl memory) = subst (IsClassFault o classes menu)
+    (sym memory) OutOfMemory
 place_fails o classes menu cs at (Err f) chooses (inr there) = NoPrograms there.0 f (chooses there.0 there.1) there.2

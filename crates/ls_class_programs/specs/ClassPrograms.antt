@@ -71,7 +71,8 @@ abbrev pub AreOfPlace : Choosing → Option Text → List ClassTree → ℕ → 
 AreOfPlace o menu cs at p = (c : ClassTree) × (slice_get cs at ≡ Some c) × AreOfClass o menu c p
 
 abbrev pub LacksAtPlace : Choosing → Option Text → List ClassTree → ℕ → ClassFault → Type 0
-LacksAtPlace o menu cs at f = (f ≡ faults.Memory) ⊎ ((c : ClassTree) × (slice_get cs at ≡ Some c) × LacksPrograms o menu c f)
+LacksAtPlace o menu cs at f = (f ≡ faults.Memory) ⊎ ((c : ClassTree) × (slice_get cs at ≡ Some c) ×
+    LacksPrograms o menu c f)
 
 -- the text spells no file
 pub record SpellsNone (classes : Text) (f : TextFault) : Type 0 where
@@ -87,4 +88,5 @@ pub data IsClassFault (o : Choosing) (classes : Text) (menu : Option Text) : Cla
       TextSpells file classes →
       chosen o.class (spell file) file.classes ≡ None →
       IsClassFault o classes menu faults.NotOneClass
-  NoPrograms : (c : ClassTree) (f : ClassFault) → Chooses o classes c → LacksPrograms o menu c f → IsClassFault o classes menu f
+  NoPrograms : (c : ClassTree) (f : ClassFault) → Chooses o classes c → LacksPrograms o menu c f →
+      IsClassFault o classes menu f

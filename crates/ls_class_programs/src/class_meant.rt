@@ -2,7 +2,8 @@
 
 ghost use Rattle.std.specs.Prelude.{◌≡◌, map};
 ghost use Rattle.ls_lexer.specs.Lexemes.{lexeme_of, lexemes};
-ghost use Rattle.ls_class_programs.specs.Meant.{is_class_word, is_free, is_name, is_named, is_other, meant, opens_class};
+ghost use Rattle.ls_class_programs.specs.Meant.{is_class_word, is_free, is_name, is_named, is_other, meant};
+ghost use Rattle.ls_class_programs.specs.Meant.{opens_class};
 ghost use Rattle.ls_tree.specs.Views.{bare_class};
 
 use ls_lexer::token::{Token, TokenKind};

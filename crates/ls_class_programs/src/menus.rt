@@ -5,7 +5,8 @@ ghost use Rattle.std.specs.List.{list_any};
 ghost use Rattle.ls_tree.specs.Views.{bare_class, bare_member, bare_modifier, bare_modifiers, bare_parameter};
 ghost use Rattle.ls_tree.specs.Views.{bare_type};
 ghost use Rattle.ls_class_programs.specs.Limits.{AreTooMany, ClassHasTooMany, HasTooMany};
-ghost use Rattle.ls_class_programs.specs.Menus.{all_arguments, call_text, class_calls, constructor_parameters, is_callable};
+ghost use Rattle.ls_class_programs.specs.Menus.{all_arguments, call_text, class_calls, constructor_parameters};
+ghost use Rattle.ls_class_programs.specs.Menus.{is_callable};
 ghost use Rattle.ls_class_programs.specs.Menus.{is_plain, is_private, making_text, makings, member_calls, only, up_to};
 
 use crate::arguments::{all_arguments, only, up_to};

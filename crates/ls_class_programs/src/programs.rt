@@ -148,12 +148,12 @@ fn of_place(
 }
 
 /// The programs of the class that is chosen of a class text. Each makes an object by its first constructor, with the
-/// integer that is given and `false` for its parameters. Its calls are those of a menu that is written by hand, if one is given, and else of the
-/// class's menu.
+/// integer that is given and `false` for its parameters. Its calls are those of a menu that is written by hand, if one
+/// is given, and else of the class's menu.
 ///
-/// `BadBounds` comes if there are no integers or more than 9, or the constructor is given none of these 9. Else `Text` comes as of `parse_text`, and `NotOneClass`
-/// if no class is chosen. Else, if memory doesn't run out, a fault says why the class has no programs: `TooManyCalls`,
-/// `NoMaking`, `NoCalls`, `BadBounds` or `TooManyPrograms`.
+/// `BadBounds` comes if there are no integers or more than 9, or the constructor is given none of these 9. Else `Text`
+/// comes as of `parse_text`, and `NotOneClass` if no class is chosen. Else, if memory doesn't run out, a fault says why
+/// the class has no programs: `TooManyCalls`, `NoMaking`, `NoCalls`, `BadBounds` or `TooManyPrograms`.
 pub fn programs_of(
     alloc: Global,
     choosing: Choosing,

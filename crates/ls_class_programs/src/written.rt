@@ -108,8 +108,8 @@ fn push_entry(entries: &mut Vec<Entry>, at: usize, calls: String) -> Result<(), 
     Ok(())
 }
 
-/// The entries of a menu that is written by hand. Each line is one, but for those that are empty or begin with `//`. Its
-/// calls are separated by `;`, and the object isn't named. The only refusal is that memory ran out.
+/// The entries of a menu that is written by hand. Each line is one, but for those that are empty or begin with `//`.
+/// Its calls are separated by `;`, and the object isn't named. The only refusal is that memory ran out.
 pub fn entries_of(alloc: Global, text: &str) -> Result<Vec<Entry>, AllocError>
     ensures { IfOk result (λ all. all.items ≡ entries text.now) }
 {

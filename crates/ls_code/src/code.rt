@@ -142,7 +142,14 @@ impl Model for Parts {
 
     ghost Value = { CodeValue };
 
-    ghost view = { λ p. record { instructions = p.instructions.items; handlers = p.handlers.items; methods = p.methods.items; sizes = p.sizes.items; starts = p.starts.items; names = p.names } };
+    ghost view = { λ p. record {
+      instructions = p.instructions.items;
+      handlers = p.handlers.items;
+      methods = p.methods.items;
+      sizes = p.sizes.items;
+      starts = p.starts.items;
+      names = p.names;
+    } };
 }
 
 /// What the machine runs: the code of all units, and what is known of methods, classes, threads and setup names. Its

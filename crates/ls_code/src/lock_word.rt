@@ -1,7 +1,8 @@
 // What a lock's word becomes.
 
 ghost use Rattle.std.specs.Prelude.{◌≡◌, ◌≤◌};
-ghost use Rattle.ls_code.specs.Locks.{LockState, IsLock, lock_word_of, lock_by, unlock_by, taken_in_words, left_in_words, taken_of, left_of, is_own};
+ghost use Rattle.ls_code.specs.Locks.{LockState, IsLock, lock_word_of, lock_by, unlock_by, taken_in_words};
+ghost use Rattle.ls_code.specs.Locks.{left_in_words, taken_of, left_of, is_own};
 
 use std::alloc::AllocError;
 
@@ -41,7 +42,8 @@ const MOST_HOLDS: u64 = 2_147_483_647;
 /// `lock()` by a thread on a lock's word.
 pub fn lock_word(word: u64, thread: usize) -> Taken
     requires { thread ≤ 64 }
-    ensures on_locks { (state : LockState) → IsLock state → word ≡ lock_word_of state → result ≡ taken_in_words (lock_by thread state) }
+    ensures on_locks { (state : LockState) → IsLock state → word ≡ lock_word_of state → result ≡
+        taken_in_words (lock_by thread state) }
     ensures on_words { result ≡ taken_of word thread }
 {
     if word == 0 {
@@ -59,7 +61,8 @@ pub fn lock_word(word: u64, thread: usize) -> Taken
 /// `unlock()` by a thread on a lock's word.
 pub fn unlock_word(word: u64, thread: usize) -> Left
     requires { thread ≤ 64 }
-    ensures on_locks { (state : LockState) → IsLock state → word ≡ lock_word_of state → result ≡ left_in_words (unlock_by thread state) }
+    ensures on_locks { (state : LockState) → IsLock state → word ≡ lock_word_of state → result ≡
+        left_in_words (unlock_by thread state) }
     ensures on_words { result ≡ left_of word thread }
 {
     if !is_own_word(word, thread) {

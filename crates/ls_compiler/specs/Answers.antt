@@ -27,7 +27,8 @@ use Rattle.ls_image.specs.declared.image.Image.{Image}
 -- An image has the code that is made of its file and its program, so that one code runs wherever two texts are
 -- compiled; and it keeps each limit of the code.
 pub record IsWithinLimits (image : Image) : Type 0 where
-  pub made : code_of_image image ≡ code_of (elaborated_file (checked_of image)).file (plain_program (program_of_image image))
+  pub made : code_of_image image ≡ code_of (elaborated_file (checked_of image)).file
+      (plain_program (program_of_image image))
   pub limits : KeepsLimits (elaborated_file (checked_of image)).file (plain_program (program_of_image image))
 
 -- The texts are compiled, or a fault says why not. The class text spells no file; then each fault comes only if it may

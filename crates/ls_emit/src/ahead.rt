@@ -55,9 +55,12 @@ fn put_two(
     first: &Statement,
     second: &Statement,
 ) -> Result<usize, AllocError>
-    requires { statement_size (plain_statement first.now) + statement_size (plain_statement second.now) ≤ most_instructions }
-    ensures size { IfOk result (λ n. n ≡ statement_size (plain_statement first.now) + statement_size (plain_statement second.now)) }
-    ensures ahead { OnOk result (reverse out.new.items ≡ statement_size (plain_statement second.now) ∷ sizes_ahead (plain_statement first.now) (sizes_ahead (plain_statement second.now) (reverse out.old.items))) }
+    requires { statement_size (plain_statement first.now) + statement_size (plain_statement second.now) ≤
+        most_instructions }
+    ensures size { IfOk result (λ n. n ≡ statement_size (plain_statement first.now) + statement_size
+        (plain_statement second.now)) }
+    ensures ahead { OnOk result (reverse out.new.items ≡ statement_size (plain_statement second.now) ∷ sizes_ahead
+        (plain_statement first.now) (sizes_ahead (plain_statement second.now) (reverse out.old.items))) }
 {
     let after = put_ahead(alloc, out, second)?;
     let before = put_ahead(alloc, out, first)?;
@@ -73,7 +76,8 @@ fn put_block(
 ) -> Result<usize, AllocError>
     requires { statements_size (statements_of statements.now) ≤ most_instructions }
     ensures size { IfOk result (λ n. n ≡ statements_size (statements_of statements.now)) }
-    ensures ahead { OnOk result (reverse out.new.items ≡ block_ahead (statements_of statements.now) (reverse out.old.items)) }
+    ensures ahead { OnOk result (reverse out.new.items ≡ block_ahead (statements_of statements.now)
+        (reverse out.old.items)) }
 {
     let mut count = 0;
     for i in (0..statements.len()).rev() {
@@ -93,8 +97,10 @@ fn put_leavable(
     exits: &[Statement],
 ) -> Result<usize, AllocError>
     requires { statement_size (plain_statement body.now) + exits_size (statements_of exits.now) ≤ most_instructions }
-    ensures size { IfOk result (λ n. n ≡ statement_size (plain_statement body.now) + exits_size (statements_of exits.now)) }
-    ensures ahead { OnOk result (reverse out.new.items ≡ exit_sizes (statements_of exits.now) ++ sizes_ahead (plain_statement body.now) (exits_ahead (statements_of exits.now) (reverse out.old.items))) }
+    ensures size { IfOk result (λ n. n ≡ statement_size (plain_statement body.now) + exits_size
+        (statements_of exits.now)) }
+    ensures ahead { OnOk result (reverse out.new.items ≡ exit_sizes (statements_of exits.now) ++
+        sizes_ahead (plain_statement body.now) (exits_ahead (statements_of exits.now) (reverse out.old.items))) }
 {
     let mut sizes = Vec::new(alloc);
     let after = put_exits(alloc, out, exits, &mut sizes)?;
@@ -113,8 +119,10 @@ fn put_exits(
 ) -> Result<usize, AllocError>
     requires { exits_size (statements_of exits.now) ≤ most_instructions }
     ensures size { IfOk result (λ n. n ≡ exits_size (statements_of exits.now)) }
-    ensures ahead { OnOk result (reverse out.new.items ≡ exits_ahead (statements_of exits.now) (reverse out.old.items)) }
-    ensures sizes { OnOk result (reverse sizes.new.items ≡ exit_sizes (statements_of exits.now) ++ reverse sizes.old.items) }
+    ensures ahead { OnOk result (reverse out.new.items ≡ exits_ahead (statements_of exits.now)
+        (reverse out.old.items)) }
+    ensures sizes { OnOk result (reverse sizes.new.items ≡ exit_sizes (statements_of exits.now) ++
+        reverse sizes.old.items) }
 {
     let mut count = 0;
     for i in (0..exits.len()).rev() {
@@ -139,7 +147,8 @@ fn put_size(out: &mut Vec<usize>, size: usize) -> Result<(), AllocError>
 #[tactic(auto, using(crate::proofs::Listed::reversed_all, crate::proofs::Listed::reversed_one))]
 pub fn list_ahead(alloc: Global, s: &Statement) -> Result<Vec<usize>, AllocError>
     requires { statement_size (plain_statement s.now) ≤ most_instructions }
-    ensures { IfOk result (λ sizes. sizes.items ≡ statement_size (plain_statement s.now) ∷ sizes_ahead (plain_statement s.now) []) }
+    ensures { IfOk result (λ sizes. sizes.items ≡ statement_size (plain_statement s.now) ∷ sizes_ahead
+        (plain_statement s.now) []) }
 {
     let mut sizes = Vec::new(alloc);
     let size = put_ahead(alloc, &mut sizes, s)?;

@@ -20,5 +20,11 @@ impl Model for CodeUnit {
 
     ghost Value = { UnitValue };
 
-    ghost view = { λ u. record { instructions = u.instructions.items; handlers = u.handlers.items; arguments = u.arguments; more = u.more; need = u.need } };
+    ghost view = { λ u. record {
+      instructions = u.instructions.items;
+      handlers = u.handlers.items;
+      arguments = u.arguments;
+      more = u.more;
+      need = u.need;
+    } };
 }

@@ -251,8 +251,10 @@ pub fn emit_on_two(
 ) -> Result<usize, AllocError>
     requires room { place + size (plain a.now) + size (plain b.now) + 1 ≤ most_instructions }
     requires small { IsSmall (plain a.now) × IsSmall (plain b.now) }
-    ensures code { OnOk result (out.new.items ≡ out.old.items ++ (code place (plain a.now) ++ code (place + size (plain a.now)) (plain b.now) ++ instruction ∷ [])) }
-    ensures next { IfOk result (λ next. (next ≡ place + (size (plain a.now) + size (plain b.now) + 1)) × (place < next)) }
+    ensures code { OnOk result (out.new.items ≡ out.old.items ++
+        (code place (plain a.now) ++ code (place + size (plain a.now)) (plain b.now) ++ instruction ∷ [])) }
+    ensures next { IfOk result (λ next. (next ≡ place + (size (plain a.now) + size (plain b.now) + 1)) ×
+        (place < next)) }
 {
     let middle = emit_expression(out, place, a)?;
     let next = emit_expression(out, middle, b)?;
@@ -272,8 +274,11 @@ pub fn emit_on_three(
 ) -> Result<usize, AllocError>
     requires room { place + size (plain e.now) + size (plain a.now) + size (plain b.now) + 1 ≤ most_instructions }
     requires small { IsSmall (plain e.now) × IsSmall (plain a.now) × IsSmall (plain b.now) }
-    ensures code { OnOk result (out.new.items ≡ out.old.items ++ (code place (plain e.now) ++ code (place + size (plain e.now)) (plain a.now) ++ code (place + size (plain e.now) + size (plain a.now)) (plain b.now) ++ instruction ∷ [])) }
-    ensures next { IfOk result (λ next. (next ≡ place + (size (plain e.now) + size (plain a.now) + size (plain b.now) + 1)) × (place < next)) }
+    ensures code { OnOk result (out.new.items ≡ out.old.items ++
+        (code place (plain e.now) ++ code (place + size (plain e.now)) (plain a.now) ++
+        code (place + size (plain e.now) + size (plain a.now)) (plain b.now) ++ instruction ∷ [])) }
+    ensures next { IfOk result (λ next. (next ≡ place + (size (plain e.now) + size (plain a.now) + size (plain b.now) +
+        1)) × (place < next)) }
 {
     let first = emit_expression(out, place, e)?;
     let second = emit_expression(out, first, a)?;
@@ -293,8 +298,10 @@ fn emit_around(
 ) -> Result<usize, AllocError>
     requires room { place + size (plain a.now) + size (plain b.now) + 1 ≤ most_instructions }
     requires small { IsSmall (plain a.now) × IsSmall (plain b.now) }
-    ensures code { OnOk result (out.new.items ≡ out.old.items ++ (code place (plain a.now) ++ instruction ∷ code (place + size (plain a.now) + 1) (plain b.now))) }
-    ensures next { IfOk result (λ next. (next ≡ place + (size (plain a.now) + size (plain b.now) + 1)) × (place < next)) }
+    ensures code { OnOk result (out.new.items ≡ out.old.items ++
+        (code place (plain a.now) ++ instruction ∷ code (place + size (plain a.now) + 1) (plain b.now))) }
+    ensures next { IfOk result (λ next. (next ≡ place + (size (plain a.now) + size (plain b.now) + 1)) ×
+        (place < next)) }
 {
     let middle = emit_expression(out, place, a)?;
     put(out, instruction)?;
@@ -310,8 +317,12 @@ fn emit_and(
 ) -> Result<usize, AllocError>
     requires room { place + size (plain a.now) + size (plain b.now) + 3 ≤ most_instructions }
     requires small { IsSmall (plain a.now) × IsSmall (plain b.now) }
-    ensures code { OnOk result (out.new.items ≡ out.old.items ++ (code place (plain a.now) ++ op.JumpIfFalse (place + size (plain a.now) + size (plain b.now) + 2) ∷ code (place + size (plain a.now) + 1) (plain b.now) ++ op.Jump (place + size (plain a.now) + size (plain b.now) + 3) ∷ op.Push 0 ∷ [])) }
-    ensures next { IfOk result (λ next. (next ≡ place + (size (plain a.now) + size (plain b.now) + 3)) × (place < next)) }
+    ensures code { OnOk result (out.new.items ≡ out.old.items ++
+        (code place (plain a.now) ++ op.JumpIfFalse (place + size (plain a.now) + size (plain b.now) + 2) ∷ code
+        (place + size (plain a.now) + 1) (plain b.now) ++ op.Jump (place + size (plain a.now) + size (plain b.now) + 3)
+        ∷ op.Push 0 ∷ [])) }
+    ensures next { IfOk result (λ next. (next ≡ place + (size (plain a.now) + size (plain b.now) + 3)) ×
+        (place < next)) }
 {
     let middle = emit_expression(out, place, a)?;
     let otherwise = middle + size_of(b) + 2;
@@ -334,8 +345,11 @@ fn emit_or(
 ) -> Result<usize, AllocError>
     requires room { place + size (plain a.now) + size (plain b.now) + 3 ≤ most_instructions }
     requires small { IsSmall (plain a.now) × IsSmall (plain b.now) }
-    ensures code { OnOk result (out.new.items ≡ out.old.items ++ (code place (plain a.now) ++ op.JumpIfFalse (place + size (plain a.now) + 3) ∷ op.Push 1 ∷ op.Jump (place + size (plain a.now) + size (plain b.now) + 3) ∷ code (place + size (plain a.now) + 3) (plain b.now))) }
-    ensures next { IfOk result (λ next. (next ≡ place + (size (plain a.now) + size (plain b.now) + 3)) × (place < next)) }
+    ensures code { OnOk result (out.new.items ≡ out.old.items ++
+        (code place (plain a.now) ++ op.JumpIfFalse (place + size (plain a.now) + 3) ∷ op.Push 1 ∷ op.Jump
+        (place + size (plain a.now) + size (plain b.now) + 3) ∷ code (place + size (plain a.now) + 3) (plain b.now))) }
+    ensures next { IfOk result (λ next. (next ≡ place + (size (plain a.now) + size (plain b.now) + 3)) ×
+        (place < next)) }
 {
     let middle = emit_expression(out, place, a)?;
     let end = middle + size_of(b) + 3;

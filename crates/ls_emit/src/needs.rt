@@ -5,7 +5,8 @@ ghost use Rattle.std.specs.Prelude.{◌≡◌, ◌≤◌, max};
 ghost use Rattle.ls_lowered.specs.Plain.{plain, all_plain, plain_statement, statements_of};
 ghost use Rattle.ls_emit.specs.Expressions.{size, all_size};
 ghost use Rattle.ls_emit.specs.Statements.{statement_size, statements_size};
-ghost use Rattle.ls_emit.specs.Needs.{need as need_of, all_need as all_need_of, statement_need as statement_need_of, statements_need as statements_need_of};
+ghost use Rattle.ls_emit.specs.Needs.{need as need_of, all_need as all_need_of, statement_need as statement_need_of};
+ghost use Rattle.ls_emit.specs.Needs.{statements_need as statements_need_of};
 
 use ls_lowered::tree::{Expression, Expressions, Statement};
 

@@ -6,8 +6,10 @@ ghost use Rattle.ls_code.specs.declared.instruction.Instruction.TheVariants as o
 ghost use Rattle.ls_lowered.specs.LoweredTree.{If, While, Guarded, Leavable};
 ghost use Rattle.ls_lowered.specs.Plain.{plain, plain_statement, statements_of};
 ghost use Rattle.ls_emit.specs.Expressions.{size, code};
-ghost use Rattle.ls_emit.specs.Statements.{places, statement_size, statements_size, exits_size, statement_code, statements_code, exits_code, statement_rows, statements_rows, exits_rows};
-ghost use Rattle.ls_emit.specs.Ahead.{exit_count, exit_sizes, AreAhead, AreAheadOfBlock, AreAheadOfExits, left_by, left_by_block, left_by_exits};
+ghost use Rattle.ls_emit.specs.Statements.{places, statement_size, statements_size, exits_size, statement_code};
+ghost use Rattle.ls_emit.specs.Statements.{statements_code, exits_code, statement_rows, statements_rows, exits_rows};
+ghost use Rattle.ls_emit.specs.Ahead.{exit_count, exit_sizes, AreAhead, AreAheadOfBlock, AreAheadOfExits, left_by};
+ghost use Rattle.ls_emit.specs.Ahead.{left_by_block, left_by_exits};
 ghost use Rattle.ls_emit.specs.Alone.{IsAlone};
 ghost use Rattle.ls_emit.specs.Targets.{targets_of};
 ghost use Rattle.ls_emit.specs.Small.{IsSmall, IsSmallStatement, AreSmallStatements};
@@ -35,8 +37,10 @@ pub fn emit_statement(
     requires room { at.end ≤ most_instructions }
     requires small { IsSmallStatement (plain_statement s.now) }
     requires sized { AreAhead (plain_statement s.now) out.old.sizes.now }
-    ensures code { OnOk result (out.new.instructions.items ≡ out.old.instructions.items ++ statement_code (targets_of around.now) at.place (plain_statement s.now)) }
-    ensures rows { OnOk result (out.new.rows.items ≡ out.old.rows.items ++ statement_rows at.place (plain_statement s.now)) }
+    ensures code { OnOk result (out.new.instructions.items ≡ out.old.instructions.items ++
+        statement_code (targets_of around.now) at.place (plain_statement s.now)) }
+    ensures rows { OnOk result (out.new.rows.items ≡ out.old.rows.items ++ statement_rows at.place
+        (plain_statement s.now)) }
     ensures left { OnOk result (out.new.sizes.now ≡ left_by (plain_statement s.now) out.old.sizes.now) }
 {
     match s {
@@ -71,7 +75,8 @@ fn emit_addition(
 ) -> Result<(), AllocError>
     requires room { place + size (plain object.now) + size (plain value.now) + 4 ≤ most_instructions }
     requires small { IsSmall (plain object.now) × IsSmall (plain value.now) }
-    ensures { OnOk result (out.new.items ≡ out.old.items ++ (code place (plain object.now) ++ op.Dup ∷ op.GetField field ∷ code (place + size (plain object.now) + 2) (plain value.now) ++ op.Add ∷ op.PutField field ∷ [])) }
+    ensures { OnOk result (out.new.items ≡ out.old.items ++ (code place (plain object.now) ++ op.Dup ∷ op.GetField field
+        ∷ code (place + size (plain object.now) + 2) (plain value.now) ++ op.Add ∷ op.PutField field ∷ [])) }
 {
     let next = emit_expression(out, place, object)?;
     put(out, Instruction::Dup)?;
@@ -92,7 +97,8 @@ fn emit_alone(
     requires alone { IsAlone (plain_statement s.now) }
     requires room { place + statement_size (plain_statement s.now) ≤ most_instructions }
     requires small { IsSmallStatement (plain_statement s.now) }
-    ensures { OnOk result (out.new.items ≡ out.old.items ++ statement_code (targets_of around.now) place (plain_statement s.now)) }
+    ensures { OnOk result (out.new.items ≡ out.old.items ++ statement_code (targets_of around.now) place
+        (plain_statement s.now)) }
 {
     match s {
         Statement::SetLocal(number, e) => {
@@ -160,8 +166,10 @@ fn emit_block(
     requires room { place + statements_size (statements_of statements.now) ≤ most_instructions }
     requires small { AreSmallStatements (statements_of statements.now) }
     requires sized { AreAheadOfBlock (statements_of statements.now) out.old.sizes.now }
-    ensures code { OnOk result (out.new.instructions.items ≡ out.old.instructions.items ++ statements_code (targets_of around.now) place (statements_of statements.now)) }
-    ensures rows { OnOk result (out.new.rows.items ≡ out.old.rows.items ++ statements_rows place (statements_of statements.now)) }
+    ensures code { OnOk result (out.new.instructions.items ≡ out.old.instructions.items ++
+        statements_code (targets_of around.now) place (statements_of statements.now)) }
+    ensures rows { OnOk result (out.new.rows.items ≡ out.old.rows.items ++
+        statements_rows place (statements_of statements.now)) }
     ensures left { OnOk result (out.new.sizes.now ≡ left_by_block (statements_of statements.now) out.old.sizes.now) }
 {
     let mut next = place;
@@ -182,13 +190,20 @@ fn emit_if(
     first: &Statement,
     second: &Statement,
 ) -> Result<(), AllocError>
-    requires ends { at.end ≡ at.place + (size (plain condition.now) + statement_size (plain_statement first.now) + statement_size (plain_statement second.now) + 2) }
+    requires ends { at.end ≡ at.place + (size (plain condition.now) + statement_size (plain_statement first.now) +
+        statement_size (plain_statement second.now) + 2) }
     requires room { at.end ≤ most_instructions }
-    requires small { IsSmall (plain condition.now) × IsSmallStatement (plain_statement first.now) × IsSmallStatement (plain_statement second.now) }
-    requires sized { AreAhead (If (plain condition.now) (plain_statement first.now) (plain_statement second.now)) out.old.sizes.now }
-    ensures code { OnOk result (out.new.instructions.items ≡ out.old.instructions.items ++ statement_code (targets_of around.now) at.place (If (plain condition.now) (plain_statement first.now) (plain_statement second.now))) }
-    ensures rows { OnOk result (out.new.rows.items ≡ out.old.rows.items ++ statement_rows at.place (If (plain condition.now) (plain_statement first.now) (plain_statement second.now))) }
-    ensures left { OnOk result (out.new.sizes.now ≡ left_by (If (plain condition.now) (plain_statement first.now) (plain_statement second.now)) out.old.sizes.now) }
+    requires small { IsSmall (plain condition.now) × IsSmallStatement (plain_statement first.now) ×
+        IsSmallStatement (plain_statement second.now) }
+    requires sized { AreAhead (If (plain condition.now) (plain_statement first.now) (plain_statement second.now))
+        out.old.sizes.now }
+    ensures code { OnOk result (out.new.instructions.items ≡ out.old.instructions.items ++
+        statement_code (targets_of around.now) at.place (If (plain condition.now) (plain_statement first.now)
+        (plain_statement second.now))) }
+    ensures rows { OnOk result (out.new.rows.items ≡ out.old.rows.items ++ statement_rows at.place
+        (If (plain condition.now) (plain_statement first.now) (plain_statement second.now))) }
+    ensures left { OnOk result (out.new.sizes.now ≡ left_by (If (plain condition.now) (plain_statement first.now)
+        (plain_statement second.now)) out.old.sizes.now) }
 {
     let other = at.end - out.take_size();
     let next = emit_expression(&mut out.instructions, at.place, condition)?;
@@ -213,8 +228,10 @@ fn emit_while(
     requires room { at.end ≤ most_instructions }
     requires small { IsSmall (plain condition.now) × IsSmallStatement (plain_statement body.now) }
     requires sized { AreAhead (plain_statement body.now) out.old.sizes.now }
-    ensures code { OnOk result (out.new.instructions.items ≡ out.old.instructions.items ++ statement_code (targets_of around.now) at.place (While (plain condition.now) (plain_statement body.now))) }
-    ensures rows { OnOk result (out.new.rows.items ≡ out.old.rows.items ++ statement_rows at.place (While (plain condition.now) (plain_statement body.now))) }
+    ensures code { OnOk result (out.new.instructions.items ≡ out.old.instructions.items ++
+        statement_code (targets_of around.now) at.place (While (plain condition.now) (plain_statement body.now))) }
+    ensures rows { OnOk result (out.new.rows.items ≡ out.old.rows.items ++ statement_rows at.place
+        (While (plain condition.now) (plain_statement body.now))) }
     ensures left { OnOk result (out.new.sizes.now ≡ left_by (plain_statement body.now) out.old.sizes.now) }
 {
     let next = emit_expression(&mut out.instructions, at.place, condition)?;
@@ -236,13 +253,19 @@ fn emit_guarded(
     number: u32,
     handler: &Statement,
 ) -> Result<(), AllocError>
-    requires ends { at.end ≡ at.place + (statement_size (plain_statement body.now) + statement_size (plain_statement handler.now) + 2) }
+    requires ends { at.end ≡ at.place + (statement_size (plain_statement body.now) + statement_size
+        (plain_statement handler.now) + 2) }
     requires room { at.end ≤ most_instructions }
     requires small { IsSmallStatement (plain_statement body.now) × IsSmallStatement (plain_statement handler.now) }
-    requires sized { AreAhead (Guarded (plain_statement body.now) number (plain_statement handler.now)) out.old.sizes.now }
-    ensures code { OnOk result (out.new.instructions.items ≡ out.old.instructions.items ++ statement_code (targets_of around.now) at.place (Guarded (plain_statement body.now) number (plain_statement handler.now))) }
-    ensures rows { OnOk result (out.new.rows.items ≡ out.old.rows.items ++ statement_rows at.place (Guarded (plain_statement body.now) number (plain_statement handler.now))) }
-    ensures left { OnOk result (out.new.sizes.now ≡ left_by (Guarded (plain_statement body.now) number (plain_statement handler.now)) out.old.sizes.now) }
+    requires sized { AreAhead (Guarded (plain_statement body.now) number (plain_statement handler.now))
+        out.old.sizes.now }
+    ensures code { OnOk result (out.new.instructions.items ≡ out.old.instructions.items ++
+        statement_code (targets_of around.now) at.place (Guarded (plain_statement body.now) number
+        (plain_statement handler.now))) }
+    ensures rows { OnOk result (out.new.rows.items ≡ out.old.rows.items ++ statement_rows at.place
+        (Guarded (plain_statement body.now) number (plain_statement handler.now))) }
+    ensures left { OnOk result (out.new.sizes.now ≡
+        left_by (Guarded (plain_statement body.now) number (plain_statement handler.now)) out.old.sizes.now) }
 {
     let after = at.end - out.take_size();
     emit_statement(out, &*around, Stretch::new(at.place, after - 2), body)?;
@@ -267,7 +290,8 @@ fn place_exits<'a>(
     requires room { exits_size (statements_of exits.now) ≤ end }
     requires few { end ≤ most_instructions }
     requires count { exit_count (statements_of exits.now) ≤ length out.old.sizes.now }
-    requires sized { take (exit_count (statements_of exits.now)) out.old.sizes.now ≡ exit_sizes (statements_of exits.now) }
+    requires sized { take (exit_count (statements_of exits.now)) out.old.sizes.now ≡
+        exit_sizes (statements_of exits.now) }
     ensures place { IfOk result (λ p. p.0.place + exits_size (statements_of exits.now) ≡ end) }
     ensures begins { IfOk result (λ p. p.0.begins.items ++ end ∷ [] ≡ places p.0.place (statements_of exits.now)) }
     ensures sizes { IfOk result (λ p. p.1.now ≡ map (λ s. statement_size (plain_statement s)) exits.now) }
@@ -289,13 +313,18 @@ fn emit_leavable(
     body: &Statement,
     exits: &[Statement],
 ) -> Result<(), AllocError>
-    requires ends { at.end ≡ at.place + (statement_size (plain_statement body.now) + exits_size (statements_of exits.now)) }
+    requires ends { at.end ≡ at.place + (statement_size (plain_statement body.now) + exits_size
+        (statements_of exits.now)) }
     requires room { at.end ≤ most_instructions }
     requires small { IsSmallStatement (plain_statement body.now) × AreSmallStatements (statements_of exits.now) }
     requires sized { AreAhead (Leavable (plain_statement body.now) (statements_of exits.now)) out.old.sizes.now }
-    ensures code { OnOk result (out.new.instructions.items ≡ out.old.instructions.items ++ statement_code (targets_of around.now) at.place (Leavable (plain_statement body.now) (statements_of exits.now))) }
-    ensures rows { OnOk result (out.new.rows.items ≡ out.old.rows.items ++ statement_rows at.place (Leavable (plain_statement body.now) (statements_of exits.now))) }
-    ensures left { OnOk result (out.new.sizes.now ≡ left_by (Leavable (plain_statement body.now) (statements_of exits.now)) out.old.sizes.now) }
+    ensures code { OnOk result (out.new.instructions.items ≡ out.old.instructions.items ++
+        statement_code (targets_of around.now) at.place (Leavable (plain_statement body.now)
+        (statements_of exits.now))) }
+    ensures rows { OnOk result (out.new.rows.items ≡ out.old.rows.items ++ statement_rows at.place
+        (Leavable (plain_statement body.now) (statements_of exits.now))) }
+    ensures left { OnOk result (out.new.sizes.now ≡
+        left_by (Leavable (plain_statement body.now) (statements_of exits.now)) out.old.sizes.now) }
 {
     let (layout, sizes) = place_exits(out, at.end, exits)?;
     let inner = Around::Leavable(&layout.begins, at.end as u32, &*around);
@@ -323,8 +352,10 @@ fn emit_exits(
     requires sizes { sizes.now ≡ map (λ s. statement_size (plain_statement s)) exits.now }
     requires small { AreSmallStatements (statements_of exits.now) }
     requires sized { AreAheadOfExits (statements_of exits.now) out.old.sizes.now }
-    ensures code { OnOk result (out.new.instructions.items ≡ out.old.instructions.items ++ exits_code (targets_of around.now) at.end at.place (statements_of exits.now)) }
-    ensures rows { OnOk result (out.new.rows.items ≡ out.old.rows.items ++ exits_rows at.place (statements_of exits.now)) }
+    ensures code { OnOk result (out.new.instructions.items ≡ out.old.instructions.items ++
+        exits_code (targets_of around.now) at.end at.place (statements_of exits.now)) }
+    ensures rows { OnOk result (out.new.rows.items ≡ out.old.rows.items ++
+        exits_rows at.place (statements_of exits.now)) }
     ensures left { OnOk result (out.new.sizes.now ≡ left_by_exits (statements_of exits.now) out.old.sizes.now) }
 {
     let mut next = at.place;

@@ -78,7 +78,8 @@ at_start threads old place here there store works ended =
     }
 
 -- numbers are added
-pub later : (threads : ℕ) (old mid new : Table) (start p : NumberedState) → IsAhead threads old start mid p → Grows mid new →
+pub later : (threads : ℕ) (old mid new : Table) (start p : NumberedState) → IsAhead threads old start mid
+    p → Grows mid new →
     IsAhead threads old start new p
 later threads old mid new start p h grows =
     let same = stays mid new p.store p.works.items grows h.there in
@@ -115,7 +116,8 @@ pub rests_ahead : (threads : ℕ) (old mid : Table) (start p : NumberedState) �
     CanBreak old.file threads (configuration_of old start)
 rests_ahead threads old mid start p h still = breaks_ahead threads old mid start p h ([], still)
 
-module _ (threads : ℕ) (old : Table) (start : NumberedState) (u : ℕ) (some : 1 ≤ u) (inside : u < length start.works.items)
+module _ (threads : ℕ) (old : Table) (start : NumberedState) (u : ℕ) (some : 1 ≤ u)
+    (inside : u < length start.works.items)
     (mid new : Table) (p : NumberedState) (h : IsAhead threads old start mid p) (grows : Grows mid new) (step : Step)
     (acts : ActsBy new p.works.items u step (stride mid.file (configuration_of mid p) u)) where
   within : u < length p.works.items

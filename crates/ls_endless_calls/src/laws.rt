@@ -2,8 +2,8 @@
 
 ghost use Rattle.ls_endless_calls.specs.Laws.{AmongNeverEnds, NoWaitNoneForEver, PendingWaits, NeverEndsIsAmong};
 
-/// If one of some runs up to a call that never ends is to a call, then the call never ends so. If the runs are all, no other
-/// call does.
+/// If one of some runs up to a call that never ends is to a call, then the call never ends so. If the runs are all, no
+/// other call does.
 pub fn runs_decide()
     ensures among { AmongNeverEnds }
     ensures all { NeverEndsIsAmong }

@@ -6,7 +6,8 @@ use std::marker::Model;
 /// The most steps of a schedule.
 pub const MOST_STEPS: usize = 1_000_000;
 
-/// Which thread takes each step of a run, by number: 0 is the setup. A number need not be that of a thread. A step takes one byte.
+/// Which thread takes each step of a run, by number: 0 is the setup. A number need not be that of a thread. A step
+/// takes one byte.
 #[derive(Drop)]
 pub struct Schedule {
     steps: Vec<u8>,
@@ -25,7 +26,8 @@ impl Model for Schedule {
 
 impl Schedule {
     ghost use Rattle.ls_events.specs.Limits.{most_steps};
-    ghost use Rattle.std.specs.Prelude.{◌≡◌, ◌<◌, ◌≤◌, ◌+◌, ◌↔◌, ◌++◌, ◌∷◌, [], length, replicate, IfOk, IsTrue, OnOk, OnErr};
+    ghost use Rattle.std.specs.Prelude.{◌≡◌, ◌<◌, ◌≤◌, ◌+◌, ◌↔◌, ◌++◌, ◌∷◌, [], length, replicate, IfOk, IsTrue, OnOk};
+    ghost use Rattle.std.specs.Prelude.{OnErr};
 
     /// The empty schedule.
     pub fn new(alloc: Global) -> Schedule

@@ -65,7 +65,8 @@ module _ {X Y : Type 0} (f : X → Y) where
 
   -- the elements at a place differ
   pub apart_at : (xs ys : List X) (i : ℕ) (x y : X) (r : Bool) → Decides r (f x ≡ f y) → r ≡ false →
-      length xs ≡ length ys → i < length xs → x ≡ get_or xs i x → y ≡ get_or ys i y → Decides false (map f xs ≡ map f ys)
+      length xs ≡ length ys → i < length xs → x ≡ get_or xs i x → y ≡ get_or ys i y →
+      Decides false (map f xs ≡ map f ys)
   apart_at xs ys i x y r decides isnt long within first second =
       refuted r (f x ≡ f y) (map f xs ≡ map f ys) decides isnt
       (λ same. ap f first ∙ same_at xs ys i x y within (omega (arith, within, long)) same ∙ ap f (sym second))

@@ -81,7 +81,8 @@ aim_sentence (aim.NotMet at) =
     codes "this thread ends or waits before a step with this text: `trace` shows the text of each step\n"
 aim_sentence (aim.TooFar at) = codes "this thread doesn't come to it before the schedule has 1,000,000 steps\n"
 
--- The class text is the first part, if there is one. Types, numbers of arguments and what a program names come after this: `details`.
+-- The class text is the first part, if there is one. Types, numbers of arguments and what a program names come after
+-- this: `details`.
 abbrev pub sentence : ToolFault → Bytes → Bytes
 sentence (faults.Text f) classes = text_sentence f classes
 sentence (faults.Check f) classes = check_sentence f classes

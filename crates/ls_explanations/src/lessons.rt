@@ -1,9 +1,11 @@
 // What is said of a fault of a class text, by the text at its place.
 
 ghost use Rattle.std.specs.Prelude.{◌≡◌};
-ghost use Rattle.ls_explanations.specs.Lessons.{byte_lesson, call_lesson, class_lesson, lacks_semicolon, lesson_between};
+ghost use Rattle.ls_explanations.specs.Lessons.{byte_lesson, call_lesson, class_lesson, lacks_semicolon};
+ghost use Rattle.ls_explanations.specs.Lessons.{lesson_between};
 ghost use Rattle.ls_explanations.specs.Lessons.{name_lesson, or_else};
-ghost use Rattle.ls_explanations.specs.Lessons.{semicolon_lesson, sign_lesson, syntax_lesson, token_lesson, type_lesson};
+ghost use Rattle.ls_explanations.specs.Lessons.{semicolon_lesson, sign_lesson, syntax_lesson, token_lesson};
+ghost use Rattle.ls_explanations.specs.Lessons.{type_lesson};
 ghost use Rattle.ls_explanations.specs.Lessons.{word_lesson};
 
 use crate::names::{method_lesson, pair_lesson};

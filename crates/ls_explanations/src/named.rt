@@ -4,7 +4,8 @@ ghost use Rattle.std.specs.Prelude.{◌≡◌, ◌++◌, ◌≤◌, IfOk, OnOk, 
 ghost use Rattle.std.specs.Str.Lossy.{utf8_valid_len};
 ghost use Rattle.ls_explanations.specs.declared.place.Part.TheVariants as parts;
 ghost use Rattle.ls_explanations.specs.Named.{file_name, in_input, input_span, named_note, named_sentence};
-ghost use Rattle.ls_explanations.specs.Named.{part_of_fault, part_site, said, shown_in, site, site_of, span_in_input, start_of, title};
+ghost use Rattle.ls_explanations.specs.Named.{part_of_fault, part_site, said, shown_in, site, site_of, span_in_input};
+ghost use Rattle.ls_explanations.specs.Named.{start_of, title};
 ghost use Rattle.ls_explanations.specs.Named.{word};
 
 use crate::explaining::{count_of, push_hint, push_shown, whole_sentence};

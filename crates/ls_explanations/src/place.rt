@@ -209,8 +209,8 @@ fn reference_place(fault: CompileFault) -> Option<PartSpan>
     }
 }
 
-/// The place of a fault in its part, or none. Faults of programs, schedules, histories, orders, tallies and menus are at one
-/// byte. Limits of whole texts, faults of a run and faults of the streams have no place.
+/// The place of a fault in its part, or none. Faults of programs, schedules, histories, orders, tallies and menus are
+/// at one byte. Limits of whole texts, faults of a run and faults of the streams have no place.
 pub fn place_of(fault: ToolFault) -> Option<PartSpan>
     ensures { result ≡ place_of fault }
 {

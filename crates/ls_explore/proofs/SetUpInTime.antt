@@ -27,7 +27,8 @@ use Rattle.ls_code.specs.declared.step.Did.TheVariants as machine_did
 use Rattle.ls_code.specs.declared.step.ThreadState.{ThreadState}
 use Rattle.ls_code.specs.declared.step.ThreadState.TheVariants as state
 use Rattle.ls_preservation.specs.Same.{Fits, IsCells, total}
-use Rattle.ls_preservation.specs.Translations.{has_setup_ended, most_silent, setup_end, steps_for, steps_from, to_machine}
+use Rattle.ls_preservation.specs.Translations.{has_setup_ended, most_silent, setup_end, steps_for, steps_from}
+use Rattle.ls_preservation.specs.Translations.{to_machine}
 use Rattle.ls_preservation.specs.Translations.{to_source, until_acts, until_over, unless, if_silent}
 use Rattle.ls_preservation.proofs.Lists.{get_map, get_there, set_other, set_same}
 use Rattle.ls_preservation.proofs.Runs.{run-append, trace-append}

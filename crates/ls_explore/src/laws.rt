@@ -32,8 +32,8 @@ pub fn stands_still()
     ensures { StandsStill }
 {}
 
-/// The machine to which threads lead from the one whose setup has ended has the history of a schedule of source steps: those of the
-/// setup, and then one of each of these threads.
+/// The machine to which threads lead from the one whose setup has ended has the history of a schedule of source steps:
+/// those of the setup, and then one of each of these threads.
 pub fn leads_as_source()
     ensures { LeadsAsSource }
 {}

@@ -12,7 +12,8 @@ use Rattle.std.proofs.lemmas.Option.{slice_get-get_or, slice_get_within}
 use Rattle.std.proofs.Math.Nat.{mul-le-mul_right, pow-suc}
 use Rattle.ls_families.specs.Belonging.{IsPlanOf}
 use Rattle.ls_families.specs.Choices.{choices}
-use Rattle.ls_families.specs.Doubles.{OtherStandsBefore, exchanged_calls, has_greater, is_exchanged, is_greater, other_of}
+use Rattle.ls_families.specs.Doubles.{OtherStandsBefore, exchanged_calls, has_greater, is_exchanged, is_greater}
+use Rattle.ls_families.specs.Doubles.{other_of}
 use Rattle.ls_families.specs.Families.{Plan, family_of, plan_of, plans, plans_of}
 use Rattle.ls_families.specs.Shapes.{Shape, calls_of, shapes}
 use Rattle.ls_families.specs.declared.shapes.Bounds.{Bounds}
@@ -36,7 +37,8 @@ long n before (m ∷ lengths) calls =
     let rest = drop m calls in
     let whole : length first + length rest ≡ length calls =
     sym (length-append first rest) ∙ ap length (take-append-drop m calls) in
-    step (λ l. length l ≡ length before + length calls) ((n == m) && is_greater before first) (first ++ (before ++ rest))
+    step (λ l. length l ≡ length before + length calls) ((n == m) && is_greater before first)
+    (first ++ (before ++ rest))
     (before ++ exchanged_calls m first lengths rest)
     (λ is. omega (arith, length-append first (before ++ rest), length-append before rest, whole))
     (λ is. omega (arith, length-append before (exchanged_calls m first lengths rest), long m first lengths rest, whole))
@@ -63,7 +65,8 @@ greater_more [] bs xs ys is = absurd (true≢false (sym is))
 greater_more (a ∷ as') [] xs ys is = absurd (true≢false (sym is))
 greater_more (a ∷ as') (b ∷ bs) xs ys is = go (greater_more as' bs xs ys) (a == b) is
   where
-    go : (is_greater as' bs ≡ true → is_greater (as' ++ xs) (bs ++ ys) ≡ true) → (t : Bool) → cond t (is_greater as' bs) (nat_lt b a) ≡ true →
+    go : (is_greater as' bs ≡ true → is_greater (as' ++ xs) (bs ++ ys) ≡ true) → (t : Bool) → cond t (is_greater as' bs)
+        (nat_lt b a) ≡ true →
         cond t (is_greater (as' ++ xs) (bs ++ ys)) (nat_lt b a) ≡ true
     go more true e = more e
     go more false e = e

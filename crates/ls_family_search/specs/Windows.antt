@@ -18,7 +18,8 @@ abbrev pub all_pass : {H E : Type 0} → List Passed → List (Result (ProgramOu
 all_pass ps = map (λ said. Ok (Passes said)) ps
 
 -- These are added: how the programs are passed, all or up to the first with which the search ends.
-abbrev pub IsJoined : {H E : Type 0} → List (Result (ProgramOutcome H) E) → List Passed → List Passed → Option (Halted H) → Type 0
+abbrev pub IsJoined : {H E : Type 0} → List (Result (ProgramOutcome H) E) → List Passed → List Passed →
+    Option (Halted H) → Type 0
 IsJoined outcomes old new None = (ps : List Passed) × (outcomes ≡ all_pass ps) × (new ≡ old ++ ps)
 IsJoined {H} {E} outcomes old new (Some h) =
     (ps : List Passed) × (rest : List (Result (ProgramOutcome H) E)) × (outcomes ≡ all_pass ps ++ Ok (Ends h) ∷ rest) ×

@@ -21,8 +21,8 @@ pub struct Finding<H> {
     pub halted: Option<Halted<H>>,
 }
 
-/// How many programs the first window has. Each window has twice as many as the one before it, up to a most. So a search
-/// that ends soon judges few programs past its end.
+/// How many programs the first window has. Each window has twice as many as the one before it, up to a most. So a
+/// search that ends soon judges few programs past its end.
 const FIRST_WINDOW: u64 = 16;
 
 const MOST_IN_WINDOW: u64 = 1_024;
@@ -33,9 +33,9 @@ fn grown(size: u64) -> u64
     size.saturating_mul(2).min(MOST_IN_WINDOW).max(1)
 }
 
-/// Goes through the programs of a range of numbers, until the judge ends it. The programs of a window are judged side by
-/// side, and windows one after another. The answer is the one of a search by one thread. The only refusal is that memory
-/// ran out.
+/// Goes through the programs of a range of numbers, until the judge ends it. The programs of a window are judged side
+/// by side, and windows one after another. The answer is the one of a search by one thread. The only refusal is that
+/// memory ran out.
 pub fn search<J: Judge + Sync, W: SearchWatch>(
     rt: &(impl Threads + Sync),
     judge: &J,

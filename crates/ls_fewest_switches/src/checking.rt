@@ -71,8 +71,8 @@ fn is_bad_history<O: Observer>(
     Ok(observer.is_bad(&noted))
 }
 
-/// Whether each step of a schedule acts, an observer calls its history bad, and it ends as is asked. True only where it is
-/// so.
+/// Whether each step of a schedule acts, an observer calls its history bad, and it ends as is asked. True only where it
+/// is so.
 pub(crate) fn is_such<O: Observer>(
     alloc: Global,
     observer: &O,

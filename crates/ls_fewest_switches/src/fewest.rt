@@ -56,10 +56,10 @@ fn unchanged(alloc: Global, found: &Schedule, fewest: bool) -> Result<SimpleRun,
     Ok(SimpleRun { schedule, fewest })
 }
 
-/// A schedule with the history of this one and the fewest context switches. If the target is stuck, no thread acts after
-/// it and one waits, where that is so after this one. At most so many states are kept as the target says. If more would
-/// be needed, it is this schedule. A refusal is that memory ran out, or that a store, a work or a state has no number
-/// left. A call that answers an object is refused too: the calls of a program that was read answer none.
+/// A schedule with the history of this one and the fewest context switches. If the target is stuck, no thread acts
+/// after it and one waits, where that is so after this one. At most so many states are kept as the target says. If more
+/// would be needed, it is this schedule. A refusal is that memory ran out, or that a store, a work or a state has no
+/// number left. A call that answers an object is refused too: the calls of a program that was read answer none.
 pub fn simplest(
     alloc: Global,
     file: &File,
@@ -103,9 +103,9 @@ pub fn simplest(
 }
 
 /// A schedule whose history an observer calls bad, if it does so of this one's, with no more context switches; if
-/// possible with the fewest of all such schedules, whatever their histories. If the target is stuck, schedules are meant
-/// after which no thread acts and one waits. At most so many states are kept as the target says. If more would be needed,
-/// or none has fewer changes, it is this schedule. It is refused as `simplest` is.
+/// possible with the fewest of all such schedules, whatever their histories. If the target is stuck, schedules are
+/// meant after which no thread acts and one waits. At most so many states are kept as the target says. If more would be
+/// needed, or none has fewer changes, it is this schedule. It is refused as `simplest` is.
 pub fn simplest_bad<O: Observer>(
     alloc: Global,
     observer: &O,

@@ -174,8 +174,8 @@ fn scope_of<O>(sought: &Sought<'_, O>, count: usize) -> Scope
     }
 }
 
-/// The graph of a program's states, until one is next that is looked for, or that costs too much. Histories of which this
-/// is noted are left out.
+/// The graph of a program's states, until one is next that is looked for, or that costs too much. Histories of which
+/// this is noted are left out.
 fn closed<O: Observer>(
     observer: &O,
     lost: Option<O::Noted>,

@@ -1,8 +1,10 @@
 -- What is known of the lines of a text, one line after the other.
-use Rattle.std.proofs.Common.{◌≡◌, ◌∙◌, ◌+◌, ◌==◌, ℕ, zero, suc, Bool, true, false, cond, List, [], ◌∷◌, ◌++◌, length, map, ◌≤◌, arith}
+use Rattle.std.proofs.Common.{◌≡◌, ◌∙◌, ◌+◌, ◌==◌, ℕ, zero, suc, Bool, true, false, cond, List, [], ◌∷◌, ◌++◌, length}
+use Rattle.std.proofs.Common.{map, ◌≤◌, arith}
 use Rattle.std.proofs.Common.{refl, sym, ap}
 use Rattle.ls_items.specs.Parts.{lines_of, onto_first, part_of}
-use Rattle.ls_files.specs.Files.{Bytes, ends_file, ends_part, last_line_from, next_line, start_in, unmarked, unmarked_line}
+use Rattle.ls_files.specs.Files.{Bytes, ends_file, ends_part, last_line_from, next_line, start_in, unmarked}
+use Rattle.ls_files.specs.Files.{unmarked_line}
 use Rattle.ls_files.specs.declared.lines.FileLine.{FileLine}
 
 -- each text has a first line

@@ -29,7 +29,8 @@ pub fn asking<'a>(words: &'a [String]) -> &'a [String]
 
 /// The names of the files that an input holds: the words after the word `--names`, if that is there.
 pub fn file_names_in<'a>(words: &'a [String]) -> Option<&'a [String]>
-    ensures { option_map (λ names. map string_bytes names.now) result ≡ file_names_in (map string_bytes words.entry.now) }
+    ensures { option_map (λ names. map string_bytes names.now) result ≡
+        file_names_in (map string_bytes words.entry.now) }
 {
     let count = count_before(words);
     if count < words.len() {

@@ -246,7 +246,8 @@ fn all_ways(
     Ok(out)
 }
 
-/// `try body finally ..` by copies, where `found` are the exits of the body. The locals `free` and the next one are its own.
+/// `try body finally ..` by copies, where `found` are the exits of the body. The locals `free` and the next one are its
+/// own.
 pub fn by_copies(
     alloc: Global,
     body: &Statement,

@@ -1,5 +1,6 @@
 -- What is counted of two ranges, and of more.
-use Rattle.std.proofs.Common.{◌≡◌, ◌∙◌, ◌+◌, ◌<◌, ◌≤◌, ◌^◌, ◌↔◌, ℕ, zero, suc, List, [], ◌∷◌, Option, Some, None, ap, arith, drop, length, refl, sym, subst}
+use Rattle.std.proofs.Common.{◌≡◌, ◌∙◌, ◌+◌, ◌<◌, ◌≤◌, ◌^◌, ◌↔◌, ℕ, zero, suc, List, [], ◌∷◌, Option, Some, None, ap}
+use Rattle.std.proofs.Common.{arith, drop, length, refl, sym, subst}
 use Rattle.std.specs.Prelude.{option_map, slice_get}
 use Rattle.ls_find_reports.specs.Reports.{AreFigures, Found, plain_found, plain_report, Report}
 use Rattle.ls_find_reports.specs.declared.report.Found.{Found as CodeFound}
@@ -26,7 +27,8 @@ end_first to to' zero first cut' next a few b = omega (arith, b)
 end_first to to' (suc cut) first cut' next a few b = omega (arith, a, few)
 
 -- of two ranges, one after the other
-pub both_are : (f g : Figures) → AreFigures f → AreFigures g → g.from ≡ f.to + 1 → g.count ≡ f.count → AreFigures (both f g)
+pub both_are : (f g : Figures) → AreFigures f → AreFigures g → g.from ≡ f.to + 1 → g.count ≡ f.count →
+    AreFigures (both f g)
 both_are f g a b next same = record {
   some = a.some;
   order = omega (arith, a.order, b.order, next);

@@ -1,5 +1,6 @@
 -- The program and the schedule of a report.
-use Rattle.std.proofs.Common.{◌≡◌, ◌∙◌, ◌∷◌, ◌++◌, Bor, ℕ, List, Option, Some, None, true, codes, ap, sym, append_assoc, []}
+use Rattle.std.proofs.Common.{◌≡◌, ◌∙◌, ◌∷◌, ◌++◌, Bor, ℕ, List, Option, Some, None, true, codes, ap, sym, append_assoc}
+use Rattle.std.proofs.Common.{[]}
 use Rattle.std.specs.Prelude.{MatchOption}
 use Rattle.std.specs.Str.Pattern.{FindsTextPrefix, StripsPrefix}
 use Rattle.ls_report.specs.Cut.{cut}
@@ -50,6 +51,7 @@ behind_is text program behind program' schedule rest c l e =
 
 -- with the line feed of the schedule
 pub with_feed : (program schedule after : Text) →
-    program ++ (codes "%%\n" ++ (schedule ++ 10 ∷ after)) ≡ program ++ (codes "%%\n" ++ ((schedule ++ 10 ∷ []) ++ after))
+    program ++ (codes "%%\n" ++ (schedule ++ 10 ∷ after)) ≡ program ++
+    (codes "%%\n" ++ ((schedule ++ 10 ∷ []) ++ after))
 with_feed program schedule after =
     ap (λ t. program ++ (codes "%%\n" ++ t)) (sym (append_assoc schedule (10 ∷ []) after))

@@ -1,5 +1,6 @@
 -- The report with which a text begins.
-use Rattle.std.proofs.Common.{◌≡◌, ◌∙◌, ℕ, zero, suc, Option, Some, None, [], ◌∷◌, ◌++◌, get_or, arith, codes, refl, sym, ap}
+use Rattle.std.proofs.Common.{◌≡◌, ◌∙◌, ℕ, zero, suc, Option, Some, None, [], ◌∷◌, ◌++◌, get_or, arith, codes, refl}
+use Rattle.std.proofs.Common.{sym, ap}
 use Rattle.std.proofs.Common.{subst, append_assoc}
 use Rattle.std.specs.Prelude.{IfSome}
 use Rattle.ls_report.specs.Cut.{cut}
@@ -50,7 +51,8 @@ first_cut text r after is e =
     cut_at 10 (head_of r.figures r.found) (figures_line r.figures ++ 10 ∷ tail_of r.found after)
     (without 10 (head_of r.figures r.found) (head_lacks r.figures r.found is.figures is.found))
 
-pub second_cut : (f : Figures) (tail : Text) → AreFigures f → cut 10 (figures_line f ++ 10 ∷ tail) ≡ two (figures_line f) tail
+pub second_cut : (f : Figures) (tail : Text) → AreFigures f → cut 10 (figures_line f ++ 10 ∷ tail) ≡
+    two (figures_line f) tail
 second_cut f tail is = cut_at 10 (figures_line f) tail (without 10 (figures_line f) (figures_lack f is))
 
 -- what is cut off is what the report has

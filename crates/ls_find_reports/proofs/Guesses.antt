@@ -4,7 +4,8 @@ use Rattle.std.specs.Fmt.{decimal}
 use Rattle.ls_report.specs.Events.{Text}
 use Rattle.ls_find_reports.specs.Reports.{AreFigures}
 use Rattle.ls_find_reports.specs.Words.{word_at}
-use Rattle.ls_find_reports.proofs.WordLemmas.{count_word, cut_first_word, cut_fits, cut_word, doubles_fit, doubles_word, from_fits}
+use Rattle.ls_find_reports.proofs.WordLemmas.{count_word, cut_first_word, cut_fits, cut_word, doubles_fit, doubles_word}
+use Rattle.ls_find_reports.proofs.WordLemmas.{from_fits}
 use Rattle.ls_find_reports.proofs.WordLemmas.{from_word, to_fits, to_word}
 use Rattle.ls_find_reports.specs.Printing.{figures_line}
 use Rattle.ls_find_reports.specs.declared.figures.Figures.{Figures}
@@ -21,7 +22,8 @@ pub record ReadsFirst (line : Text) (cut first : ℕ) : Type 0 where
   pub none : cut ≡ 0 → first ≡ 0
   pub some : 0 < cut → Reads line 15 first
 
-first_is : (line : Text) (f : Figures) (first : ℕ) → AreFigures f → line ≡ figures_line f → ReadsFirst line f.cut first →
+first_is : (line : Text) (f : Figures) (first : ℕ) → AreFigures f → line ≡ figures_line f →
+    ReadsFirst line f.cut first →
     first ≡ f.first
 first_is line f first is e reads = by_cut f.cut refl
   where

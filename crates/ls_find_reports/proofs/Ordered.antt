@@ -12,7 +12,8 @@ use Rattle.ls_find_reports.specs.declared.fault.RangeFault.TheVariants as faults
 use Rattle.ls_find_reports.specs.declared.report.Report.{Report as CodeReport}
 
 -- an element of a list that is made of another's
-got : {A B : Type 0} (f : A → B) (xs : List A) (k : ℕ) (d : B) (e : A) → k < length xs → get_or (map f xs) k d ≡ f (get_or xs k e)
+got : {A B : Type 0} (f : A → B) (xs : List A) (k : ℕ) (d : B) (e : A) → k < length xs → get_or (map f xs) k d ≡
+    f (get_or xs k e)
 got f [] k d e lt = absurd (omega (arith, lt))
 got f (x ∷ xs) zero d e lt = refl
 got f (x ∷ xs) (suc k) d e lt = got f xs k d e (omega (arith, lt))
@@ -38,14 +39,16 @@ lists_have text rs Ends = λ k d lt. absurd (omega (arith, lt))
 lists_have text rs (Marked after more l) = lists_have after more l
 lists_have text rs (Entry s after rest is l) = each_have s rest is.figures (lists_have after rest l)
 
-all_code : (xs : List CodeReport) → All (λ r. AreFigures r.figures) (map plain_report xs) → All (λ s. AreFigures s.figures) xs
+all_code : (xs : List CodeReport) → All (λ r. AreFigures r.figures) (map plain_report xs) →
+    All (λ s. AreFigures s.figures) xs
 all_code xs all = λ k d lt.
     let len = length-map xs plain_report in
     subst (λ (r : Report). AreFigures r.figures) (got plain_report xs k (plain_report d) d lt)
     (all k (plain_report d) (omega (arith, len, lt)))
 
 -- those that are read, in order, are a first one and more
-module _ (text : Text) (old new : List CodeReport) (lists : Lists text (map plain_report old)) (permutes : IsPermutation old new)
+module _ (text : Text) (old new : List CodeReport) (lists : Lists text (map plain_report old))
+    (permutes : IsPermutation old new)
     (rise : IsNonDecreasingBy (λ r. r.figures.from) new) (first : CodeReport) (more : List CodeReport)
     (is : new ≡ first ∷ more) where
   all_new : All (λ s. AreFigures s.figures) (first ∷ more)

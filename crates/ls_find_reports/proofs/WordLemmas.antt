@@ -1,5 +1,6 @@
 -- The words of the line of what is counted.
-use Rattle.std.proofs.Common.{◌≡◌, ◌∙◌, ◌+◌, ◌-◌, ◌<◌, ◌≤◌, ◌^◌, ℕ, zero, suc, Option, Some, ◌∷◌, ◌++◌, codes, ap, append_assoc, arith, sym}
+use Rattle.std.proofs.Common.{◌≡◌, ◌∙◌, ◌+◌, ◌-◌, ◌<◌, ◌≤◌, ◌^◌, ℕ, zero, suc, Option, Some, ◌∷◌, ◌++◌, codes, ap}
+use Rattle.std.proofs.Common.{append_assoc, arith, sym}
 use Rattle.std.specs.Fmt.{decimal}
 use Rattle.ls_report.specs.Cut.{cut}
 use Rattle.ls_report.specs.Events.{Text}
@@ -58,21 +59,26 @@ cut_fits f is = omega (arith, is.passed, is.last, is.count, is.some)
 pub from_word : (f : Figures) → AreFigures f → word_at 2 (figures_line f) ≡ decimal f.from
 from_word f is = first_word f.from (from_rest f) (from_fits f is)
 
-after_from : (k : ℕ) (f : Figures) → AreFigures f → word_at (suc (suc (suc (suc k)))) (figures_line f) ≡ word_at k (decimal f.to ++ 32 ∷ to_rest f)
+after_from : (k : ℕ) (f : Figures) → AreFigures f → word_at (suc (suc (suc (suc k)))) (figures_line f) ≡
+    word_at k (decimal f.to ++ 32 ∷ to_rest f)
 after_from k f is = next_word (suc k) f.from (from_rest f) (from_fits f is)
 
-after_to : (k : ℕ) (f : Figures) → AreFigures f → word_at (suc (suc (suc (suc (suc (suc k)))))) (figures_line f) ≡ word_at k (decimal f.count ++ 32 ∷ count_rest f)
+after_to : (k : ℕ) (f : Figures) → AreFigures f → word_at (suc (suc (suc (suc (suc (suc k)))))) (figures_line f) ≡
+    word_at k (decimal f.count ++ 32 ∷ count_rest f)
 after_to k f is = after_from (suc (suc k)) f is ∙ next_word (suc k) f.to (to_rest f) (to_fits f is)
 
 after_count : (k : ℕ) (f : Figures) →
     AreFigures f →
-    word_at (suc (suc (suc (suc (suc (suc (suc (suc k)))))))) (figures_line f) ≡ word_at k (decimal f.doubles ++ 32 ∷ doubles_rest f)
+    word_at (suc (suc (suc (suc (suc (suc (suc (suc k)))))))) (figures_line f) ≡
+    word_at k (decimal f.doubles ++ 32 ∷ doubles_rest f)
 after_count k f is = after_to (suc (suc k)) f is ∙ next_word (suc k) f.count (count_rest f) is.count
 
 after_doubles : (k : ℕ) (f : Figures) →
     AreFigures f →
-    word_at (suc (suc (suc (suc (suc (suc (suc (suc (suc (suc (suc k))))))))))) (figures_line f) ≡ word_at k (decimal f.cut ++ 32 ∷ cut_rest f)
-after_doubles k f is = after_count (suc (suc (suc k))) f is ∙ next_word (suc (suc k)) f.doubles (doubles_rest f) (doubles_fit f is)
+    word_at (suc (suc (suc (suc (suc (suc (suc (suc (suc (suc (suc k))))))))))) (figures_line f) ≡
+    word_at k (decimal f.cut ++ 32 ∷ cut_rest f)
+after_doubles k f is = after_count (suc (suc (suc k))) f is ∙ next_word (suc (suc k)) f.doubles (doubles_rest f)
+    (doubles_fit f is)
 
 pub to_word : (f : Figures) → AreFigures f → word_at 4 (figures_line f) ≡ decimal f.to
 to_word f is = after_from 0 f is ∙ first_word f.to (to_rest f) (to_fits f is)

@@ -1,5 +1,6 @@
 -- The text of what is found.
-use Rattle.std.specs.Prelude.{ℕ, zero, suc, ◌+◌, Bool, true, false, List, [], ◌∷◌, ◌++◌, Option, Some, None, codes, count_by}
+use Rattle.std.specs.Prelude.{ℕ, zero, suc, ◌+◌, Bool, true, false, List, [], ◌∷◌, ◌++◌, Option, Some, None, codes}
+use Rattle.std.specs.Prelude.{count_by}
 use Rattle.std.specs.Prelude.{position}
 use Rattle.std.specs.Fmt.{decimal}
 use Rattle.ls_family_search.specs.Judged.{Text}
@@ -22,8 +23,8 @@ abbrev pub number_after : ℕ → Option ℕ → ℕ
 number_after before None = 0
 number_after before (Some i) = before + i + 1
 
--- What is counted of a range of numbers: the first comes after so many, the last is this, and so many are all. Those that
--- were passed are the first of them.
+-- What is counted of a range of numbers: the first comes after so many, the last is this, and so many are all. Those
+-- that were passed are the first of them.
 abbrev pub figures_of : ℕ → ℕ → ℕ → List Passed → Figures
 figures_of before to count ps = record {
   from = before + 1;

@@ -1,5 +1,6 @@
 -- What `find` says of ranges of numbers, one text after another.
-use Rattle.std.specs.Prelude.{◌≡◌, ◌+◌, ◌<◌, ◌≤◌, ◌^◌, ◌==◌, ◌++◌, ℕ, Bool, true, not, List, [], ◌∷◌, Option, Some, None, IfSome, length}
+use Rattle.std.specs.Prelude.{◌≡◌, ◌+◌, ◌<◌, ◌≤◌, ◌^◌, ◌==◌, ◌++◌, ℕ, Bool, true, not, List, [], ◌∷◌, Option, Some}
+use Rattle.std.specs.Prelude.{None, IfSome, length}
 use Rattle.std.specs.Prelude.{codes, option_map}
 use denote.Ref.{Bor}
 use Rattle.std.specs.List.{list_all}

@@ -1,5 +1,6 @@
 -- What reports of ranges that follow one another say of all their numbers.
-use Rattle.std.specs.Prelude.{◌≡◌, ◌≢◌, ◌+◌, ℕ, zero, suc, List, [], ◌∷◌, Option, Some, None, Result, Ok, Err, IsPermutation}
+use Rattle.std.specs.Prelude.{◌≡◌, ◌≢◌, ◌+◌, ℕ, zero, suc, List, [], ◌∷◌, Option, Some, None, Result, Ok, Err}
+use Rattle.std.specs.Prelude.{IsPermutation}
 use Rattle.std.specs.List.Sorted.{IsNonDecreasingBy}
 use Rattle.ls_find_reports.specs.declared.figures.Figures.{Figures}
 use Rattle.ls_find_reports.specs.Reports.{BreaksAt, Found, Lists, Report, report_text}

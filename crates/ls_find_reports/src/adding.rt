@@ -1,9 +1,11 @@
 // What reports of ranges say of all their numbers.
 
-ghost use Rattle.std.specs.Prelude.{◌≡◌, ◌∷◌, [], ◌+◌, ◌<◌, ◌^◌, ◌↔◌, All, IfNone, IfOk, IfSome, OnOk, IsPermutation, IsTrue, MatchOption};
+ghost use Rattle.std.specs.Prelude.{◌≡◌, ◌∷◌, [], ◌+◌, ◌<◌, ◌^◌, ◌↔◌, All, IfNone, IfOk, IfSome, OnOk, IsPermutation};
+ghost use Rattle.std.specs.Prelude.{IsTrue, MatchOption};
 ghost use Rattle.std.specs.Prelude.{Err, IfErr, Ok, Some, length, map, slice_get, string_bytes};
 ghost use Rattle.std.specs.List.Sorted.{IsNonDecreasingBy};
-ghost use Rattle.ls_find_reports.specs.Reports.{AreFigures, IsReport, plain_found, plain_report, report_text, text_with};
+ghost use Rattle.ls_find_reports.specs.Reports.{AreFigures, IsReport, plain_found, plain_report, report_text};
+ghost use Rattle.ls_find_reports.specs.Reports.{text_with};
 ghost use Rattle.ls_find_reports.specs.Sums.{AddsTo, FollowFrom, Follows, IsOther, both, first_of, joined, sum_from};
 
 use crate::fault::RangeFault;
@@ -149,8 +151,8 @@ fn sort(reports: &mut Vec<Report<'_>>) -> Result<(), AllocError>
     Ok(())
 }
 
-/// The text of what `find` says of all numbers of the ranges of which it says what stands in a text: of each range once,
-/// in any order. With a number that is wanted, there are as many numbers.
+/// The text of what `find` says of all numbers of the ranges of which it says what stands in a text: of each range
+/// once, in any order. With a number that is wanted, there are as many numbers.
 pub fn add_up(alloc: Global, wanted: Option<u64>, text: &str) -> Result<String, RangeFault>
     ensures sum { IfOk result (λ sum. AddsTo wanted text.now (Ok (string_bytes sum))) }
     ensures refused { IfErr result (λ fault. AddsTo wanted text.now (Err fault)) }

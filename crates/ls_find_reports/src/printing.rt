@@ -1,7 +1,8 @@
 // The text of what is found.
 
 ghost use Rattle.std.specs.Prelude.{◌≡◌, ◌++◌, IfOk, OnOk, string_bytes};
-ghost use Rattle.ls_find_reports.specs.Printing.{figures_line, first_text, found_text, none_line, none_text, number_text};
+ghost use Rattle.ls_find_reports.specs.Printing.{figures_line, first_text, found_text, none_line, none_text};
+ghost use Rattle.ls_find_reports.specs.Printing.{number_text};
 
 use crate::figures::Figures;
 use std::alloc::{AllocError, Global};

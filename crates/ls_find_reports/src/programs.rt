@@ -1,6 +1,7 @@
 // A program that is found.
 
-ghost use Rattle.std.specs.Prelude.{◌≡◌, ◌<◌, ◌^◌, ◌++◌, ◌∷◌, ℕ, IfOk, IfSome, OnOk, Some, codes, option_map, string_bytes, true};
+ghost use Rattle.std.specs.Prelude.{◌≡◌, ◌<◌, ◌^◌, ◌++◌, ◌∷◌, ℕ, IfOk, IfSome, OnOk, Some, codes, option_map};
+ghost use Rattle.std.specs.Prelude.{string_bytes, true};
 ghost use Rattle.std.specs.Prelude.{MatchOption};
 ghost use Rattle.ls_find_reports.specs.Reports.{lacks, plain_body, plain_reason};
 ghost use Rattle.ls_find_reports.specs.Printing.{number_text};
@@ -21,7 +22,8 @@ fn put_number(printed: &mut String, number: u64, count: u64) -> Result<(), Alloc
 
 /// What stands after a text that another begins with.
 pub(crate) fn after<'a>(text: &'a str, front: &str) -> Option<&'a str>
-    ensures { MatchOption result ((rest : Text) → text.now ≡ front.now ++ rest → ⊥) (λ rest. text.now ≡ front.now ++ rest.now) }
+    ensures { MatchOption result ((rest : Text) → text.now ≡ front.now ++ rest → ⊥) (λ rest. text.now ≡
+        front.now ++ rest.now) }
 {
     text.strip_prefix(front)
 }

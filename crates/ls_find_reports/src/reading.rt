@@ -3,7 +3,8 @@
 ghost use Rattle.std.specs.Prelude.{◌≡◌, ◌++◌, IfErr, IfOk, IfSome, Some, map, option_map, true};
 ghost use Rattle.ls_find_reports.specs.Reports.{Found as ghost_Found, Report as ghost_Report};
 ghost use Rattle.ls_find_reports.specs.Reports.{ComesAfter, Explains, IsProgram, IsReport, IsWith, Lists, lacks};
-ghost use Rattle.ls_find_reports.specs.Reports.{plain_entry, plain_found, plain_program, plain_report, report_text, tail_of};
+ghost use Rattle.ls_find_reports.specs.Reports.{plain_entry, plain_found, plain_program, plain_report, report_text};
+ghost use Rattle.ls_find_reports.specs.Reports.{tail_of};
 ghost use Rattle.ls_find_reports.specs.Printing.{number_text};
 ghost use Rattle.ls_report.specs.Events.{Text};
 
@@ -51,7 +52,8 @@ fn found_in<'a>(
     Ok(Some((found, after)))
 }
 
-/// The report whose first line, what it counts, and what stands after its second line are these; and what stands after it.
+/// The report whose first line, what it counts, and what stands after its second line are these; and what stands after
+/// it.
 fn with_figures<'a>(
     printed: &mut String,
     line: &'a str,

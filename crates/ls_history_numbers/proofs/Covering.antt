@@ -1,5 +1,6 @@
 -- Each history that a place has begins that of a chosen one, and none that doesn't end begins another.
-use Rattle.std.proofs.Common.{◌≡◌, ◌⊎◌, inl, inr, ℕ, zero, suc, ◌+◌, ◌<◌, ◌≤◌, Bool, true, false, List, [], ◌∷◌, ◌++◌, length}
+use Rattle.std.proofs.Common.{◌≡◌, ◌⊎◌, inl, inr, ℕ, zero, suc, ◌+◌, ◌<◌, ◌≤◌, Bool, true, false, List, [], ◌∷◌, ◌++◌}
+use Rattle.std.proofs.Common.{length}
 use Rattle.std.proofs.Common.{Option, Some, None, refl, sym, ap, ◌∙◌, arith}
 use Rattle.std.specs.Prelude.{slice_get}
 use Rattle.std.proofs.lemmas.Bool.{cases_lt}
@@ -8,7 +9,8 @@ use Rattle.ls_events.specs.declared.event.Event.{Event}
 use Rattle.ls_history_numbers.specs.declared.numbering.Known.{Known}
 use Rattle.ls_history_numbers.specs.Chosen.{chosen}
 use Rattle.ls_history_numbers.specs.Numbers.{AreNumbered, IsLonger}
-use Rattle.ls_history_numbers.specs.Choices.{AreThere, Counts, IsBegun, IsChosen, IsCovered, IsEnd, TellBegun, TellChoices}
+use Rattle.ls_history_numbers.specs.Choices.{AreThere, Counts, IsBegun, IsChosen, IsCovered, IsEnd, TellBegun}
+use Rattle.ls_history_numbers.specs.Choices.{TellChoices}
 use Rattle.ls_history_numbers.specs.Choices.{TellFirsts, TellLasts}
 use Rattle.ls_history_numbers.proofs.Lists.{below, some_is, there}
 
@@ -79,7 +81,8 @@ module _ (all : List Known) (numbers : List ℕ) (ends : List Bool) (firsts last
       let f = facts n (chosen_within n at e) in
       by_first_of f.first f.last f.goes_on f.first_is f.last_is (some_is (sym f.choice ∙ e))
     where
-      by_first_of : (first last : Option ℕ) (b : Bool) → slice_get firsts n ≡ Some first → slice_get lasts n ≡ Some last →
+      by_first_of : (first last : Option ℕ) (b : Bool) → slice_get firsts n ≡ Some first →
+          slice_get lasts n ≡ Some last →
           chosen first last b ≡ Some at → slice_get numbers at ≡ Some n
       by_first_of (Some x) last b f_is l_is is =
           (by_first.each n at (f_is ∙ ap Some is)).has

@@ -1,5 +1,6 @@
 -- Which place is the first that ends, and the last, of each number; and from which numbers histories go on.
-use Rattle.std.proofs.Common.{◌≡◌, ◌⊎◌, inl, inr, ℕ, ◌+◌, ◌<◌, ◌≤◌, Bool, true, false, List, length, Option, Some, None, refl}
+use Rattle.std.proofs.Common.{◌≡◌, ◌⊎◌, inl, inr, ℕ, ◌+◌, ◌<◌, ◌≤◌, Bool, true, false, List, length, Option, Some, None}
+use Rattle.std.proofs.Common.{refl}
 use Rattle.std.proofs.Common.{sym, ap, ◌∙◌, subst, arith, [], ◌∷◌, ◌++◌, length-append}
 use Rattle.std.specs.Prelude.{◌||◌, is_some, nat_eq, slice_get, slice_set}
 use Rattle.std.proofs.lemmas.Bool.{cases_lt}
@@ -7,7 +8,8 @@ use Rattle.std.proofs.lemmas.Bool.Decides.{eqb_tells}
 use Rattle.ls_history_numbers.specs.declared.numbering.Known.{Known}
 use Rattle.ls_history_numbers.specs.Chosen.{chosen}
 use Rattle.ls_history_numbers.specs.Choices.{Counts, GoesOn, IsEnd, TellBegun, TellChoices, TellFirsts, TellLasts}
-use Rattle.ls_history_numbers.proofs.Lists.{below, length-set, pushed_last, pushed_left, set_other, set_same, some_is, there}
+use Rattle.ls_history_numbers.proofs.Lists.{below, length-set, pushed_last, pushed_left, set_other, set_same, some_is}
+use Rattle.ls_history_numbers.proofs.Lists.{there}
 
 -- ---- the first that ends
 

@@ -77,7 +77,8 @@ fn last_places(
 fn counts(lasts: &[Option<usize>], begun: &[bool], number: usize) -> bool
     requires lasts { number < length lasts.now }
     requires begun { number < length begun.now }
-    ensures { (last : Option ℕ) (b : Bool) → slice_get lasts.now number ≡ Some last → slice_get begun.now number ≡ Some b →
+    ensures { (last : Option ℕ) (b : Bool) → slice_get lasts.now number ≡ Some last →
+        slice_get begun.now number ≡ Some b →
         result ≡ (is_some last || b) }
 {
     lasts[number].is_some() || begun[number]

@@ -186,8 +186,8 @@ fn history_at(histories: &[Vec<Event>], at: usize) -> &[Event]
     &histories[at]
 }
 
-/// The numbers of histories, which are added with their beginnings if they have none. The only refusal is that memory ran
-/// out.
+/// The numbers of histories, which are added with their beginnings if they have none. The only refusal is that memory
+/// ran out.
 pub fn number_all(
     alloc: Global,
     all: &mut Vec<Known>,

@@ -94,7 +94,8 @@ pub fn add_wait(
     action: &Action<Value>,
 ) -> Result<(), AllocError>
     ensures { OnOk result (string_bytes out.new
-        ≡ string_bytes out.old ++ wait_text (names_of names.now) labels.now (progress_of run.now).state.store action.now) }
+        ≡ string_bytes out.old ++ wait_text (names_of names.now) labels.now
+        (progress_of run.now).state.store action.now) }
 {
     match action {
         Action::Lock(lock) => match owner_of(run.thing(*lock)) {
@@ -126,7 +127,8 @@ pub fn push_wait(
     action: Action<Value>,
 ) -> Result<(), AllocError>
     ensures { OnOk result (string_bytes out.new
-        ≡ string_bytes out.old ++ wait_text (names_of names.entry) labels.now (progress_of run.now).state.store action) }
+        ≡ string_bytes out.old ++ wait_text (names_of names.entry) labels.now
+        (progress_of run.now).state.store action) }
 {
     add_wait(out, &names, labels, run, &action)
 }

@@ -241,7 +241,11 @@ fn push_event(
     happening: Happening,
 ) -> Result<(), AllocError>
     ensures { OnOk result (string_bytes out.new
-        ≡ string_bytes out.old ++ run_words (names_of names.now).program (record { thread = thread; call = call; happening = happening })) }
+        ≡ string_bytes out.old ++ run_words (names_of names.now).program (record {
+          thread = thread;
+          call = call;
+          happening = happening;
+        })) }
 {
     let event = Event {
         thread,

@@ -96,7 +96,8 @@ module _ (same : Event → Event → Bool) (test : IsTest same) (runs : List (Li
   goes_explains : list_any (λ run. goes_along same run h) runs ≡ true → IsExplainedBy runs h
   goes_explains any =
       let r = any_there (λ run. goes_along same run h) runs any in
-      let e : IsExplained r.0 h = kept_explains same test r.0 h (goes_then same test r.0 h r.2) (serial r.0 r.1) once in (
+      let e : IsExplained r.0 h = kept_explains same test r.0 h (goes_then same test r.0 h r.2)
+      (serial r.0 r.1) once in (
         e.0,
         record {
           begun = record { run = r.0; there = r.1; begins = e.1.begins };

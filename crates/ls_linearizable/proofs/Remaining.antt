@@ -1,6 +1,7 @@
 -- A history goes along a run exactly if each of its ends stands in the run behind no call that wasn't called before.
 use Rattle.std.proofs.Common.{◌≡◌, ◌⊎◌, inl, inr, ℕ, zero, suc, Bool, true, false, not, ◌&&◌, ◌||◌, cond}
-use Rattle.std.proofs.Common.{if◌then◌else◌, List, [], ◌∷◌, Some, None, Contains, slice_get, take, refl, sym, ap, ◌∙◌, subst}
+use Rattle.std.proofs.Common.{if◌then◌else◌, List, [], ◌∷◌, Some, None, Contains, slice_get, take, refl, sym, ap, ◌∙◌}
+use Rattle.std.proofs.Common.{subst}
 use Rattle.std.specs.List.{filter, list_any}
 use Rattle.ls_events.specs.declared.event.Event.{Event}
 use Rattle.ls_serial.specs.Serial.{IsCall, IsEnd, is_called}

@@ -1,7 +1,8 @@
 // The laws, each as the contract of a function that computes nothing.
 
 ghost use Rattle.ls_linearizable.specs.Resting.{IsTest};
-ghost use Rattle.ls_linearizable.specs.Judging.{GoodIsLinearizable, LaterStaysBad, NotedRefutes, RefutedIsNotLinearizable};
+ghost use Rattle.ls_linearizable.specs.Judging.{GoodIsLinearizable, LaterStaysBad, NotedRefutes};
+ghost use Rattle.ls_linearizable.specs.Judging.{RefutedIsNotLinearizable};
 ghost use Rattle.ls_linearizable.specs.Judging.{RefutedIsUnexplained, RestsJudge, SameJudge};
 ghost use Rattle.ls_linearizable.specs.Same.{same_event};
 

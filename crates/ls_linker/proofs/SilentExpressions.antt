@@ -60,7 +60,8 @@ module _ (n : ℕ) where
         (size_is b (p + size a)) (ahead a p (omega arith)) (ahead b (p + size a) (omega arith))
         (binary_at o _ (p + size a + size b) (omega arith), tt)
     ahead (And a b) p l =
-        three_at n p (size a) (size b + 1) (code p a) (op.JumpIfFalse (p + size a + size b + 2) ∷ code (p + size a + 1) b)
+        three_at n p (size a) (size b + 1) (code p a) (op.JumpIfFalse (p + size a + size b + 2) ∷ code
+        (p + size a + 1) b)
         (op.Jump (p + size a + size b + 3) ∷ op.Push 0 ∷ []) (size_is a p)
         (one_more (op.JumpIfFalse (p + size a + size b + 2)) (code (p + size a + 1) b) (size b)
         (size_is b (p + size a + 1)))
@@ -70,7 +71,8 @@ module _ (n : ℕ) where
         )
         ((omega arith, omega arith), (omega arith, tt))
     ahead (Or a b) p l =
-        two_at n p (size a) (code p a) (op.JumpIfFalse (p + size a + 3) ∷ op.Push 1 ∷ op.Jump (p + size a + size b + 3) ∷
+        two_at n p (size a) (code p a) (op.JumpIfFalse (p + size a + 3) ∷ op.Push 1 ∷ op.Jump
+        (p + size a + size b + 3) ∷
         code (p + size a + 3) b) (size_is a p)
         (ahead a p (omega arith)) (
           (omega arith, inl (omega arith, omega arith)),
@@ -105,7 +107,8 @@ module _ (n : ℕ) where
         three_at n p (size a) (size i) (code p a) (code (p + size a) i) (op.GetItem ∷ []) (size_is a p)
         (size_is i (p + size a)) (ahead a p (omega arith)) (ahead i (p + size a) (omega arith)) (omega arith, tt)
     ahead (SetFirst a e) p l =
-        three_at n p (size a) (size e + 1) (code p a) (op.Push 0 ∷ code (p + size a + 1) e) (op.PutItem ∷ op.Push 0 ∷ [])
+        three_at n p (size a) (size e + 1) (code p a) (op.Push 0 ∷ code (p + size a + 1) e)
+        (op.PutItem ∷ op.Push 0 ∷ [])
         (size_is a p) (one_more (op.Push 0) (code (p + size a + 1) e) (size e) (size_is e (p + size a + 1)))
         (ahead a p (omega arith)) (
           omega arith,

@@ -82,7 +82,8 @@ module _ (n : ℕ) where
       statement_ahead (SetItem a i e) t p fit h l =
           four_at n p (size a) (size i) (size e) (code p a) (code (p + size a) i) (code (p + size a + size i) e)
           (op.PutItem ∷ []) (size_is a p) (size_is i (p + size a)) (size_is e (p + size a + size i))
-          (ahead n a p (omega arith)) (ahead n i (p + size a) (omega arith)) (ahead n e (p + size a + size i) (omega arith))
+          (ahead n a p (omega arith)) (ahead n i (p + size a) (omega arith))
+          (ahead n e (p + size a + size i) (omega arith))
           (omega arith, tt)
       statement_ahead (Evaluate e) t p fit h l = two_at n p (size e) (code p e) (op.Pop ∷ []) (size_is e p)
           (ahead n e p (omega arith)) (omega arith, tt)

@@ -5,7 +5,8 @@ ghost use Rattle.std.specs.Option.{SomeIff};
 ghost use Rattle.ls_lowered.specs.LoweredTree.{Try, Leavable};
 ghost use Rattle.ls_lowered.specs.Plain.{plain, plain_statement, statements_of};
 ghost use Rattle.ls_emit.specs.Expressions.{size};
-ghost use Rattle.ls_linker.specs.Costs.{total, returned, ways_of, all_ways, copied, all_copied, flat_size, all_flat_size, own_size};
+ghost use Rattle.ls_linker.specs.Costs.{total, returned, ways_of, all_ways, copied, all_copied, flat_size};
+ghost use Rattle.ls_linker.specs.Costs.{all_flat_size, own_size};
 ghost use Rattle.ls_linker.specs.Refused.{Fits};
 
 use crate::count_fault::CountFault;
@@ -135,7 +136,8 @@ impl Counting {
         requires short { self.old.length ≤ 65537 }
         ensures ways { OnOk result (out.new.items ≡ out.old.items ++ ways_of (plain_statement s.now)) }
         ensures copies { OnOk result (self.new.copies ≡ self.old.copies + copied (plain_statement s.now)) }
-        ensures length { OnOk result (self.new.length ≡ min (self.old.length + flat_size (plain_statement s.now)) 65537) }
+        ensures length { OnOk result (self.new.length ≡
+            min (self.old.length + flat_size (plain_statement s.now)) 65537) }
         ensures few { Fits result (self.old.copies + copied (plain_statement s.now)) }
     {
         match s {
@@ -187,7 +189,8 @@ impl Counting {
         requires short { self.old.length ≤ 65537 }
         ensures ways { OnOk result (out.new.items ≡ out.old.items ++ all_ways (statements_of statements.now)) }
         ensures copies { OnOk result (self.new.copies ≡ self.old.copies + all_copied (statements_of statements.now)) }
-        ensures length { OnOk result (self.new.length ≡ min (self.old.length + all_flat_size (statements_of statements.now)) 65537) }
+        ensures length { OnOk result (self.new.length ≡
+            min (self.old.length + all_flat_size (statements_of statements.now)) 65537) }
         ensures few { Fits result (self.old.copies + all_copied (statements_of statements.now)) }
     {
         for s in statements {
@@ -209,10 +212,15 @@ impl Counting {
     ) -> Result<(), CountFault>
         requires few { self.old.copies ≤ 4096 }
         requires short { self.old.length ≤ 65537 }
-        ensures ways { OnOk result (out.new.items ≡ out.old.items ++ ways_of (plain_statement first.now) ++ ways_of (plain_statement second.now)) }
-        ensures copies { OnOk result (self.new.copies ≡ self.old.copies + (copied (plain_statement first.now) + copied (plain_statement second.now))) }
-        ensures length { OnOk result (self.new.length ≡ min (self.old.length + (flat_size (plain_statement first.now) + flat_size (plain_statement second.now))) 65537) }
-        ensures few { Fits result (self.old.copies + (copied (plain_statement first.now) + copied (plain_statement second.now))) }
+        ensures ways { OnOk result (out.new.items ≡ out.old.items ++ ways_of (plain_statement first.now) ++
+            ways_of (plain_statement second.now)) }
+        ensures copies { OnOk result (self.new.copies ≡ self.old.copies + (copied (plain_statement first.now) + copied
+            (plain_statement second.now))) }
+        ensures length { OnOk result (self.new.length ≡
+            min (self.old.length + (flat_size (plain_statement first.now) + flat_size (plain_statement second.now)))
+            65537) }
+        ensures few { Fits result (self.old.copies + (copied (plain_statement first.now) + copied
+            (plain_statement second.now))) }
     {
         self.count(alloc, first, out)?;
         self.count(alloc, second, out)
@@ -231,10 +239,14 @@ impl Counting {
     ) -> Result<(), CountFault>
         requires few { self.old.copies ≤ 4096 }
         requires short { self.old.length ≤ 65537 }
-        ensures ways { OnOk result (out.new.items ≡ out.old.items ++ ways_of (Leavable (plain_statement body.now) (statements_of own.now))) }
-        ensures copies { OnOk result (self.new.copies ≡ self.old.copies + copied (Leavable (plain_statement body.now) (statements_of own.now))) }
-        ensures length { OnOk result (self.new.length ≡ min (self.old.length + flat_size (Leavable (plain_statement body.now) (statements_of own.now))) 65537) }
-        ensures few { Fits result (self.old.copies + copied (Leavable (plain_statement body.now) (statements_of own.now))) }
+        ensures ways { OnOk result (out.new.items ≡ out.old.items ++
+            ways_of (Leavable (plain_statement body.now) (statements_of own.now))) }
+        ensures copies { OnOk result (self.new.copies ≡ self.old.copies + copied (Leavable (plain_statement body.now)
+            (statements_of own.now))) }
+        ensures length { OnOk result (self.new.length ≡
+            min (self.old.length + flat_size (Leavable (plain_statement body.now) (statements_of own.now))) 65537) }
+        ensures few { Fits result (self.old.copies + copied (Leavable (plain_statement body.now)
+            (statements_of own.now))) }
     {
         if own.len() > MOST_COPIES - self.copies {
             return Err(CountFault::TooManyCopies);
@@ -260,10 +272,14 @@ impl Counting {
     ) -> Result<(), CountFault>
         requires few { self.old.copies ≤ 4096 }
         requires short { self.old.length ≤ 65537 }
-        ensures ways { OnOk result (out.new.items ≡ out.old.items ++ ways_of (Try (plain_statement body.now) (plain_statement finally.now))) }
-        ensures copies { OnOk result (self.new.copies ≡ self.old.copies + copied (Try (plain_statement body.now) (plain_statement finally.now))) }
-        ensures length { OnOk result (self.new.length ≡ min (self.old.length + flat_size (Try (plain_statement body.now) (plain_statement finally.now))) 65537) }
-        ensures few { Fits result (self.old.copies + copied (Try (plain_statement body.now) (plain_statement finally.now))) }
+        ensures ways { OnOk result (out.new.items ≡ out.old.items ++
+            ways_of (Try (plain_statement body.now) (plain_statement finally.now))) }
+        ensures copies { OnOk result (self.new.copies ≡ self.old.copies + copied
+            (Try (plain_statement body.now) (plain_statement finally.now))) }
+        ensures length { OnOk result (self.new.length ≡
+            min (self.old.length + flat_size (Try (plain_statement body.now) (plain_statement finally.now))) 65537) }
+        ensures few { Fits result (self.old.copies + copied
+            (Try (plain_statement body.now) (plain_statement finally.now))) }
     {
         let mut ways = Vec::new(alloc);
         self.count(alloc, body, &mut ways)?;
@@ -286,8 +302,10 @@ impl Counting {
         requires short { self.old.length ≤ 65537 }
         requires finally { inside.now.length ≤ 65537 }
         ensures count { IfOk result (λ n. n ≡ 2 + total ways.now) }
-        ensures copies { OnOk result (self.new.copies ≡ self.old.copies + (2 + total ways.now) * (1 + inside.now.copies)) }
-        ensures length { OnOk result (self.new.length ≡ min (self.old.length + (2 + total ways.now) * (inside.now.length + 2) + 2 * returned ways.now + 4) 65537) }
+        ensures copies { OnOk result (self.new.copies ≡ self.old.copies + (2 + total ways.now) *
+            (1 + inside.now.copies)) }
+        ensures length { OnOk result (self.new.length ≡
+            min (self.old.length + (2 + total ways.now) * (inside.now.length + 2) + 2 * returned ways.now + 4) 65537) }
         ensures few { Fits result (self.old.copies + (2 + total ways.now) * (1 + inside.now.copies)) }
     {
         let count = blocks_of(ways);

@@ -28,11 +28,14 @@ pub fn fits_lowered()
 
 /// If no method of a well typed file has too many locals, its tree without `try` has code.
 pub fn ranged_is_emittable()
-    ensures { (file : File) → ∥ IsWellTyped file ∥₁ → AllFit file.methods → IsEmittableFile (flat_file (lowered_file file)) }
+    ensures { (file : File) → ∥ IsWellTyped file ∥₁ → AllFit file.methods →
+        IsEmittableFile (flat_file (lowered_file file)) }
 {}
 
 /// If no unit of a well typed file is too long, its units can be linked with threads of a well typed program. Each
 /// place, number and value is an operand.
 pub fn ranged_links()
-    ensures { (file : File) (program : Program) → ∥ IsWellTyped file ∥₁ → ∥ IsWellTypedProgram file program ∥₁ → AllFit file.methods → AllShort (flat_file (lowered_file file)) → Links file program (units_of (flat_file (lowered_file file))) }
+    ensures { (file : File) (program : Program) → ∥ IsWellTyped file ∥₁ → ∥ IsWellTypedProgram file program ∥₁ →
+        AllFit file.methods → AllShort (flat_file (lowered_file file)) →
+        Links file program (units_of (flat_file (lowered_file file))) }
 {}

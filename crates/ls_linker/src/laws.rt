@@ -21,7 +21,9 @@ use ls_soundness::laws::is_sound;
 /// Assume that a lowered file asks as its file, and that its units ask as its methods, in whatever code the units lie.
 /// Then the threads of the whole code ask what the threads of the source ask.
 pub fn linked_asks()
-    ensures { (file : File) (program : Program) (lowered : low.File) → LoweredAsks file lowered → IsEmittableFile lowered → UnitsAsk lowered (units_of lowered) → IsTypedProgram file program → Asks file program (linked file program (units_of lowered)) }
+    ensures { (file : File) (program : Program) (lowered : low.File) → LoweredAsks file lowered →
+        IsEmittableFile lowered → UnitsAsk lowered (units_of lowered) → IsTypedProgram file program →
+        Asks file program (linked file program (units_of lowered)) }
 {}
 
 /// The same holds of any units that stand for the methods of the lowered file, whoever emitted them. Each unit takes
@@ -44,7 +46,8 @@ pub fn any_units_are_same()
 /// The whole code takes locks only by a load and an exchange.
 #[tactic(auto, using(crate::proofs::Exchanged::linked_exchanges))]
 pub fn linked_exchanges()
-    ensures { (file : File) (program : Program) (lowered : low.File) → All IsExchanged (linked file program (units_of lowered)).instructions }
+    ensures { (file : File) (program : Program) (lowered : low.File) →
+        All IsExchanged (linked file program (units_of lowered)).instructions }
 {}
 
 /// The code to which a small program's units and threads are linked. Jumps and rows are moved. The code of each thread

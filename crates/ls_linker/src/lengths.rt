@@ -1,6 +1,7 @@
 // The laws: the functions compute nothing, and their contracts say the laws.
 
-ghost use Rattle.ls_linker.specs.Floor.{UnitsAreFew, CodeHoldsMethods, CodeIsShort, KeepsFloor, LowersFew, CountsWritten};
+ghost use Rattle.ls_linker.specs.Floor.{UnitsAreFew, CodeHoldsMethods, CodeIsShort, KeepsFloor, LowersFew};
+ghost use Rattle.ls_linker.specs.Floor.{CountsWritten};
 
 /// A method has at most 16 instructions for each node and each declared name. The whole code has the instructions of
 /// each method. It has at most 16 for each node, declared name, thread, call and argument. If these are together at

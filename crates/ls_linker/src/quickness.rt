@@ -21,7 +21,8 @@ pub fn frames_are_quick()
 /// three more than the most values that a call passes.
 #[tactic(auto, using(crate::proofs::OwnRuns::threads_quick))]
 pub fn threads_are_quick()
-    ensures { (file : File) (program : Program) (lowered : low.File) → ThreadsAreQuick file program (linked file program (units_of lowered)) }
+    ensures { (file : File) (program : Program) (lowered : low.File) → ThreadsAreQuick file program
+        (linked file program (units_of lowered)) }
 {}
 
 /// So an image is refused if its setup makes 30 jumps before its first call.

@@ -83,7 +83,8 @@ impl<L: Session> Model for Book<L> {
 
     ghost view = { λ b. b.schedule.items };
 
-    ghost invariant = { λ b. IsKept L.start L.limit b.machine b.schedule.items b.limit × (vec_len b.schedule ≤ b.limit) × (b.limit ≤ vec_capacity b.schedule) };
+    ghost invariant = { λ b. IsKept L.start L.limit b.machine b.schedule.items b.limit ×
+        (vec_len b.schedule ≤ b.limit) × (b.limit ≤ vec_capacity b.schedule) };
 }
 
 impl<L: Session> Book<L> {

@@ -24,7 +24,8 @@ impl Model for TurnSeat {
 
     ghost view = { λ s. seat_state s.seat.table_id s.seat.me.0.start s.seat.me.0.tape s.thread s.seen s.steps };
 
-    ghost invariant = { λ s. (s.seat.me ≡ (seated s.seat.me.0.start s.seat.me.0.tape s.thread s.seen s.steps, [])) × (s.steps ≤ s.seen) × (s.seen ≤ most_steps) };
+    ghost invariant = { λ s. (s.seat.me ≡ (seated s.seat.me.0.start s.seat.me.0.tape s.thread s.seen s.steps, [])) ×
+        (s.steps ≤ s.seen) × (s.seen ≤ most_steps) };
 }
 
 impl TurnSeat {

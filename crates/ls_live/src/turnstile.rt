@@ -62,9 +62,12 @@ impl Model for Turnstile {
 
     ghost Value = { TurnstileState };
 
-    ghost view = { λ t. turnstile_state t.table.shared.table_id t.table.shared.key.code.value t.table.shared.key.cells t.table.shared.key.tape.value.items t.table.shared.key.seats };
+    ghost view = { λ t. turnstile_state t.table.shared.table_id t.table.shared.key.code.value t.table.shared.key.cells
+        t.table.shared.key.tape.value.items t.table.shared.key.seats };
 
-    ghost invariant = { λ t. (t.tape.items ≡ t.table.shared.key.tape.value.items) × (t.seats ≡ t.table.shared.key.seats) × (0 < t.seats) × (vec_len t.tape ≤ most_steps) × (t.table.shared.table_id.words ≡ 1) × (t.table.shared.table_id.slots ≡ 1) };
+    ghost invariant = { λ t. (t.tape.items ≡ t.table.shared.key.tape.value.items) × (t.seats ≡ t.table.shared.key.seats)
+        × (0 < t.seats) × (vec_len t.tape ≤ most_steps) × (t.table.shared.table_id.words ≡ 1) ×
+        (t.table.shared.table_id.slots ≡ 1) };
 }
 
 impl Turnstile {

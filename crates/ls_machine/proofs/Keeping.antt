@@ -19,7 +19,8 @@ use Rattle.ls_code.specs.Exchanges.{seeing_action, saw, throwing, thrown_to, wit
 use Rattle.ls_code.specs.Exchanges.{take_at, take_named, take_from, taking_action, dropping_action, took, drop_at}
 use Rattle.ls_code.specs.Exchanges.{drop_named, drop_to}
 use Rattle.ls_code.specs.Moves.{FrameMove, Next, Throws, Stuck, Asks as FrameAsks, Beyond, frame_move, pushed}
-use Rattle.ls_code.specs.Steps.{Move, Silent, Still, Asks, Plans, StepResult, silent_or_still, thrown_thread, throw_move}
+use Rattle.ls_code.specs.Steps.{Move, Silent, Still, Asks, Plans, StepResult, silent_or_still, thrown_thread}
+use Rattle.ls_code.specs.Steps.{throw_move}
 use Rattle.ls_code.specs.Steps.{answered, call_move, on_top, on_kind, begin_move, value_move, found_move, wide_move}
 use Rattle.ls_code.specs.Steps.{of_frame, fetched_move, thread_move, replied, settled, ended_so, seen_outcome, touched}
 use Rattle.ls_code.specs.Steps.{planned, performed}

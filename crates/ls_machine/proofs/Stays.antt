@@ -188,7 +188,12 @@ silent_step p n k f c h =
     let is : outcome_at p n k c ≡ step_result (with_top k.thread f) c did.Silent = ap (performed c n k.thread)
     (fetched_next p k.thread f _ h) in
     record {
-      came = (ap (λ (o : StepResult). keeping_thread k o.thread) (sym is), ap (λ (o : StepResult). o.cells) (sym is), refl);
+      came = (
+        ap (λ (o : StepResult). keeping_thread k o.thread) (sym is),
+        ap (λ (o : StepResult). o.cells)
+            (sym is),
+        refl,
+      );
       unseen = subst IsUnseen (ap (λ (o : StepResult). o.did) (sym is)) silent_unseen;
       left = omega arith;
     }

@@ -1,7 +1,8 @@
 // Locks by load and exchange.
 
 ghost use Rattle.std.specs.Prelude.{◌≡◌, ℕ, ◌+◌, ◌<◌, ◌≤◌, ◌^◌, length, IfSome};
-ghost use Rattle.ls_code.specs.Exchanges.{Reports, throwing, seeing_action, saw, see_named, see_at, taking_action, took, take_from, take_at, dropping_action, drop_to, drop_at};
+ghost use Rattle.ls_code.specs.Exchanges.{Reports, throwing, seeing_action, saw, see_named, see_at, taking_action};
+ghost use Rattle.ls_code.specs.Exchanges.{took, take_from, take_at, dropping_action, drop_to, drop_at};
 ghost use Rattle.ls_code.specs.Frame.{top_one, top_two};
 ghost use Rattle.ls_code.specs.Locks.{taken_of, left_of};
 ghost use Rattle.ls_code.specs.Steps.{seen_outcome, planned};
@@ -20,7 +21,8 @@ use ls_machine_moves::flow::Reply;
 use ls_machine_threads::thread::Thread;
 use std::alloc::AllocError;
 
-/// What a thread sees of a lock: the operation that it is at and the number by which an instruction names that, the lock, and its word.
+/// What a thread sees of a lock: the operation that it is at and the number by which an instruction names that, the
+/// lock, and its word.
 #[derive(Copy)]
 struct Sight {
     which: u32,
@@ -45,7 +47,8 @@ fn fail(
     kind: Kind,
 ) -> Did
     requires { IsQuiet operation }
-    ensures came { Came (seen_outcome cells.old thread.old.thread (Reports operation (Answer.Fails kind) (throwing code.now thread.old.thread kind))) thread.old thread.new cells.new result }
+    ensures came { Came (seen_outcome cells.old thread.old.thread (Reports operation (Answer.Fails kind)
+        (throwing code.now thread.old.thread kind))) thread.old thread.new cells.new result }
     ensures events { TakesEvents code.now number result thread.old.thread thread.new.thread }
     ensures unseen { IsUnseen result }
 {
@@ -103,7 +106,8 @@ fn saw_word(code: &Code, cells: &mut Cells, number: usize, thread: &mut Thread, 
     requires place { thread.old.thread.top.counter + 1 < 2 ^ 64 }
     requires room { length thread.old.thread.top.operands < thread.old.thread.top.need }
     requires quiet { IsQuiet seen.operation }
-    ensures came { Came (seen_outcome cells.old thread.old.thread (saw code.now thread.old.thread number seen.which seen.operation seen.word)) thread.old thread.new cells.new result }
+    ensures came { Came (seen_outcome cells.old thread.old.thread (saw code.now thread.old.thread number seen.which
+        seen.operation seen.word)) thread.old thread.new cells.new result }
     ensures events { TakesEvents code.now number result thread.old.thread thread.new.thread }
     ensures unseen { IsUnseen result }
 {
@@ -147,7 +151,8 @@ fn see_lock(
 ) -> Did
     requires number { number ≤ 64 }
     requires place { thread.old.thread.top.counter + 1 < 2 ^ 64 }
-    ensures came { Came (planned cells.old number thread.old.thread (see_named code.now thread.old.thread number which lock (seeing_action which lock))) thread.old thread.new cells.new result }
+    ensures came { Came (planned cells.old number thread.old.thread (see_named code.now thread.old.thread number which
+        lock (seeing_action which lock))) thread.old thread.new cells.new result }
     ensures events { TakesEvents code.now number result thread.old.thread thread.new.thread }
     ensures unseen { IsUnseen result }
 {
@@ -182,7 +187,8 @@ fn see_lock(
 pub fn see(code: &Code, cells: &mut Cells, number: usize, thread: &mut Thread, which: u32) -> Did
     requires number { number ≤ 64 }
     requires place { thread.old.thread.top.counter + 1 < 2 ^ 64 }
-    ensures came { Came (planned cells.old number thread.old.thread (see_at code.now thread.old.thread number which (top_one thread.old.thread.top.operands))) thread.old thread.new cells.new result }
+    ensures came { Came (planned cells.old number thread.old.thread (see_at code.now thread.old.thread number which
+        (top_one thread.old.thread.top.operands))) thread.old thread.new cells.new result }
     ensures events { TakesEvents code.now number result thread.old.thread thread.new.thread }
     ensures unseen { IsUnseen result }
 {
@@ -205,7 +211,8 @@ fn took_word(
     requires place { thread.old.thread.top.counter + 1 < 2 ^ 64 }
     requires there { 1 ≤ length thread.old.thread.top.operands }
     requires quiet { IsQuiet seen.operation }
-    ensures came { Came (seen_outcome cells.old thread.old.thread (took thread.old.thread seen.which seen.operation won)) thread.old thread.new cells.new result }
+    ensures came { Came (seen_outcome cells.old thread.old.thread (took thread.old.thread seen.which seen.operation
+        won)) thread.old thread.new cells.new result }
     ensures events { TakesEvents code.now number result thread.old.thread thread.new.thread }
     ensures unseen { IsUnseen result }
 {
@@ -233,7 +240,8 @@ fn take_word(code: &Code, cells: &mut Cells, number: usize, thread: &mut Thread,
     requires place { thread.old.thread.top.counter + 1 < 2 ^ 64 }
     requires there { 1 ≤ length thread.old.thread.top.operands }
     requires quiet { IsQuiet seen.operation }
-    ensures came { Came (planned cells.old number thread.old.thread (take_from code.now thread.old.thread seen.which seen.operation seen.lock seen.word (taken_of seen.word number))) thread.old thread.new cells.new result }
+    ensures came { Came (planned cells.old number thread.old.thread (take_from code.now thread.old.thread seen.which
+        seen.operation seen.lock seen.word (taken_of seen.word number))) thread.old thread.new cells.new result }
     ensures events { TakesEvents code.now number result thread.old.thread thread.new.thread }
     ensures unseen { IsUnseen result }
 {
@@ -257,7 +265,8 @@ fn take_word(code: &Code, cells: &mut Cells, number: usize, thread: &mut Thread,
 pub fn take(code: &Code, cells: &mut Cells, number: usize, thread: &mut Thread, which: u32) -> Did
     requires number { number ≤ 64 }
     requires place { thread.old.thread.top.counter + 1 < 2 ^ 64 }
-    ensures came { Came (planned cells.old number thread.old.thread (take_at code.now thread.old.thread number which (top_two thread.old.thread.top.operands))) thread.old thread.new cells.new result }
+    ensures came { Came (planned cells.old number thread.old.thread (take_at code.now thread.old.thread number which
+        (top_two thread.old.thread.top.operands))) thread.old thread.new cells.new result }
     ensures events { TakesEvents code.now number result thread.old.thread thread.new.thread }
     ensures unseen { IsUnseen result }
 {
@@ -285,7 +294,8 @@ fn drop_word(code: &Code, cells: &mut Cells, number: usize, thread: &mut Thread,
     requires place { thread.old.thread.top.counter + 1 < 2 ^ 64 }
     requires there { 2 ≤ length thread.old.thread.top.operands }
     requires quiet { IsQuiet seen.operation }
-    ensures came { Came (planned cells.old number thread.old.thread (drop_to thread.old.thread seen.operation seen.lock (left_of seen.word number))) thread.old thread.new cells.new result }
+    ensures came { Came (planned cells.old number thread.old.thread (drop_to thread.old.thread seen.operation seen.lock
+        (left_of seen.word number))) thread.old thread.new cells.new result }
     ensures events { TakesEvents code.now number result thread.old.thread thread.new.thread }
     ensures unseen { IsUnseen result }
 {
@@ -312,7 +322,8 @@ pub fn drop_lock(
 ) -> Did
     requires number { number ≤ 64 }
     requires place { thread.old.thread.top.counter + 1 < 2 ^ 64 }
-    ensures came { Came (planned cells.old number thread.old.thread (drop_at thread.old.thread number which (top_two thread.old.thread.top.operands))) thread.old thread.new cells.new result }
+    ensures came { Came (planned cells.old number thread.old.thread (drop_at thread.old.thread number which
+        (top_two thread.old.thread.top.operands))) thread.old thread.new cells.new result }
     ensures events { TakesEvents code.now number result thread.old.thread thread.new.thread }
     ensures unseen { IsUnseen result }
 {

@@ -1,6 +1,7 @@
 // The parallel machine.
 
-ghost use Rattle.std.specs.Prelude.{◌≡◌, ◌+◌, ◌<◌, ◌≤◌, ◌^◌, ◌++◌, ◌↔◌, [], length, map, slice_get, slice_index_or, vec_len, vec_capacity, IfOk, IsErrOf, ◌*◌, IsTrue};
+ghost use Rattle.std.specs.Prelude.{◌≡◌, ◌+◌, ◌<◌, ◌≤◌, ◌^◌, ◌++◌, ◌↔◌, [], length, map, slice_get, slice_index_or};
+ghost use Rattle.std.specs.Prelude.{vec_len, vec_capacity, IfOk, IsErrOf, ◌*◌, IsTrue};
 ghost use Rattle.std.specs.List.{All, sum_by};
 ghost use Rattle.ls_code.specs.Limits.{most_cells};
 ghost use Rattle.ls_code.specs.Events.{events_of, result_of, result_value};
@@ -55,9 +56,16 @@ impl Model for Machine {
 
     ghost Value = { MachineValue };
 
-    ghost view = { λ m. record { code = m.code; threads = map (λ t. t.thread) m.threads.items; cells = m.cells; stopped = m.stopped; history = m.history.items } };
+    ghost view = { λ m. record {
+      code = m.code;
+      threads = map (λ t. t.thread) m.threads.items;
+      cells = m.cells;
+      stopped = m.stopped;
+      history = m.history.items;
+    } };
 
-    ghost invariant = { λ m. HasMemory m.code m.threads.items (vec_len m.history) m.limit × (m.limit ≤ vec_capacity m.history) × IsOf m.code m.threads.items m.cells m.limit };
+    ghost invariant = { λ m. HasMemory m.code m.threads.items (vec_len m.history) m.limit ×
+        (m.limit ≤ vec_capacity m.history) × IsOf m.code m.threads.items m.cells m.limit };
 }
 
 impl Machine {
@@ -171,8 +179,8 @@ impl Machine {
         did
     }
 
-    /// Sets the machine back to its start, as it is loaded anew from its code with as many cells. It takes no memory, and always
-    /// succeeds. It costs something for each setup name and each thread, and nothing for the other cells.
+    /// Sets the machine back to its start, as it is loaded anew from its code with as many cells. It takes no memory,
+    /// and always succeeds. It costs something for each setup name and each thread, and nothing for the other cells.
     pub fn set_back(&mut self)
         ensures { self.new ≡ loaded self.old.code self.old.cells.limit }
     {
@@ -265,7 +273,8 @@ fn are_same(threads: &[Thread], others: &[Thread]) -> bool
 #[inline(always)]
 fn is_due(threads: &[Thread], number: usize) -> bool
     requires { number < length threads.now }
-    ensures { result ≡ due (map (λ t. t.thread) threads.now) number (slice_index_or threads.now number no_thread).thread }
+    ensures { result ≡ due (map (λ t. t.thread) threads.now) number (slice_index_or threads.now number
+        no_thread).thread }
 {
     let thread = &threads[number];
     if thread.mode() != Mode::Running {

@@ -19,7 +19,8 @@ fn goes_on(thread: &Thread) -> bool
     thread.mode() == Mode::Running
 }
 
-/// Takes a step of a thread that acts, where it is no event and can't stop the machine. Else it does nothing and answers false.
+/// Takes a step of a thread that acts, where it is no event and can't stop the machine. Else it does nothing and
+/// answers false.
 #[inline(always)]
 fn acts(code: &Code, cells: &mut Cells, number: usize, thread: &mut Thread) -> bool
     requires number { number ≤ 64 }
@@ -37,8 +38,8 @@ fn acts(code: &Code, cells: &mut Cells, number: usize, thread: &mut Thread) -> b
     }
 }
 
-/// Takes steps of a thread, so many at most, up to the first that may be an event, stop the machine or end the thread. Answers how
-/// many.
+/// Takes steps of a thread, so many at most, up to the first that may be an event, stop the machine or end the thread.
+/// Answers how many.
 #[inline]
 pub fn stay(
     code: &Code,

@@ -1,9 +1,12 @@
 // One step of one thread.
 
-ghost use Rattle.std.specs.Prelude.{◌≡◌, ℕ, ◌+◌, ◌*◌, ◌<◌, ◌≤◌, ◌^◌, length, slice_get, IfSome, IsTrue, Some, true, false};
+ghost use Rattle.std.specs.Prelude.{◌≡◌, ℕ, ◌+◌, ◌*◌, ◌<◌, ◌≤◌, ◌^◌, length, slice_get, IfSome, IsTrue, Some, true};
+ghost use Rattle.std.specs.Prelude.{false};
 ghost use Rattle.ls_code.specs.Cells.{effect};
 ghost use Rattle.ls_code.specs.Moves.{frame_move};
-ghost use Rattle.ls_code.specs.Steps.{answered, settled, performed, thread_move, wide_move, enters_move, throw_move, leaves_with_move, throws_move, begin_move, gives_move, result_move, trap_move, of_frame};
+ghost use Rattle.ls_code.specs.Steps.{answered, settled, performed, thread_move, wide_move, enters_move, throw_move};
+ghost use Rattle.ls_code.specs.Steps.{leaves_with_move, throws_move, begin_move, gives_move, result_move, trap_move};
+ghost use Rattle.ls_code.specs.Steps.{of_frame};
 ghost use Rattle.ls_machine_moves.specs.Flows.{CanResume, IsQuiet, is_silent};
 ghost use Rattle.ls_machine_threads.specs.Memory.{MethodsFit, events_left};
 ghost use Rattle.ls_machine.specs.Outcomes.{Came, IsSilentMove};
@@ -36,7 +39,8 @@ fn ask(
     requires place { thread.old.thread.top.counter + 1 < 2 ^ 64 }
     requires ready { CanResume how thread.old.thread.top }
     requires quiet { IsQuiet action }
-    ensures came { Came (settled cells.old thread.old.thread action (answered code.now thread.old.thread how) (effect cells.old number action)) thread.old thread.new cells.new result }
+    ensures came { Came (settled cells.old thread.old.thread action (answered code.now thread.old.thread how)
+        (effect cells.old number action)) thread.old thread.new cells.new result }
     ensures events { TakesEvents code.now number result thread.old.thread thread.new.thread }
 {
     match cells.perform(number, action) {
@@ -66,7 +70,8 @@ fn ask(
 /// The thread throws, and drops frames up to the one that catches it.
 #[inline(never)]
 fn throw(code: &Code, cells: &mut Cells, number: usize, thread: &mut Thread, kind: Kind) -> Did
-    ensures came { Came (performed cells.old number thread.old.thread (throw_move code.now thread.old.thread kind)) thread.old thread.new cells.new result }
+    ensures came { Came (performed cells.old number thread.old.thread (throw_move code.now thread.old.thread kind))
+        thread.old thread.new cells.new result }
     ensures events { TakesEvents code.now number result thread.old.thread thread.new.thread }
     ensures unseen { IsUnseen result }
 {
@@ -87,7 +92,8 @@ fn find_method(code: &Code, number: usize) -> Option<Method>
 fn enter(code: &Code, cells: &mut Cells, number: usize, thread: &mut Thread, method: u32) -> Did
     requires place { thread.old.thread.top.counter + 1 < 2 ^ 64 }
     requires fit { MethodsFit code.now.methods thread.old.locals_room thread.old.operands_room }
-    ensures came { Came (performed cells.old number thread.old.thread (enters_move code.now thread.old.thread method)) thread.old thread.new cells.new result }
+    ensures came { Came (performed cells.old number thread.old.thread (enters_move code.now thread.old.thread method))
+        thread.old thread.new cells.new result }
     ensures events { TakesEvents code.now number result thread.old.thread thread.new.thread }
     ensures unseen { IsUnseen result }
 {
@@ -104,7 +110,8 @@ fn enter(code: &Code, cells: &mut Cells, number: usize, thread: &mut Thread, met
 /// The thread leaves its frame with a value.
 #[inline(always)]
 fn leave_with(code: &Code, cells: &mut Cells, number: usize, thread: &mut Thread) -> Did
-    ensures came { Came (performed cells.old number thread.old.thread (leaves_with_move thread.old.thread)) thread.old thread.new cells.new result }
+    ensures came { Came (performed cells.old number thread.old.thread (leaves_with_move thread.old.thread)) thread.old
+        thread.new cells.new result }
     ensures events { TakesEvents code.now number result thread.old.thread thread.new.thread }
     ensures unseen { IsUnseen result }
 {
@@ -119,7 +126,8 @@ fn leave_with(code: &Code, cells: &mut Cells, number: usize, thread: &mut Thread
 
 /// The thread throws a kind that it pops.
 fn throw_popped(code: &Code, cells: &mut Cells, number: usize, thread: &mut Thread) -> Did
-    ensures came { Came (performed cells.old number thread.old.thread (throws_move code.now thread.old.thread)) thread.old thread.new cells.new result }
+    ensures came { Came (performed cells.old number thread.old.thread (throws_move code.now thread.old.thread))
+        thread.old thread.new cells.new result }
     ensures events { TakesEvents code.now number result thread.old.thread thread.new.thread }
 {
     match thread.one() {
@@ -134,7 +142,8 @@ fn throw_popped(code: &Code, cells: &mut Cells, number: usize, thread: &mut Thre
 /// The call that is due begins.
 fn begin(code: &Code, cells: &mut Cells, number: usize, thread: &mut Thread, call: u32) -> Did
     requires { thread.old.thread.top.counter + 1 < 2 ^ 64 }
-    ensures came { Came (performed cells.old number thread.old.thread (begin_move thread.old.thread call)) thread.old thread.new cells.new result }
+    ensures came { Came (performed cells.old number thread.old.thread (begin_move thread.old.thread call)) thread.old
+        thread.new cells.new result }
     ensures events { TakesEvents code.now number result thread.old.thread thread.new.thread }
 {
     if !thread.is_due(call as usize) {
@@ -149,7 +158,8 @@ fn give(code: &Code, cells: &mut Cells, number: usize, thread: &mut Thread, call
     requires place { thread.old.thread.top.counter + 1 < 2 ^ 64 }
     requires pending { thread.old.thread.pending ≡ true }
     requires some { thread.old.thread.ended < length thread.old.thread.calls }
-    ensures came { Came (performed cells.old number thread.old.thread (gives_move thread.old.thread call)) thread.old thread.new cells.new result }
+    ensures came { Came (performed cells.old number thread.old.thread (gives_move thread.old.thread call)) thread.old
+        thread.new cells.new result }
     ensures events { TakesEvents code.now number result thread.old.thread thread.new.thread }
 {
     match thread.one() {
@@ -164,7 +174,8 @@ fn give(code: &Code, cells: &mut Cells, number: usize, thread: &mut Thread, call
 /// The pending call ends.
 fn end(code: &Code, cells: &mut Cells, number: usize, thread: &mut Thread, call: u32) -> Did
     requires { thread.old.thread.top.counter + 1 < 2 ^ 64 }
-    ensures came { Came (performed cells.old number thread.old.thread (result_move thread.old.thread call)) thread.old thread.new cells.new result }
+    ensures came { Came (performed cells.old number thread.old.thread (result_move thread.old.thread call)) thread.old
+        thread.new cells.new result }
     ensures events { TakesEvents code.now number result thread.old.thread thread.new.thread }
 {
     if !thread.is_pending(call as usize) {
@@ -183,7 +194,8 @@ fn end(code: &Code, cells: &mut Cells, number: usize, thread: &mut Thread, call:
 
 /// The pending call traps.
 fn trap(code: &Code, cells: &mut Cells, number: usize, thread: &mut Thread) -> Did
-    ensures came { Came (performed cells.old number thread.old.thread (trap_move thread.old.thread)) thread.old thread.new cells.new result }
+    ensures came { Came (performed cells.old number thread.old.thread (trap_move thread.old.thread)) thread.old
+        thread.new cells.new result }
     ensures events { TakesEvents code.now number result thread.old.thread thread.new.thread }
 {
     if !thread.has_pending() {
@@ -213,7 +225,8 @@ fn beyond(
     requires number { number ≤ 64 }
     requires place { thread.old.thread.top.counter + 1 < 2 ^ 64 }
     requires fit { MethodsFit code.now.methods thread.old.locals_room thread.old.operands_room }
-    ensures came { Came (performed cells.old number thread.old.thread (wide_move code.now thread.old.thread instruction)) thread.old thread.new cells.new result }
+    ensures came { Came (performed cells.old number thread.old.thread (wide_move code.now thread.old.thread
+        instruction)) thread.old thread.new cells.new result }
     ensures events { TakesEvents code.now number result thread.old.thread thread.new.thread }
 {
     match instruction {
@@ -250,7 +263,8 @@ fn fetch(code: &Code, place: usize) -> Option<Instruction>
 #[inline(always)]
 fn read_field(code: &Code, cells: &mut Cells, number: usize, thread: &mut Thread, field: u32) -> Did
     requires place { thread.old.thread.top.counter + 1 < 2 ^ 64 }
-    ensures came { Came (performed cells.old number thread.old.thread (of_frame code.now thread.old.thread (frame_move (Instruction.GetField field) thread.old.thread.top))) thread.old thread.new cells.new result }
+    ensures came { Came (performed cells.old number thread.old.thread (of_frame code.now thread.old.thread
+        (frame_move (Instruction.GetField field) thread.old.thread.top))) thread.old thread.new cells.new result }
     ensures events { TakesEvents code.now number result thread.old.thread thread.new.thread }
     ensures unseen { IsUnseen result }
 {
@@ -287,7 +301,8 @@ fn write_field(
     field: u32,
 ) -> Did
     requires place { thread.old.thread.top.counter + 1 < 2 ^ 64 }
-    ensures came { Came (performed cells.old number thread.old.thread (of_frame code.now thread.old.thread (frame_move (Instruction.PutField field) thread.old.thread.top))) thread.old thread.new cells.new result }
+    ensures came { Came (performed cells.old number thread.old.thread (of_frame code.now thread.old.thread
+        (frame_move (Instruction.PutField field) thread.old.thread.top))) thread.old thread.new cells.new result }
     ensures events { TakesEvents code.now number result thread.old.thread thread.new.thread }
     ensures unseen { IsUnseen result }
 {
@@ -340,7 +355,8 @@ pub fn move_silently(code: &Code, thread: &mut Thread) -> bool
 /// What `act` is to do, where the thread stands at such an instruction.
 #[inline(always)]
 pub fn find_acting(code: &Code, thread: &Thread) -> Option<Acting>
-    ensures here { IfSome result (λ acting. slice_get code.now.instructions thread.now.thread.top.counter ≡ Some (instruction_of acting)) }
+    ensures here { IfSome result (λ acting. slice_get code.now.instructions thread.now.thread.top.counter ≡
+        Some (instruction_of acting)) }
     ensures within { IfSome result (λ _. thread.now.thread.top.counter + 1 < 2 ^ 64) }
 {
     match fetch(code, thread.counter())? {
@@ -357,8 +373,8 @@ pub fn find_acting(code: &Code, thread: &Thread) -> Option<Acting>
     }
 }
 
-/// Does an instruction that neither stops the machine nor is an event, and that most code has. What it did is answered as it is, since
-/// an `Option` of it would be moved once more.
+/// Does an instruction that neither stops the machine nor is an event, and that most code has. What it did is answered
+/// as it is, since an `Option` of it would be moved once more.
 #[inline(always)]
 pub fn act(
     code: &Code,
@@ -370,7 +386,8 @@ pub fn act(
     requires number { number ≤ 64 }
     requires place { thread.old.thread.top.counter + 1 < 2 ^ 64 }
     requires fit { MethodsFit code.now.methods thread.old.locals_room thread.old.operands_room }
-    ensures came { Came (performed cells.old number thread.old.thread (of_frame code.now thread.old.thread (frame_move (instruction_of acting) thread.old.thread.top))) thread.old thread.new cells.new result }
+    ensures came { Came (performed cells.old number thread.old.thread (of_frame code.now thread.old.thread
+        (frame_move (instruction_of acting) thread.old.thread.top))) thread.old thread.new cells.new result }
     ensures events { TakesEvents code.now number result thread.old.thread thread.new.thread }
     ensures unseen { IsUnseen result }
 {
@@ -405,7 +422,8 @@ fn run_other(
     requires other { is_silent instruction ≡ false }
     requires place { thread.old.thread.top.counter + 1 < 2 ^ 64 }
     requires fit { MethodsFit code.now.methods thread.old.locals_room thread.old.operands_room }
-    ensures came { Came (performed cells.old number thread.old.thread (of_frame code.now thread.old.thread (frame_move instruction thread.old.thread.top))) thread.old thread.new cells.new result }
+    ensures came { Came (performed cells.old number thread.old.thread (of_frame code.now thread.old.thread
+        (frame_move instruction thread.old.thread.top))) thread.old thread.new cells.new result }
     ensures events { TakesEvents code.now number result thread.old.thread thread.new.thread }
 {
     match thread.advance(instruction) {
@@ -421,7 +439,8 @@ fn run_other(
 pub fn run(code: &Code, cells: &mut Cells, number: usize, thread: &mut Thread) -> Did
     requires number { number ≤ 64 }
     requires fit { MethodsFit code.now.methods thread.old.locals_room thread.old.operands_room }
-    ensures came { Came (performed cells.old number thread.old.thread (thread_move code.now thread.old.thread)) thread.old thread.new cells.new result }
+    ensures came { Came (performed cells.old number thread.old.thread (thread_move code.now thread.old.thread))
+        thread.old thread.new cells.new result }
     ensures events { TakesEvents code.now number result thread.old.thread thread.new.thread }
 {
     match fetch(code, thread.counter()) {

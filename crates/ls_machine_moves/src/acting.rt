@@ -79,7 +79,8 @@ pub fn advance(frame: &Frame, instruction: Instruction) -> Flow
         Instruction::GetItem =>
             at_two!(frame, a, i => Action::ReadItem { array: a, index: words::int_of(i) }, Resume::Settle(2)),
         Instruction::PutItem =>
-            at_three!(frame, a, i, v => Action::WriteItem { array: a, index: words::int_of(i), value: v }, Resume::Discard(3)),
+            at_three!(frame, a, i, v => Action::WriteItem { array: a, index: words::int_of(i), value: v },
+            Resume::Discard(3)),
         Instruction::GetName(x) =>
             with_room!(frame => Flow::Asks(Action::ReadName(x as usize), Resume::Push)),
         Instruction::PutName(x) => match frame.one() {
@@ -103,7 +104,8 @@ pub fn advance(frame: &Frame, instruction: Instruction) -> Flow
         Instruction::SwapPair =>
             at_three!(frame, a, e, n => Action::SwapPair { markable: a, expected: e, new: n }, Resume::Settle(3)),
         Instruction::AttemptMark =>
-            at_three!(frame, a, r, m => Action::AttemptMark { markable: a, reference: r, mark: words::bool_of(m) }, Resume::Settle(3)),
+            at_three!(frame, a, r, m => Action::AttemptMark { markable: a, reference: r, mark: words::bool_of(m) },
+            Resume::Settle(3)),
         Instruction::Halt => Flow::Beyond(ThreadInstruction::Halt),
         Instruction::See(p) => Flow::Beyond(ThreadInstruction::See(p)),
         Instruction::Take(p) => Flow::Beyond(ThreadInstruction::Take(p)),

@@ -1,7 +1,9 @@
 // The cells that all threads share.
 ghost use Rattle.std.specs.Prelude.{◌≡◌, ℕ, ◌+◌, ◌-◌, ◌*◌, ◌^◌, ◌<◌, ◌≤◌, List, [], ◌∷◌, replicate, IfOk};
-ghost use Rattle.std.specs.Prelude.{unsigned_abs, MatchOption, slice_set, slice_get, IsSome, IsTrue, None, false, length, Some};
-ghost use Rattle.ls_code.specs.Cells.{place_at, written_at, cell_at, read_effect, written, making, new_effect, on_item, on_name, array_effect, unlock_effect, swap_effect, mark_effect, effect};
+ghost use Rattle.std.specs.Prelude.{unsigned_abs, MatchOption, slice_set, slice_get, IsSome, IsTrue, None, false};
+ghost use Rattle.std.specs.Prelude.{length, Some};
+ghost use Rattle.ls_code.specs.Cells.{place_at, written_at, cell_at, read_effect, written, making, new_effect, on_item};
+ghost use Rattle.ls_code.specs.Cells.{on_name, array_effect, unlock_effect, swap_effect, mark_effect, effect};
 ghost use Rattle.ls_code.specs.Limits.{most_cells};
 ghost use Rattle.ls_code.specs.Machine.{first_cells};
 ghost use Rattle.ls_machine_moves.specs.Replies.{cells_after, reply_of};
@@ -144,7 +146,8 @@ impl Cells {
     }
 
     fn write_name(&mut self, number: usize, word: u64) -> Reply
-        ensures after { self.new ≡ cells_after self.old (on_name self.old number (written self.old 1 number word Answer.Done)) }
+        ensures after { self.new ≡ cells_after self.old
+            (on_name self.old number (written self.old 1 number word Answer.Done)) }
         ensures reply { result ≡ reply_of (on_name self.old number (written self.old 1 number word Answer.Done)) }
     {
         if number < self.names {
@@ -211,7 +214,8 @@ impl Cells {
     }
 
     fn read_item(&self, array: u64, index: i32) -> Reply
-        ensures { result ≡ reply_of (on_item self.now array index (read_effect self.now array (unsigned_abs index + 1))) }
+        ensures { result ≡ reply_of (on_item self.now array index
+            (read_effect self.now array (unsigned_abs index + 1))) }
     {
         match self.get(array, 0) {
             None => Reply::Unfit,
@@ -226,8 +230,10 @@ impl Cells {
     }
 
     fn write_item(&mut self, array: u64, index: i32, word: u64) -> Reply
-        ensures after { self.new ≡ cells_after self.old (on_item self.old array index (written self.old array (unsigned_abs index + 1) word Answer.Done)) }
-        ensures reply { result ≡ reply_of (on_item self.old array index (written self.old array (unsigned_abs index + 1) word Answer.Done)) }
+        ensures after { self.new ≡ cells_after self.old
+            (on_item self.old array index (written self.old array (unsigned_abs index + 1) word Answer.Done)) }
+        ensures reply { result ≡ reply_of (on_item self.old array index (written self.old array (unsigned_abs index + 1)
+            word Answer.Done)) }
     {
         match self.get(array, 0) {
             None => Reply::Unfit,
@@ -369,12 +375,13 @@ impl Cells {
             && self.words.as_slice() == saved.words.as_slice()
     }
 
-    /// Makes these cells as they were saved, in the memory that they have. Answers false, and changes nothing, where those were other
-    /// cells or that is too little.
+    /// Makes these cells as they were saved, in the memory that they have. Answers false, and changes nothing, where
+    /// those were other cells or that is too little.
     pub fn set_as(&mut self, saved: &SavedCells) -> bool
         ensures same { IsTrue result → self.new ≡ saved.now }
         ensures stays { result ≡ false → self.new ≡ self.old }
-        ensures kept { (self.new.limit ≡ self.old.limit) × (self.new.names ≡ self.old.names) × (self.new.sizes ≡ self.old.sizes) }
+        ensures kept { (self.new.limit ≡ self.old.limit) × (self.new.names ≡ self.old.names) ×
+            (self.new.sizes ≡ self.old.sizes) }
     {
         if self.limit != saved.limit || self.names != saved.names {
             return false;

@@ -1,5 +1,7 @@
 // One frame of a thread.
-ghost use Rattle.std.specs.Prelude.{◌≡◌, ℕ, ◌+◌, ◌-◌, ◌<◌, ◌≤◌, ◌^◌, ◌↔◌, List, [], ◌∷◌, ◌++◌, reverse, replicate, length, take, drop, slice_get, slice_set, slice_index, vec_capacity, IsTrue, IsSome, MatchOption, IfSome, IfOk, Bool, false};
+ghost use Rattle.std.specs.Prelude.{◌≡◌, ℕ, ◌+◌, ◌-◌, ◌<◌, ◌≤◌, ◌^◌, ◌↔◌, List, [], ◌∷◌, ◌++◌, reverse, replicate};
+ghost use Rattle.std.specs.Prelude.{length, take, drop, slice_get, slice_set, slice_index, vec_capacity, IsTrue};
+ghost use Rattle.std.specs.Prelude.{IsSome, MatchOption, IfSome, IfOk, Bool, false};
 ghost use Rattle.ls_machine_moves.specs.Frames.{empty_kept, keeping};
 ghost use Rattle.ls_code.specs.Frame.{onward, led_to, top_one, top_two, top_three};
 ghost use Rattle.ls_code.specs.Moves.{stored};
@@ -14,8 +16,9 @@ use ls_events::kind::Kind;
 use std::alloc::{AllocError, Global};
 use std::marker::Model;
 
-/// A frame. Its operands fill the end of their words, and the top is the first of them. It has memory for any method from the
-/// start, but words in it only for those that have been entered here: memory that no word is written to costs next to nothing.
+/// A frame. Its operands fill the end of their words, and the top is the first of them. It has memory for any method
+/// from the start, but words in it only for those that have been entered here: memory that no word is written to costs
+/// next to nothing.
 #[derive(Drop)]
 pub struct Frame {
     counter: usize,
@@ -34,9 +37,20 @@ impl Model for Frame {
 
     ghost Value = { Kept };
 
-    ghost view = { λ f. record { frame = record { counter = f.counter; locals = take f.count f.locals.items; operands = drop f.top f.operands.items; need = length f.operands.items - f.floor }; locals_room = f.locals_room; operands_room = f.operands_room } };
+    ghost view = { λ f. record {
+      frame = record {
+        counter = f.counter;
+        locals = take f.count f.locals.items;
+        operands = drop f.top f.operands.items;
+        need = length f.operands.items - f.floor;
+      };
+      locals_room = f.locals_room;
+      operands_room = f.operands_room;
+    } };
 
-    ghost invariant = { λ f. (f.count ≤ length f.locals.items) × (f.top ≤ length f.operands.items) × (f.floor ≤ length f.operands.items) × (f.locals_room ≤ vec_capacity f.locals) × (f.operands_room ≤ vec_capacity f.operands) };
+    ghost invariant = { λ f. (f.count ≤ length f.locals.items) × (f.top ≤ length f.operands.items) ×
+        (f.floor ≤ length f.operands.items) × (f.locals_room ≤ vec_capacity f.locals) ×
+        (f.operands_room ≤ vec_capacity f.operands) };
 }
 
 impl Frame {
@@ -196,7 +210,10 @@ impl Frame {
     #[inline(always)]
     fn set_local(&mut self, number: usize, word: u64)
         requires { number < length self.old.frame.locals }
-        ensures { self.new ≡ keeping self.old (record self.old.frame { locals = slice_set self.old.frame.locals number word }) }
+        ensures { self.new ≡ keeping self.old (record self.old.frame {
+          locals = slice_set self.old.frame.locals
+              number word;
+        }) }
     {
         self.locals[number] = word;
     }
@@ -221,7 +238,8 @@ impl Frame {
 
     /// Catches a throw at a row: the operands are cut, and the kind is pushed where it has room.
     pub fn catch(&mut self, row: &HandlerRow, kind: Kind) -> bool
-        ensures caught { MatchOption (caught row.now kind self.old.frame) (result ≡ false) (λ f. IsTrue result × (self.new ≡ keeping self.old f)) }
+        ensures caught { MatchOption (caught row.now kind self.old.frame) (result ≡ false) (λ f. IsTrue result ×
+            (self.new ≡ keeping self.old f)) }
         ensures stays { result ≡ false → self.new ≡ self.old }
     {
         let end = self.operands.len();
@@ -324,7 +342,8 @@ impl Frame {
         })
     }
 
-    /// Makes this the other frame, in the memory that it has. Answers false, and changes nothing, where that is too little.
+    /// Makes this the other frame, in the memory that it has. Answers false, and changes nothing, where that is too
+    /// little.
     pub fn set_as(&mut self, other: &Frame) -> bool
         ensures same { IsTrue result → self.new ≡ keeping self.old other.now.frame }
         ensures stays { result ≡ false → self.new ≡ self.old }

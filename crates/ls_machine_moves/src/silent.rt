@@ -1,7 +1,9 @@
 // The silent instructions of one frame. Their answer fits into two bytes: a larger one would cost half of the speed.
 
 ghost use Rattle.std.specs.Prelude.{◌≡◌, ℕ, ◌+◌, ◌<◌, ◌≤◌, ◌^◌, ◌/◌, ◌%◌, slice_get, IfSome, Some};
-ghost use Rattle.ls_code.specs.Words.{sum_word, difference_word, product_word, quotient_word, remainder_word, negative_word, less_word, at_most_word, same_word, not_word, other_word, pair_word};
+ghost use Rattle.ls_code.specs.Words.{sum_word, difference_word, product_word, quotient_word, remainder_word};
+ghost use Rattle.ls_code.specs.Words.{negative_word, less_word, at_most_word, same_word, not_word, other_word};
+ghost use Rattle.ls_code.specs.Words.{pair_word};
 ghost use Rattle.ls_code.specs.Moves.{frame_move, load_move, store_move, jump_move};
 ghost use Rattle.ls_machine_moves.specs.Flows.{IsQuick, LeavesOthers};
 ghost use Rattle.ls_machine_moves.specs.Frames.{keeping};

@@ -1,6 +1,9 @@
 // Machine words read as ints, booleans and pairs.
 ghost use Rattle.std.specs.Prelude.{◌≡◌, ℕ, ◌+◌, ◌-◌, ◌*◌, ◌/◌, ◌%◌, ◌^◌, ◌<◌, ◌≤◌};
-ghost use Rattle.ls_code.specs.Words.{int_of as int_in, word_of as word_for, bool_word as bool_for, bool_of as bool_in, sum_word, difference_word, product_word, quotient_word, remainder_word, negative_word, less_word, at_most_word, same_word, not_word, other_word, pair_word};
+ghost use Rattle.ls_code.specs.Words.{int_of as int_in, word_of as word_for, bool_word as bool_for, bool_of as bool_in};
+ghost use Rattle.ls_code.specs.Words.{sum_word, difference_word, product_word, quotient_word, remainder_word};
+ghost use Rattle.ls_code.specs.Words.{negative_word, less_word, at_most_word, same_word, not_word, other_word};
+ghost use Rattle.ls_code.specs.Words.{pair_word};
 ghost use Rattle.ls_code.specs.Kinds.{kind_of as kind_in};
 ghost use Rattle.ls_code.specs.Throws.{kind_word as word_for_kind};
 ghost use Rattle.ls_code.specs.Cells.{in_range as is_in_range};

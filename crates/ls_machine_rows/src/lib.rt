@@ -4,9 +4,13 @@
 #![tactic(auto)]
 
 ghost use Rattle.ls_machine_rows.specs.Limits.{MostCells};
-ghost use Rattle.ls_machine_rows.specs.Words.{WithoutOperand, LeastOperands, GreatestOperands, OtherOperands, NoInstruction};
-ghost use Rattle.ls_machine_rows.specs.Locks.{SeeForLock, SeeForTry, SeeForUnlock, SeeOfNull, SeeSticks, TakeWins, TakeLoses, TakeOfAnother, TakePastTheMost, TakeSticks, Drops, DropSticks, LockOfMonitor, UnlockOfMonitor, TwoHoldsDropped};
-ghost use Rattle.ls_machine_rows.specs.Silent.{Words, Locals, Arithmetic, Divisions, Comparisons, Equality, Jumps, Pairs, Nulls};
+ghost use Rattle.ls_machine_rows.specs.Words.{WithoutOperand, LeastOperands, GreatestOperands, OtherOperands};
+ghost use Rattle.ls_machine_rows.specs.Words.{NoInstruction};
+ghost use Rattle.ls_machine_rows.specs.Locks.{SeeForLock, SeeForTry, SeeForUnlock, SeeOfNull, SeeSticks, TakeWins};
+ghost use Rattle.ls_machine_rows.specs.Locks.{TakeLoses, TakeOfAnother, TakePastTheMost, TakeSticks, Drops, DropSticks};
+ghost use Rattle.ls_machine_rows.specs.Locks.{LockOfMonitor, UnlockOfMonitor, TwoHoldsDropped};
+ghost use Rattle.ls_machine_rows.specs.Silent.{Words, Locals, Arithmetic, Divisions, Comparisons, Equality, Jumps};
+ghost use Rattle.ls_machine_rows.specs.Silent.{Pairs, Nulls};
 ghost use Rattle.ls_machine_rows.specs.Acting.{Fields, Items, Names, Makings, LocksInOneStep, Markables};
 ghost use Rattle.ls_machine_rows.specs.Frames.{Enters, EntersNoDeeper, Leaves, Throws, Begins, Returns, Stops};
 ghost use Rattle.ls_machine_rows.specs.Whole.{Due, WaitsForALock, StopsAll, States};

@@ -1,10 +1,13 @@
 // A thread: its frames fill the end of their memory, and the innermost is the first of them.
-ghost use Rattle.std.specs.Prelude.{◌≡◌, ℕ, ◌+◌, ◌-◌, ◌<◌, ◌≤◌, ◌^◌, ◌↔◌, List, [], ◌∷◌, ◌&&◌, ◌==◌, not, nat_le, slice_get, length, map, drop, slice_index_or, slice_set, None, IfSome, IfOk, IsTrue, Some, true, MatchOption, Bool, false};
+ghost use Rattle.std.specs.Prelude.{◌≡◌, ℕ, ◌+◌, ◌-◌, ◌<◌, ◌≤◌, ◌^◌, ◌↔◌, List, [], ◌∷◌, ◌&&◌, ◌==◌, not, nat_le};
+ghost use Rattle.std.specs.Prelude.{slice_get, length, map, drop, slice_index_or, slice_set, None, IfSome, IfOk};
+ghost use Rattle.std.specs.Prelude.{IsTrue, Some, true, MatchOption, Bool, false};
 ghost use Rattle.ls_code.specs.Thread.{with_top, with_frames};
 ghost use Rattle.ls_code.specs.Moves.{frame_move, resumed};
 ghost use Rattle.ls_code.specs.Frame.{top_one, top_two};
 ghost use Rattle.ls_code.specs.Throws.{thrown, onto, caught, find_row as row_at};
-ghost use Rattle.ls_code.specs.Calls.{left_frame, left_with, halted, call_begun, call_ended, call_trapped, with_callee, enter_move, entered, calling};
+ghost use Rattle.ls_code.specs.Calls.{left_frame, left_with, halted, call_begun, call_ended, call_trapped, with_callee};
+ghost use Rattle.ls_code.specs.Calls.{enter_move, entered, calling};
 ghost use Rattle.ls_events.specs.declared.kind.Kind.{Kind};
 ghost use Rattle.ls_machine_moves.specs.Frames.{keeping, no_frame};
 ghost use Rattle.ls_machine_threads.specs.Memory.{keeping_thread, HaveRooms, started_kept, back_at};
@@ -50,9 +53,21 @@ impl Model for Thread {
 
     ghost Value = { KeptThread };
 
-    ghost view = { λ t. record { thread = record { top = (slice_index_or t.frames.items t.inner no_frame).frame; below = map (λ k. k.frame) (drop (t.inner + 1) t.frames.items); mode = t.mode; calls = t.calls.items; ended = t.ended; pending = t.pending }; locals_room = t.locals_room; operands_room = t.operands_room } };
+    ghost view = { λ t. record {
+      thread = record {
+        top = (slice_index_or t.frames.items t.inner no_frame).frame;
+        below = map (λ k. k.frame) (drop (t.inner + 1) t.frames.items);
+        mode = t.mode;
+        calls = t.calls.items;
+        ended = t.ended;
+        pending = t.pending;
+      };
+      locals_room = t.locals_room;
+      operands_room = t.operands_room;
+    } };
 
-    ghost invariant = { λ t. IsThread t.frames.items t.inner t.locals_room t.operands_room × AreCalls t.calls.items t.ended t.pending };
+    ghost invariant = { λ t. IsThread t.frames.items t.inner t.locals_room t.operands_room × AreCalls t.calls.items
+        t.ended t.pending };
 }
 
 impl Thread {
@@ -137,8 +152,8 @@ impl Thread {
         silent::quick(frame, instruction)
     }
 
-    /// Does silent instructions of the innermost frame, so many at most, up to the first that isn't silent, throws or is stuck.
-    /// Answers how many.
+    /// Does silent instructions of the innermost frame, so many at most, up to the first that isn't silent, throws or
+    /// is stuck. Answers how many.
     #[inline(always)]
     pub fn glide(&mut self, instructions: &[Instruction], most: usize) -> usize
         ensures few { result ≤ most }
@@ -162,7 +177,9 @@ impl Thread {
 
     /// Throws: drops frames up to the first that catches it, or changes nothing where none does.
     pub fn throw(&mut self, rows: &[HandlerRow], kind: Kind) -> bool
-        ensures thrown { MatchOption (thrown rows.now kind (self.old.thread.top ∷ self.old.thread.below)) (result ≡ false) (λ r. IsTrue result × (self.new ≡ keeping_thread self.old (with_frames self.old.thread r.0 r.1))) }
+        ensures thrown { MatchOption (thrown rows.now kind (self.old.thread.top ∷ self.old.thread.below))
+            (result ≡ false) (λ r. IsTrue result × (self.new ≡ keeping_thread self.old
+            (with_frames self.old.thread r.0 r.1))) }
         ensures stays { result ≡ false → self.new ≡ self.old }
     {
         match find_catcher(&self.frames, self.inner, rows) {
@@ -182,7 +199,8 @@ impl Thread {
     /// Leaves the innermost frame, where it isn't the lowest.
     #[inline(always)]
     pub fn leave(&mut self) -> bool
-        ensures left { MatchOption (left_frame self.old.thread self.old.thread.below) (result ≡ false) (λ t. IsTrue result × (self.new ≡ keeping_thread self.old t)) }
+        ensures left { MatchOption (left_frame self.old.thread self.old.thread.below) (result ≡ false)
+            (λ t. IsTrue result × (self.new ≡ keeping_thread self.old t)) }
         ensures stays { result ≡ false → self.new ≡ self.old }
     {
         if self.inner == MOST_CALLED {
@@ -197,7 +215,8 @@ impl Thread {
     /// Leaves the innermost frame with a value, where it isn't the lowest and the value has room.
     #[inline(always)]
     pub fn leave_with(&mut self, word: u64) -> bool
-        ensures left { MatchOption (left_with self.old.thread self.old.thread.below word) (result ≡ false) (λ t. IsTrue result × (self.new ≡ keeping_thread self.old t)) }
+        ensures left { MatchOption (left_with self.old.thread self.old.thread.below word) (result ≡ false)
+            (λ t. IsTrue result × (self.new ≡ keeping_thread self.old t)) }
         ensures stays { result ≡ false → self.new ≡ self.old }
     {
         if self.inner == MOST_CALLED {
@@ -259,7 +278,8 @@ impl Thread {
         requires place { self.old.thread.top.counter + 1 < 2 ^ 64 }
         requires locals { method.now.arguments + method.now.more ≤ self.old.locals_room }
         requires need { method.now.need ≤ self.old.operands_room }
-        ensures after { self.new ≡ keeping_thread self.old (thread_after self.old.thread (enter_move method.now self.old.thread)) }
+        ensures after { self.new ≡ keeping_thread self.old
+            (thread_after self.old.thread (enter_move method.now self.old.thread)) }
         ensures flow { result ≡ call_flow (enter_move method.now self.old.thread) }
     {
         let frame = &self.frames[self.inner];
@@ -281,7 +301,8 @@ impl Thread {
 
     /// Whether this call may begin: it is the next, and none is pending.
     pub fn is_due(&self, call: usize) -> bool
-        ensures { result ≡ (not self.now.thread.pending && (call == self.now.thread.ended + 1) && nat_le call (length self.now.thread.calls)) }
+        ensures { result ≡ (not self.now.thread.pending && (call == self.now.thread.ended + 1) && nat_le call
+            (length self.now.thread.calls)) }
     {
         !self.pending && call == self.ended + 1 && call <= self.calls.len()
     }
@@ -380,9 +401,13 @@ fn enter_above(frames: &mut [Frame], inner: usize, method: &Method)
     requires above { 0 < inner }
     requires there { inner < length frames.old }
     requires arguments { method.now.arguments ≤ length (slice_index_or frames.old inner no_frame).frame.operands }
-    requires locals { method.now.arguments + method.now.more ≤ (slice_index_or frames.old (inner - 1) no_frame).locals_room }
+    requires locals { method.now.arguments + method.now.more ≤ (slice_index_or frames.old (inner - 1)
+        no_frame).locals_room }
     requires need { method.now.need ≤ (slice_index_or frames.old (inner - 1) no_frame).operands_room }
-    ensures { let caller = slice_index_or frames.old inner no_frame in let callee = slice_index_or frames.old (inner - 1) no_frame in frames.new ≡ slice_set (slice_set frames.old (inner - 1) (keeping callee (entered method.now caller.frame))) inner (keeping caller (calling method.now caller.frame)) }
+    ensures { let caller = slice_index_or frames.old inner no_frame in let callee = slice_index_or frames.old
+        (inner - 1) no_frame in frames.new ≡ slice_set
+        (slice_set frames.old (inner - 1) (keeping callee (entered method.now caller.frame))) inner
+        (keeping caller (calling method.now caller.frame)) }
 {
     let (above, here) = frames.split_at_mut(inner);
     let callee = &mut above[inner - 1];
@@ -393,9 +418,12 @@ fn enter_above(frames: &mut [Frame], inner: usize, method: &Method)
 /// The first frame from this one on that has a row for where it stands, and that row.
 fn find_catcher(frames: &[Frame], from: usize, rows: &[HandlerRow]) -> Option<(usize, HandlerRow)>
     requires { from ≤ length frames.now }
-    ensures none { MatchOption result ((kind : Kind) → thrown rows.now kind (map (λ k. k.frame) (drop from frames.now)) ≡ None) (λ r. from ≤ r.0) }
+    ensures none { MatchOption result ((kind : Kind) → thrown rows.now kind (map (λ k. k.frame) (drop from frames.now))
+        ≡ None) (λ r. from ≤ r.0) }
     ensures within { IfSome result (λ r. (from ≤ r.0) × (r.0 < length frames.now)) }
-    ensures some { IfSome result (λ r. (kind : Kind) → thrown rows.now kind (map (λ k. k.frame) (drop from frames.now)) ≡ onto (caught r.1 kind (slice_index_or frames.now r.0 no_frame).frame) (map (λ k. k.frame) (drop (r.0 + 1) frames.now))) }
+    ensures some { IfSome result (λ r. (kind : Kind) → thrown rows.now kind (map (λ k. k.frame) (drop from frames.now))
+        ≡ onto (caught r.1 kind (slice_index_or frames.now r.0 no_frame).frame)
+        (map (λ k. k.frame) (drop (r.0 + 1) frames.now))) }
 {
     for at in from..frames.len() {
         let frame = &frames[at];

@@ -11,5 +11,7 @@ ghost use Rattle.ls_meaning.specs.Renamings.{IsRenaming, renamed_answers, rename
 /// Assume that the constants of the file and of the program name no object. Then what a thread does next commutes with
 /// every one-to-one renaming of references that keeps null.
 pub fn next_renames()
-    ensures { (file : File) (program : Program) → FileHasConstants file → ProgramHasConstants program → (names : ℕ → ℕ) → IsRenaming names → (thread : ℕ) (answers : Answers) → next file program thread (renamed_answers names answers) ≡ renamed_next names (next file program thread answers) }
+    ensures { (file : File) (program : Program) → FileHasConstants file → ProgramHasConstants program →
+        (names : ℕ → ℕ) → IsRenaming names → (thread : ℕ) (answers : Answers) → next file program thread
+        (renamed_answers names answers) ≡ renamed_next names (next file program thread answers) }
 {}

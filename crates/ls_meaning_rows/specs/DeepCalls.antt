@@ -1,5 +1,5 @@
--- A run with the most calls in one another. The text is above its checked file. Then come its thread program, schedule and
--- trace.
+-- A run with the most calls in one another. The text is above its checked file. Then come its thread program, schedule
+-- and trace.
 use Rattle.std.specs.Prelude.{◌≡◌, [], ◌∷◌, ◌++◌, replicate, None, Some}
 use Rattle.ls_events.specs.declared.value.ValueType.TheVariants as types
 use Rattle.ls_events.specs.declared.kind.Kind.TheVariants as kinds

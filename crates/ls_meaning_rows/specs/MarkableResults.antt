@@ -1,5 +1,5 @@
--- What operations of markable references answer and set (java.util.concurrent.atomic.AtomicMarkableReference). Each text is
--- above its checked file. Then come its thread program, schedule and trace.
+-- What operations of markable references answer and set (java.util.concurrent.atomic.AtomicMarkableReference). Each
+-- text is above its checked file. Then come its thread program, schedule and trace.
 use Rattle.std.specs.Prelude.{◌≡◌, pos, true, false, [], ◌∷◌, ◌++◌, replicate, None, Some}
 use Rattle.ls_events.specs.declared.value.Value.TheVariants as values
 use Rattle.ls_events.specs.declared.value.ValueType.TheVariants as types

@@ -2,23 +2,43 @@
 //! compute exactly these traces. Each clause is one program with its schedule.
 #![tactic(auto)]
 
-ghost use Rattle.ls_meaning_rows.specs.Worked.{UpdateLost, ValueBeforeFinally, ReturnOverThrow, FinallyBeforeTrap, GetWithAnEmptyArray, GetBeforeItsTrap, HeldTwice};
+ghost use Rattle.ls_meaning_rows.specs.Worked.{UpdateLost, ValueBeforeFinally, ReturnOverThrow, FinallyBeforeTrap};
+ghost use Rattle.ls_meaning_rows.specs.Worked.{GetWithAnEmptyArray, GetBeforeItsTrap, HeldTwice};
 ghost use Rattle.ls_meaning_rows.specs.DeepCalls.{SixtyFourCalls};
 ghost use Rattle.ls_meaning_rows.specs.Lists.{LazyList};
-ghost use Rattle.ls_meaning_rows.specs.Order.{TargetNullAfterArguments, FieldNullAfterValue, MethodArguments, Operands, ConstructorArguments, AndLeftFalse, AndLeftTrue, OrLeftTrue, OrLeftFalse};
-ghost use Rattle.ls_meaning_rows.specs.ArrayOrder.{ArrayNullAfterIndex, ArrayIndexValue, ArrayNullAfterValue, NegativeIndex, NegativeLength, IndexAtTheLength};
-ghost use Rattle.ls_meaning_rows.specs.Markables.{ArgumentsOfTheMaking, ArgumentsOfSet, ArgumentsOfAttemptMark, ArgumentsOfCompareAndSet, NullTargetAfterArguments, NullTargetOfGetAfterItsArray, NullArrayOfGetAfterTheRead};
-ghost use Rattle.ls_meaning_rows.specs.MarkableResults.{GetWithTwoElements, ExpectedMarkIsWrong, ExpectedReferenceIsWrong, ExchangeSetsBoth, AttemptOfTheSameMark};
-ghost use Rattle.ls_meaning_rows.specs.Comparisons.{Less, LessOrEqual, Greater, GreaterOrEqual, Equal, NotEqual, References, Booleans};
-ghost use Rattle.ls_meaning_rows.specs.Operators.{Quotients, Remainders, Sums, Differences, Products, QuotientByZero, RemainderByZero, OppositeOfTheLeastInt};
-ghost use Rattle.ls_meaning_rows.specs.Completions.{LocalsSetInFinally, LocalResetAtEachDeclaration, ReturnOverReturn, ReturnOverBreak, BreakOverReturn, ThrowOverReturn, ThrowOverThrow, ContinueOutOfATry, OuterLoops, NestedFinallyBlocksInOrder, ReturnEndsABlock, ReturnWithoutAValue, ElseBranch};
-ghost use Rattle.ls_meaning_rows.specs.Threads.{NoStartBeforeTheSetupHasEnded, NoStartAfterATrapOfTheSetup, NoStepAfterATrap, ExceptionOfAnInitialiser, ExceptionOfAConstructor, AHeldLockIsWaitedFor, UnlockOfALockThatAnotherHolds, UnlockOfAFreeLock, HeldByAnother, TwoHoldsByTry};
-ghost use Rattle.ls_meaning_rows.specs.Limits.{LastHold, HoldPastTheLast, TryPastTheLast, LockOfAnother, LastHoldLeft, OneHoldLeft, NegativeSize, NullName, EntryIsDone, TrappedIsNoEnd, NoThread, NotYet, EmptySetup};
-ghost use Rattle.ls_meaning_rows.specs.Loops.{ExceptionOutOfALoop, ContinueSkipsTheRest, ContinueOutOfAnInnerBlock, BreakOutOfAnInnerBlock, ContinueOfTheOuterLoop};
+ghost use Rattle.ls_meaning_rows.specs.Order.{TargetNullAfterArguments, FieldNullAfterValue, MethodArguments, Operands};
+ghost use Rattle.ls_meaning_rows.specs.Order.{ConstructorArguments, AndLeftFalse, AndLeftTrue, OrLeftTrue, OrLeftFalse};
+ghost use Rattle.ls_meaning_rows.specs.ArrayOrder.{ArrayNullAfterIndex, ArrayIndexValue, ArrayNullAfterValue};
+ghost use Rattle.ls_meaning_rows.specs.ArrayOrder.{NegativeIndex, NegativeLength, IndexAtTheLength};
+ghost use Rattle.ls_meaning_rows.specs.Markables.{ArgumentsOfTheMaking, ArgumentsOfSet, ArgumentsOfAttemptMark};
+ghost use Rattle.ls_meaning_rows.specs.Markables.{ArgumentsOfCompareAndSet, NullTargetAfterArguments};
+ghost use Rattle.ls_meaning_rows.specs.Markables.{NullTargetOfGetAfterItsArray, NullArrayOfGetAfterTheRead};
+ghost use Rattle.ls_meaning_rows.specs.MarkableResults.{GetWithTwoElements, ExpectedMarkIsWrong};
+ghost use Rattle.ls_meaning_rows.specs.MarkableResults.{ExpectedReferenceIsWrong, ExchangeSetsBoth};
+ghost use Rattle.ls_meaning_rows.specs.MarkableResults.{AttemptOfTheSameMark};
+ghost use Rattle.ls_meaning_rows.specs.Comparisons.{Less, LessOrEqual, Greater, GreaterOrEqual, Equal, NotEqual};
+ghost use Rattle.ls_meaning_rows.specs.Comparisons.{References, Booleans};
+ghost use Rattle.ls_meaning_rows.specs.Operators.{Quotients, Remainders, Sums, Differences, Products, QuotientByZero};
+ghost use Rattle.ls_meaning_rows.specs.Operators.{RemainderByZero, OppositeOfTheLeastInt};
+ghost use Rattle.ls_meaning_rows.specs.Completions.{LocalsSetInFinally, LocalResetAtEachDeclaration, ReturnOverReturn};
+ghost use Rattle.ls_meaning_rows.specs.Completions.{ReturnOverBreak, BreakOverReturn, ThrowOverReturn, ThrowOverThrow};
+ghost use Rattle.ls_meaning_rows.specs.Completions.{ContinueOutOfATry, OuterLoops, NestedFinallyBlocksInOrder};
+ghost use Rattle.ls_meaning_rows.specs.Completions.{ReturnEndsABlock, ReturnWithoutAValue, ElseBranch};
+ghost use Rattle.ls_meaning_rows.specs.Threads.{NoStartBeforeTheSetupHasEnded, NoStartAfterATrapOfTheSetup};
+ghost use Rattle.ls_meaning_rows.specs.Threads.{NoStepAfterATrap, ExceptionOfAnInitialiser, ExceptionOfAConstructor};
+ghost use Rattle.ls_meaning_rows.specs.Threads.{AHeldLockIsWaitedFor, UnlockOfALockThatAnotherHolds, UnlockOfAFreeLock};
+ghost use Rattle.ls_meaning_rows.specs.Threads.{HeldByAnother, TwoHoldsByTry};
+ghost use Rattle.ls_meaning_rows.specs.Limits.{LastHold, HoldPastTheLast, TryPastTheLast, LockOfAnother, LastHoldLeft};
+ghost use Rattle.ls_meaning_rows.specs.Limits.{OneHoldLeft, NegativeSize, NullName, EntryIsDone, TrappedIsNoEnd};
+ghost use Rattle.ls_meaning_rows.specs.Limits.{NoThread, NotYet, EmptySetup};
+ghost use Rattle.ls_meaning_rows.specs.Loops.{ExceptionOutOfALoop, ContinueSkipsTheRest, ContinueOutOfAnInnerBlock};
+ghost use Rattle.ls_meaning_rows.specs.Loops.{BreakOutOfAnInnerBlock, ContinueOfTheOuterLoop};
 ghost use Rattle.ls_meaning_rows.specs.Marks.{ExpectedMarkIsSet, SetIsRead, RefusedAttempt, AttemptClears};
 ghost use Rattle.ls_meaning_rows.specs.Starts.{ProductsOfZero, FieldsStart};
-ghost use Rattle.ls_meaning_rows.specs.Steps.{WholeHistory, StateOfARun, WaitsOrIdle, IdleAtFirst, AskedLater, AskedOnTheWay};
-ghost use Rattle.ls_meaning_rows.specs.Monitors.{NoUpdateLost, OneStepLess, MonitorOfNull, UnlockedByTraps, MonitorOfAnObject};
+ghost use Rattle.ls_meaning_rows.specs.Steps.{WholeHistory, StateOfARun, WaitsOrIdle, IdleAtFirst, AskedLater};
+ghost use Rattle.ls_meaning_rows.specs.Steps.{AskedOnTheWay};
+ghost use Rattle.ls_meaning_rows.specs.Monitors.{NoUpdateLost, OneStepLess, MonitorOfNull, UnlockedByTraps};
+ghost use Rattle.ls_meaning_rows.specs.Monitors.{MonitorOfAnObject};
 ghost use Rattle.ls_meaning_rows.specs.Additions.{NullBeforeValue, ReadBeforeValue, SumsWrap};
 
 /// Whole runs.

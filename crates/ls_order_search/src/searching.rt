@@ -22,9 +22,9 @@ fn is_due(calls: &[SetCall], next: usize, at: usize) -> bool
     next < calls.len() && calls[next].called <= at
 }
 
-/// Places calls until those that end here are placed. Answers a later place, before which no open call ends, and at most
-/// `events`. It is `end` if no open call ends before `end`, and `end` is later. None if there is no way to place them.
-/// The only refusal is that memory ran out.
+/// Places calls until those that end here are placed. Answers a later place, before which no open call ends, and at
+/// most `events`. It is `end` if no open call ends before `end`, and `end` is later. None if there is no way to place
+/// them. The only refusal is that memory ran out.
 fn pass(
     set: &mut BTreeSet<i32>,
     pool: &mut Pool,

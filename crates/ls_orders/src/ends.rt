@@ -37,7 +37,8 @@ fn end_at(at: usize, occurrence: &Occurrence<'_>) -> End
 fn take_end<'a>(ends: &mut HashMap<(usize, &'a str), End>, call: (usize, &'a str)) -> End
     ensures behind { result ≡ ended ends.old call.entry.1.now call.entry.0 }
     ensures put { (thread : Text) (number : ℕ) → ended ends.new thread number
-        ≡ (if bytes_eq call.entry.1.now thread && call.entry.0 == number then Pending else ended ends.old thread number) }
+        ≡ (if bytes_eq call.entry.1.now thread && call.entry.0 == number then Pending else ended ends.old
+        thread number) }
 {
     ends.remove(&call).unwrap_or(End::Pending)
 }

@@ -23,7 +23,8 @@ use ls_meaning::laws::next_renames;
 /// number of cells. Each schedule of instructions has a schedule of source steps with the same trace and history. Each
 /// schedule of source steps that fits has a schedule of instructions with the same trace and history.
 pub fn same_traces()
-    ensures { (file : File) (program : Program) (code : Code) → Asks file program code → FileHasConstants file → ProgramHasConstants program → IsSound file program → Same file program code }
+    ensures { (file : File) (program : Program) (code : Code) → Asks file program code → FileHasConstants file →
+        ProgramHasConstants program → IsSound file program → Same file program code }
 {
     next_renames();
 }
@@ -39,19 +40,22 @@ pub fn fed_by_words()
 /// So if the threads of code ask what the source asks, they ask for it by their own instructions.
 #[tactic(auto, using(crate::proofs::AskedByWords::asks_by_words))]
 pub fn asks_by_words()
-    ensures { (file : File) (program : Program) (code : Code) → Asks file program code → All IsExchanged code.instructions → AsksByWords file program code }
+    ensures { (file : File) (program : Program) (code : Code) → Asks file program code →
+        All IsExchanged code.instructions → AsksByWords file program code }
 {}
 
 /// If the sort of a value is known, its word determines the value. So a trace in words says what the source's trace
 /// says.
 pub fn words_determine()
-    ensures { (things : List ValueType) (ρ : ℕ → ℕ) → ArePlaces (length things) ρ → (s : Sort) (v w : Value) → HasSortBy (Refers things) v s → HasSortBy (Refers things) w s → written ρ v ≡ written ρ w → v ≡ w }
+    ensures { (things : List ValueType) (ρ : ℕ → ℕ) → ArePlaces (length things) ρ → (s : Sort) (v w : Value) →
+        HasSortBy (Refers things) v s → HasSortBy (Refers things) w s → written ρ v ≡ written ρ w → v ≡ w }
 {}
 
 /// If a schedule of source steps fits, each beginning of it fits. So if a schedule doesn't fit, there is a first step
 /// that doesn't.
 pub fn fits_shorter()
-    ensures { (file : File) (program : Program) (cells : ℕ) (first rest : List ℕ) → Fits file program cells (first ++ rest) → Fits file program cells first }
+    ensures { (file : File) (program : Program) (cells : ℕ) (first rest : List ℕ) → Fits file program cells
+        (first ++ rest) → Fits file program cells first }
 {}
 
 /// What is asked of code and of the meaning can be met. A program meets it whose setup makes an object and whose

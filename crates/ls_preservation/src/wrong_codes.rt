@@ -34,5 +34,6 @@ pub fn the_same_alone()
 /// takes it. A thread that looks again acts in three steps.
 pub fn not_in_time()
     ensures gives_up { ActsInTime wrong.locking_file wrong.locking wrong.gives_up → ⊥ }
-    ensures looks_again { acts_or_stops true (first_did 3 (machine_run (loaded wrong.looks_again 9) wrong.lost_race) 1) ≡ true }
+    ensures looks_again { acts_or_stops true (first_did 3 (machine_run (loaded wrong.looks_again 9) wrong.lost_race) 1)
+        ≡ true }
 {}

@@ -7,7 +7,8 @@ ghost use Rattle.ls_lowered.specs.LoweredTree.{Local, Unary, Hold, After, SetFir
 ghost use Rattle.ls_lowered.specs.declared.tree.UnaryOperator.TheVariants as unary;
 ghost use Rattle.ls_meaning.specs.Expressions.{constructor_of};
 ghost use Rattle.ls_refs.specs.ValueWords.{value_word};
-ghost use Rattle.ls_refs.specs.Calls.{lowered_operator, own_temporaries as those_of, first_of, rest_of, second_of, pack as packed, compare_and_set as swapping, get_both as getting, lowered_call};
+ghost use Rattle.ls_refs.specs.Calls.{lowered_operator, own_temporaries as those_of, first_of, rest_of, second_of};
+ghost use Rattle.ls_refs.specs.Calls.{pack as packed, compare_and_set as swapping, get_both as getting, lowered_call};
 
 use ls_checked::tree::{Called, Class, Operator};
 use ls_events::value::Value;
@@ -103,7 +104,8 @@ pub fn pack(
 
 /// The first two arguments as a pair. The only refusal is that memory ran out.
 pub fn pack_arguments(alloc: Global, arguments: Expressions) -> Result<Expression, AllocError>
-    ensures { IfOk result (λ t. plain t ≡ packed (first_of (all_plain arguments)) (first_of (rest_of (all_plain arguments)))) }
+    ensures { IfOk result (λ t. plain t ≡ packed (first_of (all_plain arguments))
+        (first_of (rest_of (all_plain arguments)))) }
 {
     let (reference, rest) = split(arguments);
     let (mark, _) = split(rest);
@@ -144,7 +146,9 @@ fn hold_four(
     arguments: Expressions,
 ) -> Result<Expression, AllocError>
     requires { free + 4 ≤ 128 }
-    ensures { IfOk result (λ t. let es = all_plain arguments in plain t ≡ Hold (Hold (Hold (Hold (plain target) free (first_of es)) (free + 1) (second_of es)) (free + 2) (second_of (rest_of es))) (free + 3) (second_of (rest_of (rest_of es)))) }
+    ensures { IfOk result (λ t. let es = all_plain arguments in plain t ≡
+        Hold (Hold (Hold (Hold (plain target) free (first_of es)) (free + 1) (second_of es)) (free + 2)
+        (second_of (rest_of es))) (free + 3) (second_of (rest_of (rest_of es)))) }
 {
     let (expected, rest) = split(arguments);
     let (new, rest) = split(rest);
@@ -185,7 +189,8 @@ fn half(alloc: Global, op: UnaryOperator, pair: usize) -> Result<Box<Expression>
 // The mark of the pair in the second local goes into the array in the first. The reference is the word.
 fn spread(alloc: Global, free: usize) -> Result<Box<Expression>, AllocError>
     requires { free + 2 ≤ 128 }
-    ensures { IfOk result (λ b. plain b.value ≡ After (SetFirst (Local free) (Unary unary.MarkOf (Local (free + 1)))) (Unary unary.ReferenceOf (Local (free + 1)))) }
+    ensures { IfOk result (λ b. plain b.value ≡ After (SetFirst (Local free) (Unary unary.MarkOf (Local (free + 1))))
+        (Unary unary.ReferenceOf (Local (free + 1)))) }
 {
     let array = boxed_local(alloc, free)?;
     let (array, mark) = also(array, half(alloc, UnaryOperator::MarkOf, free + 1))?;
@@ -229,7 +234,8 @@ fn attempt(
     target: Expression,
     arguments: Expressions,
 ) -> Result<Expression, AllocError>
-    ensures { IfOk result (λ t. plain t ≡ AttemptMark (plain target) (first_of (all_plain arguments)) (first_of (rest_of (all_plain arguments)))) }
+    ensures { IfOk result (λ t. plain t ≡ AttemptMark (plain target) (first_of (all_plain arguments))
+        (first_of (rest_of (all_plain arguments)))) }
 {
     let (reference, rest) = split(arguments);
     let (mark, _) = split(rest);

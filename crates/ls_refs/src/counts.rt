@@ -14,7 +14,8 @@ use ls_checked::tree::{Method, Statement};
 #[tactic(auto, using(crate::proofs::Rows::block_read))]
 pub fn count_statement(so_far: usize, s: &Statement) -> Option<usize>
     requires { so_far ≤ most_locals }
-    ensures { SomeIff result (so_far + taken (plain_statement s.now) ≤ most_locals) (so_far + taken (plain_statement s.now)) }
+    ensures { SomeIff result (so_far + taken (plain_statement s.now) ≤ most_locals)
+        (so_far + taken (plain_statement s.now)) }
 {
     match s {
         Statement::Block(statements) => count_statements(so_far, statements),
@@ -57,7 +58,8 @@ pub fn count_statement(so_far: usize, s: &Statement) -> Option<usize>
 #[cycle(statements)]
 fn count_statements(so_far: usize, statements: &[Statement]) -> Option<usize>
     requires { so_far ≤ most_locals }
-    ensures { SomeIff result (so_far + block_taken (statements_of statements.now) ≤ most_locals) (so_far + block_taken (statements_of statements.now)) }
+    ensures { SomeIff result (so_far + block_taken (statements_of statements.now) ≤ most_locals)
+        (so_far + block_taken (statements_of statements.now)) }
 {
     let mut count = so_far;
     for s in statements {

@@ -57,7 +57,8 @@ pub fn count_expression(so_far: usize, e: &Expression) -> Option<usize>
 #[cycle(expressions)]
 fn count_expressions(so_far: usize, es: &Expressions) -> Option<usize>
     requires { so_far ≤ 128 }
-    ensures { SomeIff result (so_far + all_temporaries (all_checked es.now) ≤ 128) (so_far + all_temporaries (all_checked es.now)) }
+    ensures { SomeIff result (so_far + all_temporaries (all_checked es.now) ≤ 128)
+        (so_far + all_temporaries (all_checked es.now)) }
 {
     match es {
         Expressions::End => Some(so_far),

@@ -209,7 +209,8 @@ pub fn lower_expressions(
     es: &Expressions,
 ) -> Result<Placed<Trees>, AllocError>
     requires { free + all_temporaries (all_checked es.now) ≤ 128 }
-    ensures trees { IfOk result (λ r. all_plain r.tree ≡ all_lowered (map plain_class classes.now) free (all_checked es.now)) }
+    ensures trees { IfOk result (λ r. all_plain r.tree ≡ all_lowered (map plain_class classes.now) free
+        (all_checked es.now)) }
     ensures free { IfOk result (λ r. r.free ≡ free + all_temporaries (all_checked es.now)) }
 {
     match es {

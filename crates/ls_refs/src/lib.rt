@@ -1,5 +1,5 @@
-//! The first lowering: values become words, each call's temporaries locals, loops leavable statements, and methods and files
-//! trees over words.
+//! The first lowering: values become words, each call's temporaries locals, loops leavable statements, and methods and
+//! files trees over words.
 #![tactic(auto)]
 
 pub mod calls;

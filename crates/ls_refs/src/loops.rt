@@ -45,8 +45,8 @@ fn put_block_loops(statements: &[Statement], out: &mut Vec<u8>) -> Result<(), Al
     Ok(())
 }
 
-/// How many loops there are in a statement. A byte stands for each while they are counted, so memory ends before machine words
-/// do.
+/// How many loops there are in a statement. A byte stands for each while they are counted, so memory ends before
+/// machine words do.
 pub fn count_loops(alloc: Global, s: &Statement) -> Result<usize, AllocError>
     ensures count { IfOk result (λ n. n ≡ loops (plain_statement s.now)) }
     ensures low { OnOk result (loops (plain_statement s.now) < 2 ^ 63) }

@@ -22,12 +22,14 @@ use std::alloc::{AllocError, Global};
 /// statements are as they were written.
 pub type RefTree = LoweredFile;
 
-// A method, where its locals aren't too many. After its loops were counted, each number of a jump is known to be a machine word.
+// A method, where its locals aren't too many. After its loops were counted, each number of a jump is known to be a
+// machine word.
 fn lower_method(alloc: Global, classes: &[Class], method: &Method) -> Result<Lowered, AllocError>
     requires slots { method.now.parameters < length method.now.slots.items }
     requires few { locals_of (checked_method method.now) ≤ most_locals }
     requires loops { JumpsInLoops 0 (checked_method method.now).body }
-    ensures { IfOk result (λ m. plain_method m ≡ lowered_method (map plain_class classes.now) (checked_method method.now)) }
+    ensures { IfOk result (λ m. plain_method m ≡ lowered_method (map plain_class classes.now)
+        (checked_method method.now)) }
 {
     let arguments = method.parameters + 1;
     count_loops(alloc, &method.body)?;

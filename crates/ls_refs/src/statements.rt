@@ -2,7 +2,8 @@
 
 ghost use Rattle.ls_lowered.specs.Limits.{most_locals};
 ghost use Rattle.std.specs.Prelude.{◌≡◌, ℕ, ◌+◌, ◌*◌, ◌<◌, ◌≤◌, ◌^◌, IfOk, map};
-ghost use Rattle.ls_checked.specs.Plain.{plain as checked, plain_statement as checked_statement, statements_of as checked_statements, plain_class};
+ghost use Rattle.ls_checked.specs.Plain.{plain as checked, plain_statement as checked_statement};
+ghost use Rattle.ls_checked.specs.Plain.{statements_of as checked_statements, plain_class};
 ghost use Rattle.ls_checked.specs.CheckedTree as trees;
 ghost use Rattle.ls_lowered.specs.LoweredTree.{Block, While, Leave, Statements};
 ghost use Rattle.ls_lowered.specs.Plain.{plain, plain_statement, statements_of, in_front};
@@ -32,7 +33,8 @@ fn block_of(statements: Vec<Tree>) -> Tree
 
 // One more statement of a block; in place of a block stand its statements.
 fn put(out: &mut Vec<Tree>, s: Tree) -> Result<(), AllocError>
-    ensures { IfOk result (λ _. (rest : Statements) → in_front out.new.items rest ≡ in_front out.old.items (ahead (plain_statement s) rest)) }
+    ensures { IfOk result (λ _. (rest : Statements) → in_front out.new.items rest ≡ in_front out.old.items
+        (ahead (plain_statement s) rest)) }
 {
     match s {
         Tree::Block(mut inner) => out.append(&mut inner)?,
@@ -50,7 +52,8 @@ fn leavable(alloc: Global, body: Box<Tree>) -> Tree
 
 // A loop, that a leave ends, whose body a leave ends.
 fn loop_of(alloc: Global, condition: Value, body: Box<Tree>) -> Result<Tree, AllocError>
-    ensures { IfOk result (λ t. plain_statement t ≡ ended_by_leave (While (plain condition) (ended_by_leave (plain_statement body.value)))) }
+    ensures { IfOk result (λ t. plain_statement t ≡
+        ended_by_leave (While (plain condition) (ended_by_leave (plain_statement body.value)))) }
 {
     let body = boxed(alloc, leavable(alloc, body));
     let (condition, body) = also(condition, body)?;
@@ -164,7 +167,8 @@ pub fn lower_statement(
 ) -> Result<Placed<Tree>, AllocError>
     requires few { free + statement_temporaries (checked_statement s.now) ≤ most_locals }
     requires jumps { JumpsBelow (2 ^ 63) (checked_statement s.now) }
-    ensures tree { IfOk result (λ r. plain_statement r.tree ≡ lowered_statement (map plain_class classes.now) free (checked_statement s.now)) }
+    ensures tree { IfOk result (λ r. plain_statement r.tree ≡ lowered_statement (map plain_class classes.now) free
+        (checked_statement s.now)) }
     ensures free { IfOk result (λ r. r.free ≡ free + statement_temporaries (checked_statement s.now)) }
 {
     match s {
@@ -309,7 +313,8 @@ fn lower_part(
 ) -> Result<Placed<Box<Tree>>, AllocError>
     requires few { free + statement_temporaries (checked_statement s.now) ≤ most_locals }
     requires jumps { JumpsBelow (2 ^ 63) (checked_statement s.now) }
-    ensures tree { IfOk result (λ r. plain_statement r.tree.value ≡ lowered_statement (map plain_class classes.now) free (checked_statement s.now)) }
+    ensures tree { IfOk result (λ r. plain_statement r.tree.value ≡ lowered_statement (map plain_class classes.now) free
+        (checked_statement s.now)) }
     ensures free { IfOk result (λ r. r.free ≡ free + statement_temporaries (checked_statement s.now)) }
 {
     let s = lower_statement(alloc, classes, free, s)?;

@@ -24,7 +24,8 @@ item_renamed names (Some v) h = sym (h names)
 items_renamed : (names : ℕ → ℕ) (m : BTreeMap ℕ Value) → NameNoObject m.entries →
     items_of m ≡ (λ n. renamed names (items_of m n))
 items_renamed names m h = fun_ext
-    (λ n. item_renamed names (lookup (is_at (nat_cmp n)) m.entries) (All-lookup IsNameless (is_at (nat_cmp n)) m.entries h))
+    (λ n. item_renamed names (lookup (is_at (nat_cmp n)) m.entries)
+    (All-lookup IsNameless (is_at (nat_cmp n)) m.entries h))
 
 -- an array is itself under other numbers
 pub array_renamed : (names : Names) (size : ℕ) (m : BTreeMap ℕ Value) → NameNoObject m.entries →

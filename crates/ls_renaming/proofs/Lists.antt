@@ -1,5 +1,6 @@
 -- What is so of each item of a list is so of the list.
-use Rattle.std.proofs.Common.{◌≡◌, ℕ, zero, suc, List, [], ◌∷◌, ◌++◌, drop, map, Some, refl, sym, ap, ◌∙◌, subst, reverse}
+use Rattle.std.proofs.Common.{◌≡◌, ℕ, zero, suc, List, [], ◌∷◌, ◌++◌, drop, map, Some, refl, sym, ap, ◌∙◌, subst}
+use Rattle.std.proofs.Common.{reverse}
 use Rattle.std.specs.Prelude.{slice_get}
 use Rattle.std.proofs.lemmas.List.{map-append, reverse-append}
 use Rattle.ls_checked.specs.CheckedTree.{File, Method}
@@ -33,7 +34,8 @@ calls_dropped cs zero h = h
 calls_dropped [] (suc n) h = h
 calls_dropped (c ∷ cs) (suc n) h = calls_dropped cs n h.1
 
-constants_after : (fs gs : List Frame) → FramesHaveConstants fs → FramesHaveConstants gs → FramesHaveConstants (fs ++ gs)
+constants_after : (fs gs : List Frame) → FramesHaveConstants fs → FramesHaveConstants gs →
+    FramesHaveConstants (fs ++ gs)
 constants_after [] gs h k = k
 constants_after (f ∷ fs) gs h k = (h.0, constants_after fs gs h.1 k)
 
@@ -44,7 +46,8 @@ constants_reversed (f ∷ fs) h =
     (constants_after (reverse fs) (f ∷ []) (constants_reversed fs h.1) (h.0, tt))
 
 -- the innermost frame comes last
-pub frames_constants : (fs : List KeptFrame) → FramesHaveConstants (map frame_of fs) → FramesHaveConstants (frames_of fs)
+pub frames_constants : (fs : List KeptFrame) → FramesHaveConstants (map frame_of fs) →
+    FramesHaveConstants (frames_of fs)
 unfolding frames_of
 frames_constants fs h = constants_reversed (map frame_of fs) h
 

@@ -186,7 +186,8 @@ fn renumber_works<'a>(
     both: &Both,
     works: &[usize],
 ) -> Result<Option<Vec<usize>>, AllocError>
-    requires { (place work : ℕ) → slice_get works.now place ≡ Some work → work < length (table_of transitions.old).works }
+    requires { (place work : ℕ) → slice_get works.now place ≡ Some work →
+        work < length (table_of transitions.old).works }
     ensures there { IfOk result (λ r. IfSome r (λ v.
         AreWorksThere (table_of transitions.new) (names_of both.now.names) works.now v.items)) }
     ensures width { IfOk result (λ r. IfSome r (λ v. length v.items ≡ length works.now)) }

@@ -2,7 +2,8 @@
 
 ghost use Rattle.std.specs.Prelude.{IsTrue};
 ghost use Rattle.ls_checked.specs.Plain.{all_plain, plain, plain_statement, statements_of};
-ghost use Rattle.ls_meaning.specs.Constants.{AllConstant, HasConstants, HaveConstants, IsConstant, UseConstants, UsesConstants};
+ghost use Rattle.ls_meaning.specs.Constants.{AllConstant, HasConstants, HaveConstants, IsConstant, UseConstants};
+ghost use Rattle.ls_meaning.specs.Constants.{UsesConstants};
 
 use ls_checked::tree::{Expression, Expressions, Statement};
 use ls_events::value::Value;

@@ -122,7 +122,8 @@ fn rename_frames<'a>(
     names: &Names,
     frames: &[Frame<'a>],
 ) -> Result<Vec<Frame<'a>>, AllocError>
-    ensures { IfOk result (λ v. map frame_of v.items ≡ map (renamed_frame (names_of names.now)) (map frame_of frames.now)) }
+    ensures { IfOk result (λ v. map frame_of v.items ≡ map (renamed_frame (names_of names.now))
+        (map frame_of frames.now)) }
 {
     let mut renamed = Vec::new(alloc);
     for frame in frames {

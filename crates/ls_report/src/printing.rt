@@ -59,7 +59,8 @@ fn push_happening(
     happening: Happening,
 ) -> Result<(), AllocError>
     ensures { OnOk result (string_bytes out.new
-        ≡ string_bytes out.old ++ occurrence_text (occurrence_of (plain_program program.now) (plain_call call.now) happening)) }
+        ≡ string_bytes out.old ++ occurrence_text (occurrence_of (plain_program program.now)
+        (plain_call call.now) happening)) }
 {
     match happening {
         Happening::Called => push_call(out, program, call),
@@ -76,7 +77,8 @@ fn push_event(
     call: &ProgramCall,
 ) -> Result<(), AllocError>
     ensures { OnOk result (string_bytes out.new
-        ≡ string_bytes out.old ++ line (event_of (plain_program program.now) (plain_thread thread.now) event (plain_call call.now))) }
+        ≡ string_bytes out.old ++ line (event_of (plain_program program.now) (plain_thread thread.now) event
+        (plain_call call.now))) }
 {
     let name = thread.name.as_str();
     let number = event.call;

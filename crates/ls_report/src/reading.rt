@@ -25,7 +25,8 @@ fn next_in<'a>(
 ) -> Result<Option<NamedEvent<'a>>, AllocError>
     requires { IsIndexed front.now }
     ensures some { IfOk result (λ o. IfSome o (λ e.
-        (is_next (map plain_event front.now.events.items) (plain_event e) ≡ true) × (line.now ≡ event_text (plain_event e)))) }
+        (is_next (map plain_event front.now.events.items) (plain_event e) ≡ true) ×
+        (line.now ≡ event_text (plain_event e)))) }
     ensures none { IfOk result (λ o. IfNone o ((e : Event) → is_next (map plain_event front.now.events.items) e ≡ true
         → e.call < 2 ^ 64 → line.now ≡ event_text e → ⊥)) }
 {

@@ -76,7 +76,8 @@ module _ (file : File) (program : Program) where
       ap (λ k. s ++ replicate k t) one ∙ ap (λ l. s ++ l) (replicate_last n t)
       ∙ sym (append_assoc s (replicate n t) (t ∷ [])) in
       subst (ActAll file program) (sym is)
-      (acts_more (s ++ replicate n t) t (acts_times s t n all (λ j less. each j (omega (arith, less)))) (each n (omega arith)))
+      (acts_more (s ++ replicate n t) t (acts_times s t n all (λ j less. each j (omega (arith, less))))
+      (each n (omega arith)))
 
   pub setup_acts : (k : ℕ) → SetsUp file program k → ActAll file program (replicate k 0)
   setup_acts k up = acts_times [] 0 k refl up

@@ -75,7 +75,8 @@ module _ (classes : List Class) (o f : ℕ) (v : Value) where
   has_read : (s : Store) (u : ℕ) → HasField s o f v → effect classes s u (ReadField o f) ≡ Does s (Gives v)
   has_read s u h =
       ap (λ t. at_thing s o t (change u (ReadField o f))) h.there
-      ∙ ap (λ z. Does z (Gives (slice_index_or h.fields f nothing))) (thing_same s o (Object h.monitor h.fields) h.there)
+      ∙ ap (λ z. Does z (Gives (slice_index_or h.fields f nothing)))
+      (thing_same s o (Object h.monitor h.fields) h.there)
       ∙ ap (λ w. Does s (Gives w)) h.is
 
   -- what a change of the object leaves of the field
@@ -172,7 +173,8 @@ module _ (classes : List Class) (o f : ℕ) (v : Value) where
       no_thing : thing_at s (new_number s) ≡ None
       no_thing =
           let k : length s.things + 1 ≡ suc (length s.things) = omega arith in
-          ap (thing_at s) k ∙ at_suc s (length s.things) ∙ get_past s.things (length s.things) (le_refl (length s.things))
+          ap (thing_at s) k ∙ at_suc s (length s.things) ∙ get_past s.things (length s.things)
+          (le_refl (length s.things))
 
       not_new : o ≢ new_number s
       not_new k = none_not (sym no_thing ∙ ap (thing_at s) (sym k) ∙ h.there)
@@ -199,7 +201,8 @@ module _ (classes : List Class) (o f : ℕ) (v : Value) where
       SparesField a o f →
       effect classes s t a ≡ Does s' y →
       HasField s' o f v
-  field_stays s s' t (ReadField n g) y h spares e = on_stays s s' n t (ReadField n g) y h (λ k m fs i. as_it_is m fs i) e
+  field_stays s s' t (ReadField n g) y h spares e = on_stays s s' n t (ReadField n g) y h (λ k m fs i.
+      as_it_is m fs i) e
   field_stays s s' t (WriteField n g w) y h spares e =
       on_stays s s' n t (WriteField n g w) y h (λ k m fs i. written n g w m fs i k spares) e
   field_stays s s' t (ReadItem n i) y h spares e = on_stays s s' n t (ReadItem n i) y h (λ k m fs j. as_it_is m fs j) e

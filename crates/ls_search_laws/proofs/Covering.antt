@@ -13,7 +13,8 @@ use Rattle.ls_meaning.specs.declared.step.Did.{Did}
 use Rattle.ls_meaning.specs.declared.step.Did.TheVariants as did
 use Rattle.ls_meaning.specs.Steps.{Entry, Stepped, run, trace, traced}
 use Rattle.ls_meaning.specs.Threads.{Next, Goes, Ended, Trapped, next}
-use Rattle.ls_meaning.specs.Runs.{State, answers_of, has_ended, history_of, idle, source_history, source_run, source_step}
+use Rattle.ls_meaning.specs.Runs.{State, answers_of, has_ended, history_of, idle, source_history, source_run}
+use Rattle.ls_meaning.specs.Runs.{source_step}
 use Rattle.ls_meaning.specs.Runs.{start, step, step_of}
 use Rattle.ls_meaning.specs.Still.{IsActing, IsOver, IsStill}
 use Rattle.ls_search_laws.specs.Stepping.{IsBefore, SetsUp, events_of}
@@ -179,10 +180,14 @@ module _ (file : File) (program : Program) where
 
 -- the history of fewer steps comes first in that of more
 pub fewer_first : (file : File) (program : Program) (j n : ℕ) →
-    (rest : List Event) × (source_history file program (replicate j 0) ++ rest ≡ source_history file program (replicate (j + n) 0))
+    (rest : List Event) × (source_history file program (replicate j 0) ++ rest ≡ source_history file program
+    (replicate (j + n) 0))
 fewer_first file program j zero =
-    let e : j ≡ j + 0 = omega arith in
-    ([], append-nil (source_history file program (replicate j 0)) ∙ ap (λ i. source_history file program (replicate i 0)) e)
+    let e : j ≡ j + 0 = omega arith in (
+      [],
+      append-nil (source_history file program (replicate j 0)) ∙
+          ap (λ i. source_history file program (replicate i 0)) e,
+    )
 fewer_first file program j (suc n) =
     let b = fewer_first file program j n in
     let e : j + n + 1 ≡ j + suc n = omega arith in

@@ -24,7 +24,8 @@ module _ {M : Type 0} (next : M → Event → M) (is_bad : M → Bool) (stays : 
   by_truth false not = refl
 
   -- where more events are good, fewer are
-  pub good_before : (m : M) (h rest : List Event) → is_bad (fold next m (h ++ rest)) ≡ false → is_bad (fold next m h) ≡ false
+  pub good_before : (m : M) (h rest : List Event) → is_bad (fold next m (h ++ rest)) ≡ false →
+      is_bad (fold next m h) ≡ false
   good_before m h rest good = by_truth (is_bad (fold next m h)) (λ bad.
       false_not_true (is_bad (fold next m (h ++ rest))) good
       (ap is_bad (fold-append next m h rest) ∙ bad_along rest (fold next m h) bad))

@@ -5,7 +5,8 @@ use Rattle.std.specs.Prelude.{nat_eq, unsigned_abs}
 use Rattle.ls_events.specs.declared.value.Value.{Value}
 use Rattle.ls_events.specs.declared.kind.Kind.TheVariants.{ArrayIndexOutOfBounds}
 use Rattle.ls_events.specs.declared.action.Action.{Action}
-use Rattle.ls_events.specs.declared.action.Action.TheVariants.{ReadField, ReadItem, ReadName, IsHeld, ReadPair, Turn, Enter}
+use Rattle.ls_events.specs.declared.action.Action.TheVariants.{ReadField, ReadItem, ReadName, IsHeld, ReadPair, Turn}
+use Rattle.ls_events.specs.declared.action.Action.TheVariants.{Enter}
 use Rattle.ls_events.specs.declared.action.Answer.{Answer}
 use Rattle.ls_events.specs.declared.action.Answer.TheVariants.{Done, Gives, Fails}
 use Rattle.ls_checked.specs.CheckedTree.{Class}

@@ -1,7 +1,9 @@
 -- Steps of states with other names, and lists that are closed up to them.
-use Rattle.std.proofs.Common.{◌≡◌, ◌≢◌, ◌⊎◌, inl, inr, ℕ, ◌<◌, ◌≤◌, Bool, true, false, cond, List, [], ◌∷◌, ◌++◌, length}
+use Rattle.std.proofs.Common.{◌≡◌, ◌≢◌, ◌⊎◌, inl, inr, ℕ, ◌<◌, ◌≤◌, Bool, true, false, cond, List, [], ◌∷◌, ◌++◌}
+use Rattle.std.proofs.Common.{length}
 use Rattle.std.proofs.Common.{map, Option, Some, None, option_map, refl, sym, ap, ◌∙◌}
-use Rattle.std.proofs.Common.{subst, append_assoc, append-nil, length-set, get_or-set_same, get_or-set_other, slice_set, arith}
+use Rattle.std.proofs.Common.{subst, append_assoc, append-nil, length-set, get_or-set_same, get_or-set_other, slice_set}
+use Rattle.std.proofs.Common.{arith}
 use Rattle.std.specs.Prelude.{if◌then◌else◌, nat_eq}
 use Rattle.std.proofs.lemmas.Bool.{cases_eq, cases_lt}
 use Rattle.std.proofs.lemmas.Bool.Decides.{nat_tests}
@@ -25,12 +27,15 @@ use Rattle.ls_meaning.specs.Course.{Answers}
 use Rattle.ls_meaning.specs.Store.{Thing, Object, LockOf, Markable, Array, Store, thing_at}
 use Rattle.ls_meaning.specs.Effect.{Effect, Waits, Does, effect}
 use Rattle.ls_meaning.specs.Threads.{Next, Goes, Ended, Trapped, all_calls, calls_in, next as next_of}
-use Rattle.ls_meaning.specs.Renamings.{IsRenaming, renamed, renamed_action, renamed_answer, renamed_answers, renamed_next}
+use Rattle.ls_meaning.specs.Renamings.{IsRenaming, renamed, renamed_action, renamed_answer, renamed_answers}
+use Rattle.ls_meaning.specs.Renamings.{renamed_next}
 use Rattle.ls_meaning.specs.Renamings.{renamed_result}
-use Rattle.ls_meaning.specs.Runs.{State, Step, answers_of, event_of, has_ended, has_started, idle, performed, step, step_of}
+use Rattle.ls_meaning.specs.Runs.{State, Step, answers_of, event_of, has_ended, has_started, idle, performed, step}
+use Rattle.ls_meaning.specs.Runs.{step_of}
 use Rattle.ls_search_laws.specs.Stepping.{events_in, events_of}
 use Rattle.ls_search_laws.specs.Renaming.{IsRenamedEffect, IsRenamedStore, renamed_thing}
-use Rattle.ls_search_laws.specs.Configuration.{Configuration, IsRenamed, IsRenamedStride, Stride, configuration_of, idling}
+use Rattle.ls_search_laws.specs.Configuration.{Configuration, IsRenamed, IsRenamedStride, Stride, configuration_of}
+use Rattle.ls_search_laws.specs.Configuration.{idling}
 use Rattle.ls_search_laws.specs.Configuration.{performing, renamed_did, stride, stride_of, with_answer}
 use Rattle.ls_search_laws.specs.Noticing.{StepsStride}
 use Rattle.ls_search_laws.specs.Noticing.{StridesRename, renamed_event}
@@ -108,7 +113,8 @@ module _ (file : File) (program : Program) (s : State) (long : length s.answers 
     λ i. record { store = store; continues = λ u later. answer_more t store x lt u later (cases_eq u t) i },
   )
 
-  by_next : (t : ℕ) (n : Next) → next_of file program t (answers_of s t) ≡ n → IsStride (step_of file s t n) (stride_of file here t n)
+  by_next : (t : ℕ) (n : Next) → next_of file program t (answers_of s t) ≡ n → IsStride (step_of file s t n)
+      (stride_of file here t n)
   by_next t (Goes a sort) e = by_effect t a (effect file.classes s.store t a)
       (next_within file program t (answers_of s t) a sort e)
   by_next t Ended e = (refl, refl)
@@ -127,12 +133,14 @@ module _ (file : File) (program : Program) (s : State) (long : length s.answers 
       stride file here t ≡ cond (has_started file program s t)
       (stride_of file here t (next_of file program t (answers_of s t))) (idling here)
   stride_is t =
-      ap (λ n. cond (if nat_eq t 0 then true else has_ended n) (stride_of file here t (here.continues t [])) (idling here))
+      ap (λ n. cond (if nat_eq t 0 then true else has_ended n) (stride_of file here t (here.continues t []))
+      (idling here))
       (no_more 0)
       ∙ ap (λ n. cond (has_started file program s t) (stride_of file here t n) (idling here)) (no_more t)
 
   pub step_stride : (t : ℕ) → IsStride (step file program s t) (stride file here t)
-  step_stride t = subst (IsStride (step file program s t)) (sym (stride_is t)) (by_started t (has_started file program s t))
+  step_stride t = subst (IsStride (step file program s t)) (sym (stride_is t))
+      (by_started t (has_started file program s t))
 
 pub steps_stride : StepsStride
 steps_stride file program s long t = step_stride file program s long t
@@ -174,7 +182,8 @@ module _ (file : File) (names : ℕ → ℕ) (is : IsRenaming names) (c c' : Con
   next_same t Trapped = itself
 
   started_same : (t : ℕ) (b : Bool) (n : Next) →
-      IsSame (cond b (stride_of file c t n) (idling c)) (cond b (stride_of file c' t (renamed_next names n)) (idling c'))
+      IsSame (cond b (stride_of file c t n) (idling c))
+      (cond b (stride_of file c' t (renamed_next names n)) (idling c'))
   started_same t true n = next_same t n
   started_same t false n = itself
 
@@ -226,7 +235,8 @@ module _ (f g : ℕ → ℕ) where
   thing_both (Markable p) = ap Markable (value_both p)
   thing_both (Array size items) = ap (Array size) (λ i n. value_both (items n) i)
 
-  things_both : (t : Option Thing) → option_map (renamed_thing both) t ≡ option_map (renamed_thing g) (option_map (renamed_thing f) t)
+  things_both : (t : Option Thing) → option_map (renamed_thing both) t ≡ option_map (renamed_thing g)
+      (option_map (renamed_thing f) t)
   things_both None = refl
   things_both (Some t) = ap Some (thing_both t)
 

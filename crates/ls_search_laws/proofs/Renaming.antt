@@ -23,7 +23,8 @@ use Rattle.ls_meaning.specs.Values.{nothing, start_of, reference_of, mark_of}
 use Rattle.ls_meaning.specs.Store.{Hold, Free, HeldBy, Thing, Object, LockOf, Markable, Array, Store, thing_at}
 use Rattle.ls_meaning.specs.Store.{with_thing, with_new, new_number, with_name}
 use Rattle.ls_meaning.specs.Effect.{Does, Change, Stays, Leaves, Holding, Awaits, Becomes, at_thing, change}
-use Rattle.ls_meaning.specs.Effect.{effect, fields_in, in_range, making, most_holds, on_lock, on_monitor, put_back, same_mark}
+use Rattle.ls_meaning.specs.Effect.{effect, fields_in, in_range, making, most_holds, on_lock, on_monitor, put_back}
+use Rattle.ls_meaning.specs.Effect.{same_mark}
 use Rattle.ls_meaning.specs.Effect.{same_pair, size_of, with_hold, with_item, held_more, locking, trying, unlocking}
 use Rattle.ls_meaning.specs.Effect.{asking_held}
 use Rattle.ls_meaning.specs.Renamings.{IsRenaming, renamed, renamed_action, renamed_answer}
@@ -32,7 +33,8 @@ use Rattle.ls_search_laws.specs.Renaming.{EffectRenames, IsRenamedEffect, IsRena
 
 -- ---- things at numbers
 
-get_same : {A : Type 0} (xs : List A) (k : ℕ) (x y : A) → slice_get xs k ≡ Some x → slice_get (slice_set xs k y) k ≡ Some y
+get_same : {A : Type 0} (xs : List A) (k : ℕ) (x y : A) → slice_get xs k ≡ Some x →
+    slice_get (slice_set xs k y) k ≡ Some y
 get_same [] k x y h = absurd (none h)
   where
     none : None ≡ Some x → ⊥
@@ -278,7 +280,8 @@ module _ (names : ℕ → ℕ) (is : IsRenaming names) where
 
   module _ (s s' : Store) (r : IsRenamedStore names s s') where
     -- the same store, and an answer
-    stays_other : (answer : Answer Value) → IsRenamedEffect names (Does s answer) (Does s' (renamed_answer names answer))
+    stays_other : (answer : Answer Value) → IsRenamedEffect names (Does s answer)
+        (Does s' (renamed_answer names answer))
     stays_other answer = (s', refl, r)
 
     things_with : (o : ℕ) (x t : Thing) →
@@ -321,13 +324,15 @@ module _ (names : ℕ → ℕ) (is : IsRenaming names) where
         IsRenamedEffect names (at_thing s o x (change thread a))
         (at_thing s' (names o) (thing_at s' (names o)) (change thread (renamed_action names a)))
     at_other o thread a None h =
-        subst (λ y. IsRenamedEffect names (Does s Done) (at_thing s' (names o) y (change thread (renamed_action names a))))
+        subst (λ y. IsRenamedEffect names (Does s Done)
+        (at_thing s' (names o) y (change thread (renamed_action names a))))
         (sym (r.things o ∙ ap (option_map (renamed_thing names)) h)) (stays_other Done)
     at_other o thread a (Some x) h =
         subst (λ y. IsRenamedEffect names (put_back s o (change thread a x))
         (at_thing s' (names o) y (change thread (renamed_action names a))))
         (sym (r.things o ∙ ap (option_map (renamed_thing names)) h))
-        (put_other o x h (change thread a x) (change thread (renamed_action names a) (other x)) (change_other thread a x))
+        (put_other o x h (change thread a x) (change thread (renamed_action names a) (other x))
+        (change_other thread a x))
 
     on_other : (o thread : ℕ) (a : Action Value) →
         IsRenamedEffect names (at_thing s o (thing_at s o) (change thread a))

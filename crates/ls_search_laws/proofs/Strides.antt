@@ -16,7 +16,8 @@ use Rattle.ls_meaning.specs.Effect.{Effect, Waits, Does, effect}
 use Rattle.ls_meaning.specs.Threads.{Next, Goes, Ended, Trapped}
 use Rattle.ls_meaning.specs.Runs.{has_ended}
 use Rattle.ls_meaning.specs.Still.{IsActing}
-use Rattle.ls_search_laws.specs.Configuration.{Configuration, Stride, idling, performing, stride, stride_of, with_answer}
+use Rattle.ls_search_laws.specs.Configuration.{Configuration, Stride, idling, performing, stride, stride_of}
+use Rattle.ls_search_laws.specs.Configuration.{with_answer}
 
 abbrev pub started : Configuration → ℕ → Bool
 started c t = if nat_eq t 0 then true else has_ended (c.continues 0 [])
@@ -83,7 +84,8 @@ module _ (file : File) where
       c.continues t [] ≡ n →
       IsActing (stride_of file c t n).did →
       Acts c t
-  by_next c t starts (Goes a sort) goes acts = by_effect c t starts a sort goes (effect file.classes c.store t a) refl acts
+  by_next c t starts (Goes a sort) goes acts = by_effect c t starts a sort goes
+      (effect file.classes c.store t a) refl acts
   by_next c t starts Ended goes acts = absurd acts
   by_next c t starts Trapped goes acts = absurd acts
 

@@ -47,4 +47,5 @@ no_cells thread object field = false
 -- with whatever renamings, turns and enterings may be chosen, and nothing need be asked of the list
 pub record TurnsAreFair : Type 0 where
   pub fair : IsFair (by_cells no_cells) IsRenaming
-  pub unnoticed : (file : File) (t : ℕ) (action : Action Value) → IsUnnoticed (by_cells no_cells) IsRenaming file t action
+  pub unnoticed : (file : File) (t : ℕ) (action : Action Value) → IsUnnoticed (by_cells no_cells)
+      IsRenaming file t action

@@ -22,7 +22,8 @@ abbrev pub StepsStride : Type 0
 StepsStride =
     (file : File) (program : Program) (s : State) → length s.answers ≡ length program.threads → (t : ℕ) →
     ((step file program s t).did ≡ (stride file (configuration_of file program s) t).did)
-    × (configuration_of file program (step file program s t).after ≡ (stride file (configuration_of file program s) t).after)
+    × (configuration_of file program (step file program s t).after ≡
+    (stride file (configuration_of file program s) t).after)
 
 abbrev pub renamed_happening : (ℕ → ℕ) → Happening → Happening
 renamed_happening names Called = Called

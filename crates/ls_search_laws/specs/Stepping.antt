@@ -21,7 +21,8 @@ events_of thread did.Idle = []
 -- One step more leaves the state after a step, and adds its events. So what comes depends on the state, and on nothing
 -- else of what was.
 pub record IsOneMore (file : File) (program : Program) (schedule : List ℕ) (t : ℕ) : Type 0 where
-  pub state : source_run file program (schedule ++ t ∷ []) ≡ (step file program (source_run file program schedule) t).after
+  pub state : source_run file program (schedule ++ t ∷ []) ≡
+      (step file program (source_run file program schedule) t).after
   pub history : source_history file program (schedule ++ t ∷ []) ≡ source_history file program schedule ++
       events_of t (step file program (source_run file program schedule) t).did
 

@@ -36,8 +36,11 @@ pub from_pair : (run : List Event) (n : ℕ) (d e : Event) →
     IsCall (slice_index_or run n d) × IsEndOf (slice_index_or run n d) (slice_index_or run (n + 1) e)
 from_pair run n d e p =
     let first : p.call ≡ slice_index_or run n d = sym (get_is run n p.call d p.first) in
-    let second : p.end ≡ slice_index_or run (n + 1) e = sym (get_is run (n + 1) p.end e p.second) in
-    (subst IsCall first p.is_call, subst (IsEndOf (slice_index_or run n d)) second (subst (λ c. IsEndOf c p.end) first p.is_end))
+    let second : p.end ≡ slice_index_or run (n + 1) e = sym (get_is run (n + 1) p.end e p.second) in (
+      subst IsCall first p.is_call,
+      subst (IsEndOf (slice_index_or run n d)) second
+          (subst (λ c. IsEndOf c p.end) first p.is_end),
+    )
 
 -- if there is no pair next, no longer beginning is serial
 pub no_longer : (run : List Event) (n k : ℕ) →
@@ -56,7 +59,8 @@ no_longer run n k serial none within long = by_place (cases_lt n k)
 
 -- ---- beginnings
 
-pub beginning_of : (first middle run : List Event) → IsBeginning first middle → IsBeginning middle run → IsBeginning first run
+pub beginning_of : (first middle run : List Event) → IsBeginning first middle → IsBeginning middle run →
+    IsBeginning first run
 beginning_of first middle run b more = (
   b.0 ++ more.0,
   sym (append_assoc first b.0 more.0) ∙ ap (λ xs. xs ++ more.0) b.1 ∙ more.1,

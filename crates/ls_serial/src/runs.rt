@@ -1,6 +1,7 @@
 // The serial runs of a program.
 
-ghost use Rattle.std.specs.Prelude.{◌≡◌, ◌⊎◌, ◌↔◌, ◌≤◌, ℕ, List, [], ◌++◌, Contains, IfNone, IfOk, IfSome, IsTrue, OnErr, OnOk};
+ghost use Rattle.std.specs.Prelude.{◌≡◌, ◌⊎◌, ◌↔◌, ◌≤◌, ℕ, List, [], ◌++◌, Contains, IfNone, IfOk, IfSome, IsTrue};
+ghost use Rattle.std.specs.Prelude.{OnErr, OnOk};
 ghost use Rattle.std.specs.Prelude.{length, take};
 ghost use Rattle.ls_events.specs.declared.event.Event.{Event as EventValue};
 ghost use Rattle.ls_serial.specs.Serial.{ExplainsAmong, ExplainsFrom, HaveBeginning, IsExplained};
@@ -126,8 +127,8 @@ impl SerialRuns {
         }
     }
 
-    /// Adds the serial run that a history begins with: the longest. Then one of the runs begins with a serial history if
-    /// one did before, or the history does. The only refusal is that memory ran out, and nothing has changed then.
+    /// Adds the serial run that a history begins with: the longest. Then one of the runs begins with a serial history
+    /// if one did before, or the history does. The only refusal is that memory ran out, and nothing has changed then.
     pub fn add(&mut self, alloc: Global, history: &[Event]) -> Result<(), AllocError>
         ensures added { OnOk result ((g : List EventValue) → IsSerial g →
             HaveBeginning self.new g ↔ (HaveBeginning self.old g ⊎ IsBeginning g history.now)) }

@@ -1,5 +1,6 @@
 -- Events and the names of their calls.
-use Rattle.std.proofs.Common.{◌≡◌, ◌∙◌, ◌+◌, ◌-◌, ◌++◌, ◌<◌, ◌≤◌, ℕ, List, [], ◌∷◌, Option, Some, None, map, length, take}
+use Rattle.std.proofs.Common.{◌≡◌, ◌∙◌, ◌+◌, ◌-◌, ◌++◌, ◌<◌, ◌≤◌, ℕ, List, [], ◌∷◌, Option, Some, None, map, length}
+use Rattle.std.proofs.Common.{take}
 use Rattle.std.proofs.Common.{slice_get, slice_index_or, refl, sym, ap, ap₂, subst, arith, zero, suc, below_more}
 use Rattle.std.specs.Prelude.{option_map}
 use Rattle.std.specs.Option.{option_map_or}

@@ -11,7 +11,8 @@ use Rattle.std.specs.Cmp.{unsigned_Decides}
 use Rattle.ls_events.specs.declared.event.Event.{Event as RunEvent}
 use Rattle.ls_checked.specs.CheckedProgram.{Program}
 use Rattle.ls_report.specs.Events.{Called, Event, Made, Occurrence, Returned, Text, Trapped}
-use Rattle.ls_report.specs.Discipline.{continues, has_value, is_call, is_making, is_next, is_placed, is_return, is_well_formed}
+use Rattle.ls_report.specs.Discipline.{continues, has_value, is_call, is_making, is_next, is_placed, is_return}
+use Rattle.ls_report.specs.Discipline.{is_well_formed}
 use Rattle.ls_report.specs.Discipline.{last_of, may_follow}
 use Rattle.ls_report.specs.Printing.{named}
 use Rattle.ls_linearizable.proofs.There.{there_cases, there_first, there_later, there_not}

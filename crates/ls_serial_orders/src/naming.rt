@@ -198,8 +198,8 @@ fn length_of(alloc: Global, program: &Program, run: &[Event]) -> Result<usize, A
     Ok(text.len())
 }
 
-/// The run of the program that named events are, or the first line that is none of the program. The only refusal is that
-/// memory ran out.
+/// The run of the program that named events are, or the first line that is none of the program. The only refusal is
+/// that memory ran out.
 pub fn run_of(
     alloc: Global,
     program: &Program,

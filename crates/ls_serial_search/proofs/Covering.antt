@@ -166,7 +166,8 @@ module _ (file : File) (program : Program) where
         still_acts did.Idle still acting = acting
 
         begins : (at : IsAt s h) → IsFollowed file program known at.schedule t → Going at.schedule t 0
-        begins at (inl still) = absurd (still_acts _ still (subst (λ z. IsActing (step file program z t).did) at.state acts))
+        begins at (inl still) = absurd (still_acts _ still
+            (subst (λ z. IsActing (step file program z t).did) at.state acts))
         begins at (inr (inl never)) = inl never
         begins at (inr (inr f)) = inr (f, omega arith)
 

@@ -69,7 +69,8 @@ module _ (file : File) (program : Program) where
       IsStill (step file program (source_run file program schedule) t).did →
       HasTried file program runs schedule t
   tried_idle schedule t runs still c w = absurd (never_called file program schedule t c
-      (subst (λ ts. IsStill (step file program (source_run file program ts) t).did) (sym (append-nil schedule)) still) w)
+      (subst (λ ts. IsStill (step file program (source_run file program ts) t).did)
+      (sym (append-nil schedule)) still) w)
 
   pub tried_ended : (schedule : List ℕ) (t n : ℕ) (runs : List (List Event)) → HasEnded file program schedule t n →
       HasTried file program runs schedule t

@@ -65,7 +65,8 @@ module _ (file : File) (program : Program) (schedule : List ℕ) (t : ℕ) where
   -- no history gets shorter
   pub no_shorter : (j k : ℕ) →
       length (source_history file program (after j)) ≤ length (source_history file program (after (k + j)))
-  no_shorter j zero = let e : 0 + j ≡ j = omega arith in omega (arith, ap (λ n. length (source_history file program (after n))) e)
+  no_shorter j zero = let e : 0 + j ≡ j = omega arith in
+      omega (arith, ap (λ n. length (source_history file program (after n))) e)
   no_shorter j (suc k) =
       let e : suc k + j ≡ suc (k + j) = omega arith in
       let is = ap (λ n. source_history file program (after n)) e ∙ history_next (k + j) in

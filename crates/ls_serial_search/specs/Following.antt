@@ -39,8 +39,8 @@ pub record IsBegun (file : File) (program : Program) (schedule : List ℕ) (thre
       source_history file program (schedule ++ replicate (j + 1) thread) ≡ source_history file program schedule ++
       called thread call ∷ []
 
--- However many steps the thread makes, nothing more comes than that its next call begins. So alone the call never ends: its
--- thread waits, or it turns for ever.
+-- However many steps the thread makes, nothing more comes than that its next call begins. So alone the call never ends:
+-- its thread waits, or it turns for ever.
 abbrev pub NeverEnds : File → Program → List ℕ → ℕ → ℕ → Type 0
 NeverEnds file program schedule thread call = (steps : ℕ) → IsBegun file program schedule thread call steps
 

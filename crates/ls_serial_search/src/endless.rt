@@ -118,9 +118,9 @@ pub struct EndlessRuns {
     pub complete: bool,
 }
 
-/// Searches the histories of a program in which calls run one at a time, up to one that never ends while no other thread
-/// goes on: its thread waits, or turns for ever. The source alone is run, with no cells. The only refusal is that memory
-/// ran out.
+/// Searches the histories of a program in which calls run one at a time, up to one that never ends while no other
+/// thread goes on: its thread waits, or turns for ever. The source alone is run, with no cells. The only refusal is
+/// that memory ran out.
 pub fn endless_runs(
     alloc: Global,
     file: &File,

@@ -103,7 +103,8 @@ pub fn serial_histories(
         (lists_of s.histories.items)) }
     ensures tells { IfOk result (λ s. IfNone s.doubt (TellSerial (plain_file file.now)
         (plain_program program.now) (lists_of s.histories.items))) }
-    ensures doubt { IfOk result (λ s. IfSome s.doubt (IsDoubt (plain_file file.now) (plain_program program.now) bounds)) }
+    ensures doubt { IfOk result (λ s. IfSome s.doubt
+        (IsDoubt (plain_file file.now) (plain_program program.now) bounds)) }
     ensures found { IfOk result (λ s. IfSome s.doubt (λ doubt. AreFound (plain_file file.now)
         (plain_program program.now) bounds doubt (lists_of s.histories.items))) }
 {

@@ -311,7 +311,8 @@ file_guards : (file : parsed.File) → Gives (λ (o : ElaboratedFile). Each IsGu
 file_guards file =
     after (λ (o : ElaboratedFile). Each IsGuarded o.file.methods) (class_names file.classes) _ (λ names.
     after (λ (o : ElaboratedFile). Each IsGuarded o.file.methods) (class_signs names file.classes) _ (λ classes.
-    bind AllGuarded (λ (o : ElaboratedFile). Each IsGuarded o.file.methods) (file_methods names classes.signs file.classes)
+    bind AllGuarded (λ (o : ElaboratedFile). Each IsGuarded o.file.methods)
+    (file_methods names classes.signs file.classes)
     _ (methods_guard names classes.signs file.classes) (λ b h. h)))
 
 -- what is so of all of a statement is so of each statement in it
@@ -349,5 +350,6 @@ pub file_holds_monitors : FileHoldsMonitors
 file_holds_monitors file out is =
     all_of (λ (m : checked.Method). Everywhere (HoldsMonitors (length m.slots)) m.body) out.file.methods
     (each_weaker IsGuarded (λ (m : checked.Method). Everywhere (HoldsMonitors (length m.slots)) m.body) out.file.methods
-    (gives_of (λ (o : ElaboratedFile). Each IsGuarded o.file.methods) (elaborated file) out is (file_guards file)) (λ m h.
+    (gives_of (λ (o : ElaboratedFile). Each IsGuarded o.file.methods) (elaborated file) out is (file_guards file))
+    (λ m h.
     everywhere (Guarded (length m.slots)) (HoldsMonitors (length m.slots)) (guarded_holds (length m.slots)) m.body h))

@@ -24,7 +24,8 @@ use Rattle.ls_types_elaboration.specs.Trees as parsed
 use Rattle.ls_types_elaboration.specs.Trees.{Text, Name, span_of}
 use Rattle.ls_types_elaboration.specs.Elaborated.{Elaborated, broken, with_ok}
 use Rattle.ls_types_elaboration.specs.Known.{Known, Local, local_named, field_of, method_of, number_of}
-use Rattle.ls_types_elaboration.specs.StaticTypes.{Typed, typed_as, as_type, as_value, as_array, is_void, comparable, of_type}
+use Rattle.ls_types_elaboration.specs.StaticTypes.{Typed, typed_as, as_type, as_value, as_array, is_void, comparable}
+use Rattle.ls_types_elaboration.specs.StaticTypes.{of_type}
 use Rattle.ls_types_elaboration.specs.Members.{method_member, member_of, found, made, maker_of, markable_maker}
 use Rattle.ls_types_elaboration.specs.Operators.{unary_of, of_operands, computed, compared, binary_of}
 use Rattle.ls_types_elaboration.specs.TypedExpressions.{own_field, local_or, field_in, field_at, is_integer}
@@ -171,11 +172,13 @@ module _ (known : Known) (locals : List Local) where
       after Named (typed known locals array) _ (λ x. after Named (as_array (span_of array) x) _ (λ a.
       after Named (typed known locals index) _ (λ y. after Named (as_type types.Int (span_of index) y) _ (λ i. tt))))
   typed_named (parsed.New n es span) =
-      after Named (maker_of known n) _ (λ m. after Named (passed known locals (counts m.parameters es) m.parameters es span) _
+      after Named (maker_of known n) _ (λ m. after Named (passed known locals (counts m.parameters es)
+      m.parameters es span) _
       (λ es. made_named m.makes es))
   typed_named (parsed.NewMarkable n es span) =
       after Named (markable_maker (number_of known.names n.text) n.span) _
-      (λ m. after Named (passed known locals (counts m.parameters es) m.parameters es span) _ (λ es. made_named m.makes es))
+      (λ m. after Named (passed known locals (counts m.parameters es) m.parameters es span) _
+      (λ es. made_named m.makes es))
   typed_named (parsed.NewArray length span) =
       after Named (typed known locals length) _ (λ x. after Named (as_type types.Int (span_of length) x) _ (λ n. tt))
 

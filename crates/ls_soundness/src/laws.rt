@@ -8,13 +8,15 @@ ghost use Rattle.ls_types_judgement.specs.Typing.{IsTypedFile};
 ghost use Rattle.ls_types_judgement.specs.Classes.{HasItsClasses};
 ghost use Rattle.ls_types_judgement.specs.WellTyped.{IsWellTyped, IsWellTypedProgram};
 ghost use Rattle.ls_types_judgement.specs.Programs.{IsTypedProgram};
-ghost use Rattle.ls_soundness.specs.InCall.{SuitedInCall, SuitedInMaking, SuitedInCalling, NextInMaking, NextInCalling, NextOnNull};
+ghost use Rattle.ls_soundness.specs.InCall.{SuitedInCall, SuitedInMaking, SuitedInCalling, NextInMaking, NextInCalling};
+ghost use Rattle.ls_soundness.specs.InCall.{NextOnNull};
 ghost use Rattle.ls_soundness.specs.Cases;
 
 /// Take a thread of a typed program of a typed file, and answers that name things of the right types. Then the thread
 /// asks for an action on things and values of the right types.
 pub fn is_sound()
-    ensures { (file : File) (program : Program) → IsTypedFile file → HasItsClasses file → IsTypedProgram file program → IsSound file program }
+    ensures { (file : File) (program : Program) → IsTypedFile file → HasItsClasses file → IsTypedProgram file program →
+        IsSound file program }
 {}
 
 /// Take answers in kind to a thread, and a call that the thread makes. In words, the call asks what it asks and ends

@@ -198,11 +198,18 @@ as_many s t action (Does store answer) = length-set s.answers t (answers_of s t 
 -- a run whose store, events and threads are others
 abbrev pub with_parts : (r : Playing) → StoreAndEvents → (ts : Vec KeptThread Global) →
     length ts.items ≡ length r.program.now.threads.items → Playing
-with_parts r st ts works = record { file = r.file; program = r.program; store_and_events = st; threads = ts; works = works }
+with_parts r st ts works = record {
+  file = r.file;
+  program = r.program;
+  store_and_events = st;
+  threads = ts;
+  works = works;
+}
 
 module _ (r : Playing) (t : ℕ) (action : Action Value) (st : StoreAndEvents) (ts : Vec KeptThread Global) where
   after_action : (works : length ts.items ≡ length r.program.now.threads.items) (o : StoreEffect) →
-      plain_effect (store_of st.store) o ≡ effect (plain_file r.file.now).classes (store_of r.store_and_events.store) t action →
+      plain_effect (store_of st.store) o ≡ effect (plain_file r.file.now).classes
+      (store_of r.store_and_events.store) t action →
       (o ≡ HasToWait → store_of st.store ≡ store_of r.store_and_events.store) →
       st.events.items ≡ r.store_and_events.events.items ++ events_by t (did_by action o) →
       (p : Progress) →
@@ -224,7 +231,8 @@ module _ (r : Playing) (t : ℕ) (action : Action Value) (st : StoreAndEvents) (
 pub has_waited : (r : Playing) (t : ℕ) (action : Action Value) (st : StoreAndEvents)
     (works : length r.threads.items ≡ length r.program.now.threads.items) (o : StoreEffect) →
     o ≡ HasToWait →
-    plain_effect (store_of st.store) o ≡ effect (plain_file r.file.now).classes (store_of r.store_and_events.store) t action →
+    plain_effect (store_of st.store) o ≡ effect (plain_file r.file.now).classes
+    (store_of r.store_and_events.store) t action →
     (o ≡ HasToWait → store_of st.store ≡ store_of r.store_and_events.store) →
     st.events.items ≡ r.store_and_events.events.items ++ events_by t (did_by action o) →
     (p : Progress) →
@@ -247,7 +255,8 @@ pub has_taken : (r : Playing) (t : ℕ) (action : Action Value) (st : StoreAndEv
     (works : length ts.items ≡ length r.program.now.threads.items) (o : StoreEffect) (a : Answer Value)
     (v v' : KeptThread) →
     o ≡ HasDone a →
-    plain_effect (store_of st.store) o ≡ effect (plain_file r.file.now).classes (store_of r.store_and_events.store) t action →
+    plain_effect (store_of st.store) o ≡ effect (plain_file r.file.now).classes
+    (store_of r.store_and_events.store) t action →
     (o ≡ HasToWait → store_of st.store ≡ store_of r.store_and_events.store) →
     st.events.items ≡ r.store_and_events.events.items ++ events_by t (did_by action o) →
     t < length r.threads.items →

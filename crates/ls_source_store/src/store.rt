@@ -52,7 +52,8 @@ fn new_array(alloc: Global, length: i32) -> Thing
 impl Store {
     // A new thing answers its number.
     fn make(&mut self, thing: Thing) -> Result<Effect, AllocError>
-        ensures made { IfOk result (λ r. plain_effect (store_of self.new) r ≡ making (store_of self.old) (thing_of thing)) }
+        ensures made { IfOk result (λ r. plain_effect (store_of self.new) r ≡ making (store_of self.old)
+            (thing_of thing)) }
         ensures acts { IfOk result (λ r. r ≡ Effect.Waits → ⊥) }
         ensures err { OnErr result (store_of self.new ≡ store_of self.old) }
     {
@@ -67,7 +68,8 @@ impl Store {
         thread: usize,
         action: &Action<Value>,
     ) -> Result<Effect, AllocError>
-        ensures effect { IfOk result (λ r. plain_effect (store_of self.new) r ≡ on_thing (store_of self.old) o thread action.now) }
+        ensures effect { IfOk result (λ r. plain_effect (store_of self.new) r ≡ on_thing (store_of self.old) o
+            thread action.now) }
         ensures waits { IfOk result (λ r. r ≡ Effect.Waits → store_of self.new ≡ store_of self.old) }
         ensures err { OnErr result (store_of self.new ≡ store_of self.old) }
     {
@@ -110,7 +112,8 @@ impl Store {
         thread: usize,
         action: &Action<Value>,
     ) -> Result<Effect, AllocError>
-        ensures effect { IfOk result (λ r. plain_effect (store_of self.new) r ≡ effect (map plain_class classes.now) (store_of self.old) thread action.now) }
+        ensures effect { IfOk result (λ r. plain_effect (store_of self.new) r ≡ effect (map plain_class classes.now)
+            (store_of self.old) thread action.now) }
         ensures waits { IfOk result (λ r. r ≡ Effect.Waits → store_of self.new ≡ store_of self.old) }
         ensures err { OnErr result (store_of self.new ≡ store_of self.old) }
     {

@@ -1,7 +1,9 @@
 // The things that references name, and what an action does to a thing.
 
 ghost use Rattle.std.specs.Prelude.{◌≡◌, IfOk, OnErr};
-ghost use Rattle.ls_meaning.specs.Effect.{change, in_range, reading_field, writing_field, reading_item, writing_item, locking, trying, unlocking, asking_held, on_lock, on_monitor, reading_pair, setting_pair, swapping, attempting};
+ghost use Rattle.ls_meaning.specs.Effect.{change, in_range, reading_field, writing_field, reading_item, writing_item};
+ghost use Rattle.ls_meaning.specs.Effect.{locking, trying, unlocking, asking_held, on_lock, on_monitor, reading_pair};
+ghost use Rattle.ls_meaning.specs.Effect.{setting_pair, swapping, attempting};
 ghost use Rattle.ls_source_store.specs.SeenThing.{items_of, hold_of, thing_of, plain_holding, plain_change};
 
 use crate::value::{reference_of, same_pair};
@@ -365,7 +367,8 @@ pub fn change(
     thread: usize,
     action: &Action<Value>,
 ) -> Result<Effect, AllocError>
-    ensures change { IfOk result (λ r. plain_change (thing_of thing.new) r ≡ change thread action.now (thing_of thing.old)) }
+    ensures change { IfOk result (λ r. plain_change (thing_of thing.new) r ≡ change thread action.now
+        (thing_of thing.old)) }
     ensures waits { IfOk result (λ r. r ≡ Effect.Waits → thing_of thing.new ≡ thing_of thing.old) }
     ensures err { OnErr result (thing_of thing.new ≡ thing_of thing.old) }
 {

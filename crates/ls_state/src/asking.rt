@@ -140,7 +140,8 @@ fn push_thread_line(
 ) -> Result<(), AllocError>
     requires { IsOwn scene.now }
     ensures { OnOk result (string_bytes out.new
-        ≡ string_bytes out.old ++ thread_line (names_in scene.now) (scene_seen scene.now) thread (plain_thread program.now)) }
+        ≡ string_bytes out.old ++ thread_line (names_in scene.now) (scene_seen scene.now) thread
+        (plain_thread program.now)) }
 {
     let asked = scene.run.next(alloc, thread)?;
     push_asked(out, scene, thread, program.name.as_str(), asked)?;

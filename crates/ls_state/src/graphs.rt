@@ -49,7 +49,8 @@ fn push_field_rows(
     fields: &[Value],
 ) -> Result<(), AllocError>
     ensures { OnOk result (string_bytes out.new
-        ≡ string_bytes out.old ++ numbered (field_row (names_in scene.now) (scene_seen scene.now).labels object) 0 fields.now) }
+        ≡ string_bytes out.old ++ numbered (field_row (names_in scene.now) (scene_seen scene.now).labels object) 0
+        fields.now) }
 {
     for (field, value) in fields.iter().enumerate() {
         let name = field_name_of(scene, object, field);
@@ -86,7 +87,8 @@ fn push_monitor(out: &mut String, scene: &Scene, monitor: Hold) -> Result<(), Al
 // Adds the rows under an object's name.
 fn push_rows(out: &mut String, scene: &Scene, object: u64, thing: &Thing) -> Result<(), AllocError>
     ensures { OnOk result (string_bytes out.new
-        ≡ string_bytes out.old ++ rows_text (names_in scene.now) (scene_seen scene.now).labels object (thing_of thing.now)) }
+        ≡ string_bytes out.old ++ rows_text (names_in scene.now) (scene_seen scene.now).labels object
+        (thing_of thing.now)) }
 {
     match thing {
         Thing::Object { monitor, fields } => {
@@ -145,7 +147,8 @@ fn push_head(out: &mut String, object: u64, fill: &str) -> Result<(), AllocError
 
 fn push_node(out: &mut String, scene: &Scene, object: u64, thing: &Thing) -> Result<(), AllocError>
     ensures { OnOk result (string_bytes out.new
-        ≡ string_bytes out.old ++ node_text (names_in scene.now) (scene_seen scene.now).labels object (thing_of thing.now)) }
+        ≡ string_bytes out.old ++ node_text (names_in scene.now) (scene_seen scene.now).labels object
+        (thing_of thing.now)) }
 {
     let fill = fill_of(thing);
     push_head(out, object, fill)?;
@@ -209,7 +212,8 @@ fn push_arrows(out: &mut String, object: u64, thing: &Thing) -> Result<(), Alloc
 
 fn push_thing(out: &mut String, scene: &Scene, object: u64, thing: &Thing) -> Result<(), AllocError>
     ensures { OnOk result (string_bytes out.new
-        ≡ string_bytes out.old ++ drawn_thing (names_in scene.now) (scene_seen scene.now).labels object (thing_of thing.now)) }
+        ≡ string_bytes out.old ++ drawn_thing (names_in scene.now) (scene_seen scene.now).labels object
+        (thing_of thing.now)) }
 {
     push_node(out, scene, object, thing)?;
     push_arrows(out, object, thing)
@@ -217,7 +221,8 @@ fn push_thing(out: &mut String, scene: &Scene, object: u64, thing: &Thing) -> Re
 
 fn push_things(out: &mut String, scene: &Scene) -> Result<(), AllocError>
     ensures { OnOk result (string_bytes out.new
-        ≡ string_bytes out.old ++ numbered (drawn_thing (names_in scene.now) (scene_seen scene.now).labels) 1 (scene_seen scene.now).state.store.things) }
+        ≡ string_bytes out.old ++ numbered (drawn_thing (names_in scene.now) (scene_seen scene.now).labels) 1
+        (scene_seen scene.now).state.store.things) }
 {
     let things = scene.run.things();
     for (place, thing) in things.iter().enumerate() {
@@ -274,7 +279,8 @@ fn push_drawn_name(
 
 fn push_names(out: &mut String, scene: &Scene) -> Result<(), AllocError>
     ensures { OnOk result (string_bytes out.new
-        ≡ string_bytes out.old ++ numbered (drawn_name (scene_seen scene.now).state.store) 0 (names_in scene.now).program.names) }
+        ≡ string_bytes out.old ++ numbered (drawn_name (scene_seen scene.now).state.store) 0
+        (names_in scene.now).program.names) }
 {
     let names = scene.names.program.names.as_slice();
     for (number, name) in names.iter().enumerate() {

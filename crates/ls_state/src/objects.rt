@@ -70,7 +70,8 @@ fn push_fields(
     fields: &[Value],
 ) -> Result<(), AllocError>
     ensures { OnOk result (string_bytes out.new
-        ≡ string_bytes out.old ++ numbered (field_part (names_in scene.now) (scene_seen scene.now).labels object) 0 fields.now) }
+        ≡ string_bytes out.old ++ numbered (field_part (names_in scene.now) (scene_seen scene.now).labels object) 0
+        fields.now) }
 {
     for (field, value) in fields.iter().enumerate() {
         push_field(out, scene, object, field, *value)?;
@@ -105,7 +106,8 @@ fn push_monitor(
 // Adds what stands after an object's name.
 fn push_thing(out: &mut String, scene: &Scene, object: u64, thing: &Thing) -> Result<(), AllocError>
     ensures { OnOk result (string_bytes out.new
-        ≡ string_bytes out.old ++ thing_text (names_in scene.now) (scene_seen scene.now).labels object (thing_of thing.now)) }
+        ≡ string_bytes out.old ++ thing_text (names_in scene.now) (scene_seen scene.now).labels object
+        (thing_of thing.now)) }
 {
     match thing {
         Thing::Object { monitor, fields } => {
@@ -135,7 +137,8 @@ fn push_thing_line(
     thing: &Thing,
 ) -> Result<(), AllocError>
     ensures { OnOk result (string_bytes out.new
-        ≡ string_bytes out.old ++ thing_line (names_in scene.now) (scene_seen scene.now).labels object (thing_of thing.now)) }
+        ≡ string_bytes out.old ++ thing_line (names_in scene.now) (scene_seen scene.now).labels object
+        (thing_of thing.now)) }
 {
     push_object(out, scene.names, &scene.labels, object)?;
     push_thing(out, scene, object, thing)?;
@@ -161,7 +164,8 @@ fn push_name_line(
     name: &SetupName,
 ) -> Result<(), AllocError>
     ensures { OnOk result (string_bytes out.new
-        ≡ string_bytes out.old ++ name_line (names_in scene.now) (scene_seen scene.now).labels (scene_seen scene.now).state.store number (plain_name name.now)) }
+        ≡ string_bytes out.old ++ name_line (names_in scene.now) (scene_seen scene.now).labels
+        (scene_seen scene.now).state.store number (plain_name name.now)) }
 {
     let text = name.name.as_str();
     write!(out, "{text} = ")?;

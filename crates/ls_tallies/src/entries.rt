@@ -34,7 +34,8 @@ pub(crate) fn entry_in<'a>(
 ) -> Result<Option<(Row<'a>, &'a str)>, AllocError>
     ensures is { IfOk result (λ o. IfSome o (λ p. IsRow (plain_row p.0) × (line.now ≡ head_line p.0.seed p.0.count)
         × (rest.now ≡ p.0.history.now ++ 10 ∷ p.1.now))) }
-    ensures reads { (r : ghost_Row) (after : Text) → IsRow r → line.now ≡ head_line r.seed r.count → rest.now ≡ r.history ++ 10 ∷ after
+    ensures reads { (r : ghost_Row) (after : Text) → IsRow r → line.now ≡ head_line r.seed r.count → rest.now ≡
+        r.history ++ 10 ∷ after
         → IfOk result (λ o. option_map plain_entry o ≡ Some (r, after)) }
 {
     let Some((seed, count)) = head_in(printed, line)? else {

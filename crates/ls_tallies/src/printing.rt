@@ -25,8 +25,8 @@ fn push_row(out: &mut String, row: &Row<'_>) -> Result<(), AllocError>
     out.push_str("\n")
 }
 
-/// The text of rows, as `batch` prints it: for each a line with its least seed and its count, its history's lines, and an
-/// empty line.
+/// The text of rows, as `batch` prints it: for each a line with its least seed and its count, its history's lines, and
+/// an empty line.
 pub fn print_rows(alloc: Global, rows: &[Row<'_>]) -> Result<String, AllocError>
     ensures { IfOk result (λ text. string_bytes text ≡ rows_text (map plain_row rows.now)) }
 {

@@ -2,8 +2,8 @@
 
 use std::alloc::AllocError;
 
-/// A history's text, how many seeds gave it, and the least of them. Rows are in the order of their seeds, and those of one seed in
-/// the order of their texts.
+/// A history's text, how many seeds gave it, and the least of them. Rows are in the order of their seeds, and those of
+/// one seed in the order of their texts.
 #[derive(Copy, PartialEq, Eq, PartialOrd, Ord)]
 pub struct Row<'a> {
     pub seed: u64,

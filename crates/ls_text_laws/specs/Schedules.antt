@@ -35,6 +35,7 @@ WhatIsReadIsASchedule =
 -- what is read is read again from what is printed of it
 abbrev pub IsReadAgain : Type 0
 IsReadAgain =
-    (o : ElaboratedFile) (text said : Text) (program : Program) (steps : List ℕ) → IsTextOf o (plain_program program) text
+    (o : ElaboratedFile) (text said : Text) (program : Program) (steps : List ℕ) →
+    IsTextOf o (plain_program program) text
     → schedule_of (thread_names program) said ≡ Ok steps → schedule_of (thread_names program)
     (schedule_text (thread_names program) steps) ≡ Ok steps

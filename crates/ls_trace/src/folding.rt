@@ -126,9 +126,11 @@ impl<'a> Folder<'a> {
         ensures runs { OnOk result (RunsNamed self.new.teller) }
         ensures counts { OnOk result (self.new.counts.items ≡ counted self.old.counts.items thread) }
         ensures out { OnOk result (string_bytes out.new
-            ≡ string_bytes out.old ++ (if is_told then written_with (open_of self.old) (next_of self.old number thread) else [])) }
+            ≡ string_bytes out.old ++ (if is_told then written_with (open_of self.old)
+            (next_of self.old number thread) else [])) }
         ensures open { OnOk result (open_of self.new
-            ≡ if is_told then Some (open_with (open_of self.old) (next_of self.old number thread)) else open_of self.old) }
+            ≡ if is_told then Some (open_with (open_of self.old) (next_of self.old number thread)) else
+            open_of self.old) }
     {
         let did = self.teller.step(alloc, thread)?;
         let own = count_step(&mut self.counts, thread);

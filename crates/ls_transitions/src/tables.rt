@@ -84,7 +84,8 @@ impl<'a> Tables<'a> {
     ) -> Result<Move, AllocError>
         requires there { store < length (tables_of self.old).stores }
         requires asks { action_in (asked_now (plain_program self.old.program.now) (thread_of rest)) ≡ Some action.now }
-        ensures acted { IfOk result (λ m. IsActed (tables_of self.new) thread store (thread_of rest.entry) action.now m) }
+        ensures acted { IfOk result (λ m. IsActed (tables_of self.new) thread store
+            (thread_of rest.entry) action.now m) }
         ensures grows { Grows (tables_of self.old) (tables_of self.new) }
     {
         let mut after = copy_store(alloc, &self.stores[store])?;

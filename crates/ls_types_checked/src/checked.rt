@@ -17,7 +17,11 @@ pub struct Checked {
     signs: Vec<ClassSign>,
     file: File,
     /// The file is the elaboration of a tree.
-    pub ghost kept: { ∥ IsElaborated (record { names = texts_of names.items; signs = map class_sign_of signs.items; file = plain_file file }) ∥₁ },
+    pub ghost kept: { ∥ IsElaborated (record {
+      names = texts_of names.items;
+      signs = map class_sign_of signs.items;
+      file = plain_file file;
+    }) ∥₁ },
 }
 
 impl Checked {

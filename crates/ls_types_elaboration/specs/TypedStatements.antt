@@ -132,7 +132,8 @@ pub data Counter : Type 0 where
 
 abbrev pub counter : Span → checked.Expression → Static → Elaborated Counter
 counter span (checked.Slot n) (Of types.Int) = if nat_eq n 0 then broken NotAssignable span else Ok (OfSlot n)
-counter span (checked.Slot n) (Of t) = if nat_eq n 0 then broken NotAssignable span else broken (of_type types.Int (Of t)) span
+counter span (checked.Slot n) (Of t) = if nat_eq n 0 then broken NotAssignable span else broken
+    (of_type types.Int (Of t)) span
 counter span (checked.Field e c f) (Of types.Int) = Ok (OfField e f)
 counter span (checked.Field e c f) (Of t) = broken (of_type types.Int (Of t)) span
 counter span (checked.Item a i) (Of t) = broken (of_type types.Int (Of t)) span

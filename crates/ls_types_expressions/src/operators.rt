@@ -69,7 +69,8 @@ fn computed(
 }
 
 fn may_compare(span: Span, x: Static, y: Static) -> Result<(), Broken>
-    ensures { (go : Elaborated the_typed) → (if comparable x y then go else broken (WrongType (mismatches.Operands x y)) span) ≡
+    ensures { (go : Elaborated the_typed) → (if comparable x y then go else broken
+        (WrongType (mismatches.Operands x y)) span) ≡
         unless_refused result go }
 {
     if comparable(x, y) {

@@ -17,6 +17,7 @@ pub fn elaborates_well_typed()
 
 /// If a thread program is read for a checked file, it is a well typed program of that file.
 pub fn reads_well_typed()
-    ensures { (f : File) (o : ElaboratedFile) (text : Text) (p : Program) → elaborated f ≡ Ok o → program_of o text ≡ Some p →
+    ensures { (f : File) (o : ElaboratedFile) (text : Text) (p : Program) → elaborated f ≡ Ok o →
+        program_of o text ≡ Some p →
         IsWellTypedProgram o.file p }
 {}

@@ -44,7 +44,8 @@ IsNewThread (t ∷ ts) name = (t.name ≢ name) × IsNewThread ts name
 -- The calls of a block. The first list has the setup names that are given before it, the last list those after it. A
 -- making is in the setup alone. It gives a new name, and makes an object of a class of the file. A call is on a name
 -- that is given. Its method is in the class of that object, and answers an int, a boolean or nothing.
-pub data AreCallsOf (o : ElaboratedFile) (in_setup : Bool) : List SetupName → List ProgramCall → List SetupName → Type 0 where
+pub data AreCallsOf (o : ElaboratedFile) (in_setup : Bool) : List SetupName → List ProgramCall →
+    List SetupName → Type 0 where
   End : {names : List SetupName} → AreCallsOf o in_setup names [] names
   Makes : {names all : List SetupName} {cs : List ProgramCall} (s : SetupName) (class_name : Text) (vs : List Value)
       → in_setup ≡ true → IsNewName names s.name
@@ -60,7 +61,8 @@ pub data AreCallsOf (o : ElaboratedFile) (in_setup : Bool) : List SetupName → 
 
 -- The threads of the last list come after those of the first list. Each of them has a name of its own, other than
 -- `all`, and at most `most_calls` calls. It gives no setup name.
-pub data AreThreadsOf (o : ElaboratedFile) (names : List SetupName) : List ThreadProgram → List ThreadProgram → Type 0 where
+pub data AreThreadsOf (o : ElaboratedFile) (names : List SetupName) : List ThreadProgram →
+    List ThreadProgram → Type 0 where
   End : {before : List ThreadProgram} → AreThreadsOf o names before []
   Thread : {before ts : List ThreadProgram} (t : ThreadProgram)
       → t.name ≢ codes "all" → IsNewThread before t.name

@@ -27,7 +27,8 @@ impl Model for SetupNames {
 
     ghost view = { λ s. map plain_name s.names.items };
 
-    ghost invariant = { λ s. (name : Text) → value_named (entries_of s.numbers) name ≡ setup_named (map plain_name s.names.items) name };
+    ghost invariant = { λ s. (name : Text) → value_named (entries_of s.numbers) name ≡
+        setup_named (map plain_name s.names.items) name };
 }
 
 // One more name, with its number.

@@ -233,7 +233,8 @@ impl Parts {
             (after_dot (elaborated_file methods.now.checked.now) (parts_of self.now) n
             (name_in (lexeme_of token.entry.kind))) }
         ensures place { Goes unmarked token.entry.span.start
-            (why_dot (elaborated_file methods.now.checked.now) (parts_of self.now) n (name_in (lexeme_of token.entry.kind)))
+            (why_dot (elaborated_file methods.now.checked.now) (parts_of self.now) n
+            (name_in (lexeme_of token.entry.kind)))
             result }
     {
         let at = token.span.start;

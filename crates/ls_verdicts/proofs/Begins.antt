@@ -1,5 +1,6 @@
 -- Histories after more and more steps, and which of them have a legal order.
-use Rattle.std.proofs.Common.{◌≡◌, ◌∙◌, ◌+◌, ◌<◌, ◌≤◌, ℕ, List, [], ◌∷◌, ◌++◌, Some, length, map, take, drop, refl, sym, ap}
+use Rattle.std.proofs.Common.{◌≡◌, ◌∙◌, ◌+◌, ◌<◌, ◌≤◌, ℕ, List, [], ◌∷◌, ◌++◌, Some, length, map, take, drop, refl, sym}
+use Rattle.std.proofs.Common.{ap}
 use Rattle.std.proofs.Common.{subst, arith, length-append, take-append-drop, take-take, take_all, le_of_eq}
 use Rattle.std.proofs.Math.Seq.{take-append_seam}
 use Rattle.std.proofs.lemmas.List.{length-map, map-append, take-map}
@@ -31,7 +32,8 @@ trace-append does s (t ∷ ts) us =
     (trace does (run does (after s (does s t)) ts) us)
 
 module _ (file : File) (program : Program) where
-  history_begins : (ts us : List ℕ) → IsBeginning (source_history file program ts) (source_history file program (ts ++ us))
+  history_begins : (ts us : List ℕ) → IsBeginning (source_history file program ts)
+      (source_history file program (ts ++ us))
   history_begins ts us =
       let does = source_step file program in
       let s = start program in (

@@ -1,6 +1,7 @@
 -- The least cut of some schedules and of one more.
 use Rattle.std.proofs.Common.{◌≡◌, ◌⊎◌, inl, inr, ℕ, zero, suc, List, [], ◌∷◌, ◌++◌, Some, None, length}
-use Rattle.std.proofs.Common.{Option, refl, subst, arith, slice_get, Bool, true, false, cond, nat_lt, ltb-true, ltb-false}
+use Rattle.std.proofs.Common.{Option, refl, subst, arith, slice_get, Bool, true, false, cond, nat_lt, ltb-true}
+use Rattle.std.proofs.Common.{ltb-false}
 use Rattle.std.proofs.lemmas.Option.{same_Some}
 use Rattle.ls_checked.specs.CheckedTree.{File}
 use Rattle.ls_checked.specs.CheckedProgram.{Program}
@@ -14,7 +15,8 @@ at_last : (xs : List (List ℕ)) (x : List ℕ) → slice_get (xs ++ x ∷ []) (
 at_last [] x = refl
 at_last (y ∷ ys) x = at_last ys x
 
-stays_there : (xs : List (List ℕ)) (x y : List ℕ) (p : ℕ) → slice_get xs p ≡ Some y → slice_get (xs ++ x ∷ []) p ≡ Some y
+stays_there : (xs : List (List ℕ)) (x y : List ℕ) (p : ℕ) → slice_get xs p ≡ Some y →
+    slice_get (xs ++ x ∷ []) p ≡ Some y
 stays_there [] x y p e = cc
 stays_there (z ∷ zs) x y zero e = e
 stays_there (z ∷ zs) x y (suc p) e = stays_there zs x y p e

@@ -20,8 +20,8 @@ fn hopeless_at(outcome: &OrderAnswer) -> Option<usize>
     }
 }
 
-/// The place, from 0, of the event with which the history of a run ceases to have a legal order. None where the verdict on
-/// it isn't that it has none. The only refusal is that memory ran out.
+/// The place, from 0, of the event with which the history of a run ceases to have a legal order. None where the verdict
+/// on it isn't that it has none. The only refusal is that memory ran out.
 pub fn hopeless_on(
     alloc: Global,
     history: &[Event],

@@ -1,6 +1,7 @@
 // Of several schedules, one that is cut first.
 
-ghost use Rattle.std.specs.Prelude.{◌≡◌, ◌<◌, ◌++◌, ◌∷◌, ℕ, [], List, IfNone, IfOk, IfSome, if◌then◌else◌, length, nat_lt};
+ghost use Rattle.std.specs.Prelude.{◌≡◌, ◌<◌, ◌++◌, ◌∷◌, ℕ, [], List, IfNone, IfOk, IfSome, if◌then◌else◌, length};
+ghost use Rattle.std.specs.Prelude.{nat_lt};
 ghost use Rattle.ls_checked.specs.CheckedTree.{File as FileValue};
 ghost use Rattle.ls_checked.specs.CheckedProgram.{Program as ProgramValue};
 ghost use Rattle.ls_checked.specs.Plain.{plain_file};
@@ -56,8 +57,8 @@ fn lesser(least: Option<Cut>, place: usize, found: Option<usize>) -> Option<Cut>
     }
 }
 
-/// The cut with the fewest steps of some schedules and of one more, which is illegal, and whose place is their number. The
-/// only refusal is that memory ran out.
+/// The cut with the fewest steps of some schedules and of one more, which is illegal, and whose place is their number.
+/// The only refusal is that memory ran out.
 pub fn least_with(
     alloc: Global,
     file: &File,

@@ -19,8 +19,10 @@ use Rattle.ls_meaning.specs.Statements.{Executed, AsksFor, Completes, on_value, 
 use Rattle.ls_meaning.specs.Statements.{turn_back, after_body, one_turn, turns, execute, execute_all}
 use Rattle.ls_meaning.specs.Renamings.{IsRenaming, renamed, renamed_result, renamed_action}
 use Rattle.ls_meaning.specs.Constants.{UsesConstants, UseConstants}
-use Rattle.ls_works.proofs.CopiedExpressions.{other, others, all_renamed, Renames, CallsRename, reference_other, truth_other}
-use Rattle.ls_works.proofs.CopiedExpressions.{int_other, tell_other, then_other, on_object_other, operate_other, evaluate_other}
+use Rattle.ls_works.proofs.CopiedExpressions.{other, others, all_renamed, Renames, CallsRename, reference_other}
+use Rattle.ls_works.proofs.CopiedExpressions.{truth_other}
+use Rattle.ls_works.proofs.CopiedExpressions.{int_other, tell_other, then_other, on_object_other, operate_other}
+use Rattle.ls_works.proofs.CopiedExpressions.{evaluate_other}
 
 module _ (names : ℕ → ℕ) (is : IsRenaming names) where
   abbrev pub completion_other : Completion Value → Completion Value

@@ -21,7 +21,8 @@ use Rattle.ls_meaning.specs.Threads.{Next, result_by, result_in, named, one_call
 use Rattle.ls_meaning.specs.Renamings.{IsRenaming, renamed, renamed_result, renamed_answers, renamed_next}
 use Rattle.ls_meaning.specs.Constants.{FileHasConstants, AllConstant, CallHasConstants, CallsHaveConstants}
 use Rattle.ls_meaning.specs.Constants.{ProgramHasConstants}
-use Rattle.ls_works.proofs.CopiedExpressions.{other, others, all_renamed, Renames, CallsRename, reference_other, nothing_other}
+use Rattle.ls_works.proofs.CopiedExpressions.{other, others, all_renamed, Renames, CallsRename, reference_other}
+use Rattle.ls_works.proofs.CopiedExpressions.{nothing_other}
 use Rattle.ls_works.proofs.CopiedExpressions.{constant_other, ask_other, tell_other, then_other, null_other}
 use Rattle.ls_works.proofs.CopiedStatements.{done_other, execute_other}
 

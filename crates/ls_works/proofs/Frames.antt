@@ -1,5 +1,6 @@
 -- What the work of a thread means commutes with renamings of references.
-use Rattle.std.proofs.Common.{◌≡◌, ℕ, zero, suc, ◌+◌, ◌-◌, neg_ℤ, Bool, true, false, not, cond, List, [], ◌∷◌, ◌++◌, map}
+use Rattle.std.proofs.Common.{◌≡◌, ℕ, zero, suc, ◌+◌, ◌-◌, neg_ℤ, Bool, true, false, not, cond, List, [], ◌∷◌, ◌++◌}
+use Rattle.std.proofs.Common.{map}
 use Rattle.std.proofs.Common.{Option, slice_get, refl, sym, ap, ◌∙◌}
 use Rattle.std.specs.Prelude.{pos, int_lt, nat_eq}
 use Rattle.std.proofs.lemmas.List.{map-append, map-set}
@@ -33,7 +34,8 @@ use Rattle.ls_source_pending.specs.Pending.{Enters, Turns}
 use Rattle.ls_source_pending.specs.Meaning.{PartResult, OfValue, OfEnd, Rest, applied, argued, around, closed, done_now}
 use Rattle.ls_source_pending.specs.Meaning.{evaluated, executed, filled, gone_on, rest_of}
 use Rattle.ls_source.specs.Calls.{Bottom, OfMaking, OfCalling, Phase, Starts, Announces, Makes, Fetches, Works, Names}
-use Rattle.ls_source.specs.Calls.{ReturnsWith, TrapsWith, IsTrapped, Thread, after_work, naming, phase_meaning, then_calls}
+use Rattle.ls_source.specs.Calls.{ReturnsWith, TrapsWith, IsTrapped, Thread, after_work, naming, phase_meaning}
+use Rattle.ls_source.specs.Calls.{then_calls}
 use Rattle.ls_works.specs.Frames.{renamed_thread}
 use Rattle.ls_works.specs.Frames.{ControlHasConstants, EndingHasConstants, FrameHasConstants}
 use Rattle.ls_works.specs.Frames.{FramesHaveConstants, OperandHasConstants, PhaseHasConstants, ThreadsRename}
@@ -96,7 +98,8 @@ module _ (file : File) (constants : FileHasConstants file) (names : ℕ → ℕ)
     executed_bind : (d : ℕ) (x : Executed) →
         executed k' d (done_other names is x) ≡ renamed_next names (executed k d x)
     executed_bind d (AsksFor action sort) = refl
-    executed_bind d (Completes c ls q) = ap (λ z. k' d (ns ls) (OfEnd z) (qs q)) (completion_same c) ∙ h d ls (OfEnd c) q
+    executed_bind d (Completes c ls q) = ap (λ z. k' d (ns ls) (OfEnd z) (qs q)) (completion_same c) ∙
+        h d ls (OfEnd c) q
 
     executed_other : (d : ℕ) (x x' : Executed) →
         x' ≡ done_other names is x →
@@ -132,7 +135,8 @@ module _ (file : File) (constants : FileHasConstants file) (names : ℕ → ℕ)
       OperandHasConstants f →
       Same (filled file d ls f v q) (filled file d (ns ls) (renamed_operand names f) (R v) (qs q))
   filled_other d ls (InField c f) v q h =
-      on_object_other names is v _ _ (field_of file.classes c f) q (ap (λ n. ReadField n f) (reference_other names is v))
+      on_object_other names is v _ _ (field_of file.classes c f) q
+      (ap (λ n. ReadField n f) (reference_other names is v))
   filled_other d ls (InItem i) v q h =
       then_other names is R R _ _ _ _ (eval d i h ls q) (λ n rest.
       on_object_other names is v _ _ (ValueOf types.Boolean) rest
@@ -142,7 +146,8 @@ module _ (file : File) (constants : FileHasConstants file) (names : ℕ → ℕ)
       on_object_other names is o _ _ (ValueOf types.Boolean) q
       (ap (λ r. ReadItem r (int_of (R v))) (reference_other names is o)
       ∙ ap (ReadItem (names (reference_of o))) (int_other names is v))
-  filled_other d ls InNegate v q h = results_other names is R (wrapped (neg_ℤ (int_of v))) _ q (ap (λ z. wrapped (neg_ℤ z)) (int_other names is v))
+  filled_other d ls InNegate v q h = results_other names is R (wrapped (neg_ℤ (int_of v))) _ q
+      (ap (λ z. wrapped (neg_ℤ z)) (int_other names is v))
   filled_other d ls InNot v q h = results_other names is R (values.Boolean (not (truth_of v))) _ q
       (ap (λ b. values.Boolean (not b)) (truth_other names is v))
   filled_other d ls InLength v q h =
@@ -159,13 +164,17 @@ module _ (file : File) (constants : FileHasConstants file) (names : ℕ → ℕ)
       ∙ argued_other d ls p (before ++ v ∷ []) es q h
   filled_other d ls (InMade c es) v q h = argued_other d ls (ToMake c v) [] es q h
   filled_other d ls (InConstructor o) v q h = refl
-  filled_other d ls InReference v q h = results_other names is R (values.Reference (reference_of v)) _ q (ap values.Reference (reference_other names is v))
-  filled_other d ls InMark v q h = results_other names is R (values.Boolean (mark_of v)) _ q (ap values.Boolean (mark_other names is v))
+  filled_other d ls InReference v q h = results_other names is R (values.Reference (reference_of v)) _ q
+      (ap values.Reference (reference_other names is v))
+  filled_other d ls InMark v q h = results_other names is R (values.Boolean (mark_of v)) _ q
+      (ap values.Boolean (mark_other names is v))
   filled_other d ls (InBoth a) v q h =
       null_other names is R a (names a) q _ _ refl (
       then_other names is R R _ _ _ _
-      (ask_other names is _ _ NoValue q (ap (λ b. WriteItem (names a) (pos 0) (values.Boolean b)) (mark_other names is v)))
-      (λ w rest. results_other names is R (values.Reference (reference_of v)) _ rest (ap values.Reference (reference_other names is v))))
+      (ask_other names is _ _ NoValue q (ap (λ b. WriteItem (names a) (pos 0) (values.Boolean b))
+      (mark_other names is v)))
+      (λ w rest. results_other names is R (values.Reference (reference_of v)) _ rest
+      (ap values.Reference (reference_other names is v))))
   filled_other d ls (InWritten p) v q h = results_other names is R (values.Reference (reference_of p)) _ q
       (ap values.Reference (reference_other names is p))
 
@@ -195,7 +204,8 @@ module _ (file : File) (constants : FileHasConstants file) (names : ℕ → ℕ)
       gone_on file d (ns ls) (renamed_waiting names f) (R v) (qs q) ≡ done_other names is (gone_on file d ls f v q)
   gone_on_other d ls (ToSlot n) v q h = ap (λ l. Completes Normal l (qs q)) (sym (map-set R ls n v))
   gone_on_other d ls (ToTarget f e) v q h =
-      normal_other names is _ _ ls (then_other names is R R _ _ _ _ (eval d e h ls q) (λ w rest. written_field v w f rest))
+      normal_other names is _ _ ls (then_other names is R R _ _ _ _ (eval d e h ls q)
+      (λ w rest. written_field v w f rest))
   gone_on_other d ls (ToField o f) v q h = normal_other names is _ _ ls (written_field o v f q)
   gone_on_other d ls (ToCounter f e) v q h =
       normal_other names is _ _ ls (
@@ -244,7 +254,8 @@ module _ (file : File) (constants : FileHasConstants file) (names : ℕ → ℕ)
       ∙ body_bind names is x _ _ (run d (While c s) h)
   closed_other d (OfTry f) x x' h e = finally_other names is x x' _ _ e (run d f h)
   closed_other d (OfFinally reason) x x' h e =
-      then_do_other names is x x' _ _ e (λ ls rest. ap (λ c. Completes c (ns ls) (qs rest)) (sym (completion_same reason)))
+      then_do_other names is x x' _ _ e (λ ls rest. ap (λ c. Completes c (ns ls) (qs rest))
+      (sym (completion_same reason)))
 
   -- ---- frames
 
@@ -291,7 +302,8 @@ module _ (file : File) (constants : FileHasConstants file) (names : ℕ → ℕ)
       (d : ℕ) (ls : List Value) (q : Answers) →
       done_now file k' (renamed_control names c) d (ns ls) (qs q) ≡ renamed_next names (done_now file k c d ls q)
   done_now_other k k' h (Evaluates e) c d ls q = evaluated_other k k' h d ls _ _ (eval d e c ls q)
-  done_now_other k k' h (Argues p before es) c d ls q = evaluated_other k k' h d ls _ _ (argued_other d ls p before es q c)
+  done_now_other k k' h (Argues p before es) c d ls q = evaluated_other k k' h d ls _ _
+      (argued_other d ls p before es q c)
   done_now_other k k' h (Invokes m vs) c d ls q = evaluated_other k k' h d ls _ _ (calls d m vs q)
   done_now_other k k' h (Opens m vs) c d ls q = opens_other k k' h m vs d ls q
   done_now_other k k' h (Executes s) c d ls q = executed_other k k' h d _ _ (run d s c ls q)

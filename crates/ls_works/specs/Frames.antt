@@ -6,7 +6,8 @@ use Rattle.ls_checked.specs.CheckedProgram.{Program}
 use Rattle.ls_meaning.specs.declared.completion.Completion.{Completion}
 use Rattle.ls_meaning.specs.declared.completion.Completion.TheVariants.{Normal, Broke, Continued, Returned, Threw}
 use Rattle.ls_meaning.specs.Course.{Answers}
-use Rattle.ls_meaning.specs.Constants.{CallHasConstants, CallsHaveConstants, FileHasConstants, HasConstants, HaveConstants}
+use Rattle.ls_meaning.specs.Constants.{CallHasConstants, CallsHaveConstants, FileHasConstants, HasConstants}
+use Rattle.ls_meaning.specs.Constants.{HaveConstants}
 use Rattle.ls_meaning.specs.Constants.{UseConstants, UsesConstants}
 use Rattle.ls_meaning.specs.Renamings.{IsRenaming, renamed, renamed_action, renamed_answers, renamed_next}
 use Rattle.ls_meaning.specs.Renamings.{renamed_result}

@@ -102,8 +102,8 @@ impl Machine {
         }
     }
 
-    /// Takes steps of a thread, so many at most, up to the first that may be an event, stop the machine or end the thread. Answers how
-    /// many.
+    /// Takes steps of a thread, so many at most, up to the first that may be an event, stop the machine or end the
+    /// thread. Answers how many.
     #[inline]
     fn stay(&mut self, number: usize, most: usize) -> usize
         ensures few { result ≤ most }

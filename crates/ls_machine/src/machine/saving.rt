@@ -14,7 +14,8 @@ use std::collections::HashMap;
 use std::marker::Model;
 use std::rc::Rc;
 
-/// A machine as it stood, but for its code, in memory for no more than it has. Parts that are the same as those of others are shared.
+/// A machine as it stood, but for its code, in memory for no more than it has. Parts that are the same as those of
+/// others are shared.
 #[derive(Drop)]
 pub struct Saved {
     threads: Vec<Rc<SavedThread>>,
@@ -29,7 +30,12 @@ impl Model for Saved {
 
     ghost Value = { Standing };
 
-    ghost view = { λ s. record { threads = map (λ t. t.value) s.threads.items; cells = s.cells.value; stopped = s.stopped; history = s.history.value.items } };
+    ghost view = { λ s. record {
+      threads = map (λ t. t.value) s.threads.items;
+      cells = s.cells.value;
+      stopped = s.stopped;
+      history = s.history.value.items;
+    } };
 }
 
 impl Saved {
@@ -215,8 +221,8 @@ impl Machine {
             && self.cells.is_saved(saved.cells.as_ref())
     }
 
-    /// Makes this machine as it was saved, with its own code and in the memory that it has. True only where it is so then: that memory
-    /// may be too little.
+    /// Makes this machine as it was saved, with its own code and in the memory that it has. True only where it is so
+    /// then: that memory may be too little.
     pub fn set_as(&mut self, saved: &Saved) -> bool
         ensures same { IsTrue result → self.new ≡ standing_so self.old saved.now }
         ensures code { self.new.code ≡ self.old.code }

@@ -26,7 +26,14 @@ impl Model for SavedThread {
 
     ghost Value = { ThreadValue };
 
-    ghost view = { λ t. record { top = (slice_index_or t.frames.items 0 no_frame).frame; below = map (λ k. k.frame) (drop 1 t.frames.items); mode = t.mode; calls = t.calls.items; ended = t.ended; pending = t.pending } };
+    ghost view = { λ t. record {
+      top = (slice_index_or t.frames.items 0 no_frame).frame;
+      below = map (λ k. k.frame) (drop 1 t.frames.items);
+      mode = t.mode;
+      calls = t.calls.items;
+      ended = t.ended;
+      pending = t.pending;
+    } };
 }
 
 /// Whether a call answers the same kind of value. True only where it does.
@@ -94,12 +101,13 @@ fn is_stuck(number: usize, frame: &Frame) -> bool
     number != 0 && frame.counter() == usize::MAX
 }
 
-/// Makes the frames from a place on the others, one by one, in the memory that they have. Answers false where one of these has too
-/// little, or where one of the others that isn't the first can't go on after a call.
+/// Makes the frames from a place on the others, one by one, in the memory that they have. Answers false where one of
+/// these has too little, or where one of the others that isn't the first can't go on after a call.
 fn set_frames(frames: &mut [Frame], from: usize, others: &[Frame]) -> bool
     requires { from + length others.now ≡ length frames.old }
     ensures count { length frames.new ≡ length frames.old }
-    ensures rooms { (locals operands : ℕ) → HaveRooms locals operands frames.old → HaveRooms locals operands frames.new }
+    ensures rooms { (locals operands : ℕ) → HaveRooms locals operands frames.old →
+        HaveRooms locals operands frames.new }
     ensures same { IsTrue result → map (λ k. k.frame) (drop from frames.new) ≡ map (λ k. k.frame) others.now }
     ensures callers { IsTrue result → CallersGoOn from frames.new }
 {
@@ -151,8 +159,8 @@ impl Thread {
             && are_same(&self.frames[self.inner..], saved.frames.as_slice())
     }
 
-    /// Makes this thread as it was saved, in the memory that it has. True only where it is so then: that memory may be too little,
-    /// and the calls may be others.
+    /// Makes this thread as it was saved, in the memory that it has. True only where it is so then: that memory may be
+    /// too little, and the calls may be others.
     pub fn set_as(&mut self, saved: &SavedThread) -> bool
         ensures same { IsTrue result → self.new ≡ keeping_thread self.old saved.now }
         ensures calls { self.new.thread.calls ≡ self.old.thread.calls }

@@ -11,6 +11,7 @@ pub returns : goal.returns
 returns c = if_alone c.one_answer.ensures c.calm_is_good.ensures c.args.sought c.args.classes.now c.args.making.now
     (map string_bytes c.args.calls.now) (alone_text c.args.making.now 0 c.as_str.result.now) c.in-Some-2.image
     c.in_ok-menu.menu.class c.in_ok-menu.menu.methods.items c.told.result
-    (subst (λ o. IfSome o (Compiles c.args.classes.now (alone_text c.args.making.now 0 c.as_str.result.now))) c.in-Some-2.is
+    (subst (λ o. IfSome o (Compiles c.args.classes.now (alone_text c.args.making.now 0 c.as_str.result.now)))
+    c.in-Some-2.is
     c.in_ok-image.ensures)
     (c.in_ok-are_made_of.ensures c.if-not-branch.false) c.told.ensures

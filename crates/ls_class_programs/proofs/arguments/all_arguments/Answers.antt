@@ -10,17 +10,20 @@ use Rattle.ls_class_programs.proofs.arguments.all_arguments.Goals as goal
 
 pub returns-then-len-more-gt-MOST_LISTS-clause-many : goal.returns-then-len-more-gt-MOST_LISTS-clause-many
 returns-then-len-more-gt-MOST_LISTS-clause-many c =
-    let many = counted (map plain_text c.args.integers.now) c.args.parameters.now c.loop-parameter.parameter-index c.parameter-item.result
+    let many = counted (map plain_text c.args.integers.now) c.args.parameters.now c.loop-parameter.parameter-index
+    c.parameter-item.result
     c.loop-parameter.all.items c.arguments_of-more.result.now (omega arith) c.parameter-item.is
     c.loop-parameter.invariant.taken c.arguments_of-more.ensures.is in
     let held : c.len.result ≡ length c.loop-parameter.all.items = omega arith in
     let size = ap (λ k. k * length c.arguments_of-more.result.now) held in
-    let same = ap length (first_parameters (map plain_text c.args.integers.now) (c.loop-parameter.parameter-index + 1) c.args.parameters.now) in
+    let same = ap length (first_parameters (map plain_text c.args.integers.now) (c.loop-parameter.parameter-index + 1)
+    c.args.parameters.now) in
     λ _. (c.loop-parameter.parameter-index + 1, omega (arith, many, same, size))
 
 pub loop-parameter-preserved : goal.loop-parameter-preserved
 loop-parameter-preserved c =
-    let many = counted (map plain_text c.args.integers.now) c.args.parameters.now c.loop-parameter.parameter-index c.parameter-item.result
+    let many = counted (map plain_text c.args.integers.now) c.args.parameters.now c.loop-parameter.parameter-index
+    c.parameter-item.result
     c.loop-parameter.all.items c.arguments_of-more.result.now (omega arith) c.parameter-item.is
     c.loop-parameter.invariant.taken c.arguments_of-more.ensures.is in
     let next = c.in_ok-longer.ensures

@@ -14,8 +14,11 @@ loop-i-preserved c =
     let is = c.as_str.ensures.value ∙ c.in_ok-program.ensures ∙
     ap (alone_text c.args.making.now i) c.calls.ensures in
     one_more (λ k. (image : Image) × Compiles c.args.classes.now
-    (program_of_entry c.args.making.now k c.args.entry.now) image) i c.loop-i.invariant
-    (c.in_default.field-0, subst (λ t. Compiles c.args.classes.now t c.in_default.field-0) is c.in_default.ensures.compiled)
+    (program_of_entry c.args.making.now k c.args.entry.now) image) i c.loop-i.invariant (
+      c.in_default.field-0,
+      subst (λ t. Compiles c.args.classes.now t c.in_default.field-0) is
+          c.in_default.ensures.compiled,
+    )
 
 pub returns-clause-good : goal.returns-clause-good
 returns-clause-good c = λ i within. c.loop-i.invariant i (omega (arith, within, c.loop-i-test.false))

@@ -24,7 +24,8 @@ loop-entry-preserved c =
     slice_get-get_or items i item (omega (arith, c.loop-entry-test.true)) ∙ ap Some (sym c.entry-item.is) in
     record {
       same = c.loop-entry.invariant.same;
-      before = one_item (AreCalls c.args.classes.now c.args.making.now c.args.threads) (entries c.args.menu.now) i item here
+      before = one_item (AreCalls c.args.classes.now c.args.making.now c.args.threads)
+          (entries c.args.menu.now) i item here
           c.in_ok-check_calls.ensures.good c.loop-entry.invariant.before;
     }
 
@@ -36,12 +37,14 @@ returns-clause-good c =
 
 pub returns-in_err-check_calls-clause-bad : goal.returns-in_err-check_calls-clause-bad
 returns-in_err-check_calls-clause-bad c =
-    let p = err_from_is_err_and c.from_residual-in_err-check_calls.result c.from_residual-in_err-check_calls.ensures.1 in
+    let p = err_from_is_err_and c.from_residual-in_err-check_calls.result
+    c.from_residual-in_err-check_calls.ensures.1 in
     let items = c.deref-entry-items.result.now in
     let i = c.loop-entry.entry-index in
     let item = c.entry-item.result in
     let here = ap (λ l. slice_get l i) (sym c.loop-entry.invariant.same) ∙
     slice_get-get_or items i item (omega (arith, c.loop-entry-test.true)) ∙ ap Some (sym c.entry-item.is) in
     rw (p.1, p.2)
-    (no_call c.args.classes.now c.args.making.now c.args.threads c.args.menu.now i item here c.loop-entry.invariant.before
+    (no_call c.args.classes.now c.args.making.now c.args.threads c.args.menu.now i item here
+    c.loop-entry.invariant.before
     c.in_err-check_calls.field-0.0 c.in_err-check_calls.ensures.bad)

@@ -12,6 +12,7 @@ pub returns-in_err-family-clause-refused : goal.returns-in_err-family-clause-ref
 returns-in_err-family-clause-refused c =
     let p = err_from_is_err_and c.from_residual-in_err-family.result c.from_residual-in_err-family.ensures.1 in
     let many : c.len.result ≡ length c.in_ok-calls.calls.items = omega arith in
-    rw (p.1, p.2) (family_fails c.args.choosing (option_map plain_text c.args.menu) (bare_class c.args.class.now) c.in_err-family.field-0.0
+    rw (p.1, p.2) (family_fails c.args.choosing (option_map plain_text c.args.menu) (bare_class c.args.class.now)
+    c.in_err-family.field-0.0
     c.in_ok-calls.calls.items c.len.result c.in_ok-calls.ensures.calls many c.in_err-family.ensures.no_calls
     c.in_err-family.ensures.bad c.in_err-family.ensures.many)

@@ -23,7 +23,8 @@ returns-then-are_bad_values-2-clause-refused c =
 pub returns-in_err-file-clause-refused : goal.returns-in_err-file-clause-refused
 returns-in_err-file-clause-refused c =
     let p = err_from_is_err_and c.from_residual.result c.from_residual.ensures.1 in
-    rw (p.1, p.2) (text_fails c.args.choosing c.args.classes.now (option_map plain_text c.args.menu) c.in_err-file.field-0.0 c.in_err-file.ensures.refused
+    rw (p.1, p.2) (text_fails c.args.choosing c.args.classes.now (option_map plain_text c.args.menu)
+    c.in_err-file.field-0.0 c.in_err-file.ensures.refused
     c.in_err-file.ensures.comes c.in_err-file.ensures.long)
 
 pub returns-in_default-clause-refused : goal.returns-in_default-clause-refused
@@ -61,7 +62,8 @@ returns-in-Some-clause-refused c =
     let tokens = ap lexemes c.as_slice.ensures.value ∙
     same_tokens (bare_file f) c.args.classes.now (lexemes c.in-Ok.tokens.items) c.in_ok-file.ensures.found
     c.in-Ok.ensures.read in
-    place_fails c.args.choosing c.args.classes.now (option_map plain_text c.args.menu) (map bare_class c.classes-all.result.now) c.in-Some.at
+    place_fails c.args.choosing c.args.classes.now (option_map plain_text c.args.menu)
+    (map bare_class c.classes-all.result.now) c.in-Some.at
     c.of_place.result
     (λ k there. choose c.args.choosing c.args.classes.now f c.classes-all.result.now
     (lexemes c.as_slice.result.now) c.in-Some.at k c.in_ok-file.ensures.found c.classes-all.ensures tokens

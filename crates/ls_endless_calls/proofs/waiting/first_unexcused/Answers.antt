@@ -10,7 +10,8 @@ pub loop-at-preserved : goal.loop-at-preserved
 loop-at-preserved c =
     let at = get_there c.args.history.now c.loop-at.at c.loop-at-test.true in
     one_so c.args.history.now
-    (λ k y. IsPending c.args.history.now y → IsRunAmong (lists_of c.args.runs.now) c.args.history.now y) c.loop-at.at at.0 at.1
+    (λ k y. IsPending c.args.history.now y → IsRunAmong (lists_of c.args.runs.now) c.args.history.now y)
+    c.loop-at.at at.0 at.1
     c.loop-at.invariant (c.if-is_unexcused.ensures at.0 at.1)
 
 pub returns-clause-none : goal.returns-clause-none

@@ -7,7 +7,8 @@ use Rattle.ls_explanations.proofs.named.word.Given as goal
 
 abbrev pub invariant-loop-end : goal.invariant-loop-end
 invariant-loop-end l =
-    (l.end ≤ length l.bytes) × (position_or_len ends_word l.bytes ≡ l.end + position_or_len ends_word (drop l.end l.bytes))
+    (l.end ≤ length l.bytes) × (position_or_len ends_word l.bytes ≡ l.end + position_or_len ends_word
+    (drop l.end l.bytes))
 
 abbrev pub decreases-loop-end : goal.decreases-loop-end
 decreases-loop-end l = length l.bytes - l.end

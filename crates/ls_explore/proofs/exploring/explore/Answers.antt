@@ -48,9 +48,11 @@ returns-clause-told g c =
     let root : Machine = root_of c.search_with.new.walker setup in
     let paths : List (List ℕ) = paths_of c.in_ok-found.found.paths.items in
     let seen : List Seen = c.in_ok-found.found.seen.items in
-    let er = root_same c.in_ok-walker.walker c.search_with.new.walker setup c.search_with.ensures.code c.search_with.ensures.cells ∙
+    let er = root_same c.in_ok-walker.walker c.search_with.new.walker setup c.search_with.ensures.code
+    c.search_with.ensures.cells ∙
     ap (λ (m : Machine). root_of m setup) c.in_ok-walker.ensures.loaded in
-    let sound = sound_there c.in_ok-walker.walker c.search_with.new.walker setup c.search_with.ensures.code c.search_with.ensures.cells
+    let sound = sound_there c.in_ok-walker.walker c.search_with.new.walker setup c.search_with.ensures.code
+    c.search_with.ensures.cells
     n threads paths seen c.in_ok-found.ensures.sound in
     tells_truth c.args.code.now c.args.cells setup threads n root
     c.most_steps.ensures er paths seen sound
@@ -64,9 +66,11 @@ returns-clause-acts g c =
     let root : Machine = root_of c.search_with.new.walker setup in
     let paths : List (List ℕ) = paths_of c.in_ok-found.found.paths.items in
     let seen : List Seen = c.in_ok-found.found.seen.items in
-    let er = root_same c.in_ok-walker.walker c.search_with.new.walker setup c.search_with.ensures.code c.search_with.ensures.cells ∙
+    let er = root_same c.in_ok-walker.walker c.search_with.new.walker setup c.search_with.ensures.code
+    c.search_with.ensures.cells ∙
     ap (λ (m : Machine). root_of m setup) c.in_ok-walker.ensures.loaded in
-    let sound = sound_there c.in_ok-walker.walker c.search_with.new.walker setup c.search_with.ensures.code c.search_with.ensures.cells
+    let sound = sound_there c.in_ok-walker.walker c.search_with.new.walker setup c.search_with.ensures.code
+    c.search_with.ensures.cells
     n threads paths seen c.in_ok-found.ensures.sound in
     tells_acts c.args.code.now c.args.cells setup threads n root
     c.most_steps.ensures er paths seen sound
@@ -80,9 +84,11 @@ returns-clause-over g c =
     let root : Machine = root_of c.search_with.new.walker setup in
     let paths : List (List ℕ) = paths_of c.in_ok-found.found.paths.items in
     let seen : List Seen = c.in_ok-found.found.seen.items in
-    let er = root_same c.in_ok-walker.walker c.search_with.new.walker setup c.search_with.ensures.code c.search_with.ensures.cells ∙
+    let er = root_same c.in_ok-walker.walker c.search_with.new.walker setup c.search_with.ensures.code
+    c.search_with.ensures.cells ∙
     ap (λ (m : Machine). root_of m setup) c.in_ok-walker.ensures.loaded in
-    let sound = sound_there c.in_ok-walker.walker c.search_with.new.walker setup c.search_with.ensures.code c.search_with.ensures.cells
+    let sound = sound_there c.in_ok-walker.walker c.search_with.new.walker setup c.search_with.ensures.code
+    c.search_with.ensures.cells
     n threads paths seen c.in_ok-found.ensures.sound in
     tells_over c.args.code.now c.args.cells setup threads n root
     c.most_steps.ensures er paths seen sound
@@ -96,9 +102,11 @@ returns-clause-fits g c =
     let root : Machine = root_of c.search_with.new.walker setup in
     let paths : List (List ℕ) = paths_of c.in_ok-found.found.paths.items in
     let seen : List Seen = c.in_ok-found.found.seen.items in
-    let er = root_same c.in_ok-walker.walker c.search_with.new.walker setup c.search_with.ensures.code c.search_with.ensures.cells ∙
+    let er = root_same c.in_ok-walker.walker c.search_with.new.walker setup c.search_with.ensures.code
+    c.search_with.ensures.cells ∙
     ap (λ (m : Machine). root_of m setup) c.in_ok-walker.ensures.loaded in
-    let sound = sound_there c.in_ok-walker.walker c.search_with.new.walker setup c.search_with.ensures.code c.search_with.ensures.cells
+    let sound = sound_there c.in_ok-walker.walker c.search_with.new.walker setup c.search_with.ensures.code
+    c.search_with.ensures.cells
     n threads paths seen c.in_ok-found.ensures.sound in
     tells_fits c.args.code.now c.args.cells setup threads n root
     c.most_steps.ensures er paths seen sound
@@ -112,9 +120,11 @@ returns-clause-full g c =
     let root : Machine = root_of c.search_with.new.walker setup in
     let paths : List (List ℕ) = paths_of c.in_ok-found.found.paths.items in
     let seen : List Seen = c.in_ok-found.found.seen.items in
-    let er = root_same c.in_ok-walker.walker c.search_with.new.walker setup c.search_with.ensures.code c.search_with.ensures.cells ∙
+    let er = root_same c.in_ok-walker.walker c.search_with.new.walker setup c.search_with.ensures.code
+    c.search_with.ensures.cells ∙
     ap (λ (m : Machine). root_of m setup) c.in_ok-walker.ensures.loaded in
-    let sound = sound_there c.in_ok-walker.walker c.search_with.new.walker setup c.search_with.ensures.code c.search_with.ensures.cells
+    let sound = sound_there c.in_ok-walker.walker c.search_with.new.walker setup c.search_with.ensures.code
+    c.search_with.ensures.cells
     n threads paths seen c.in_ok-found.ensures.sound in
     tells_full c.args.code.now c.args.cells setup threads n root
     c.most_steps.ensures er paths seen sound
@@ -128,9 +138,11 @@ returns-clause-narrow g c = λ no.
     let root : Machine = root_of c.search_with.new.walker setup in
     let paths : List (List ℕ) = paths_of c.in_ok-found.found.paths.items in
     let seen : List Seen = c.in_ok-found.found.seen.items in
-    let er = root_same c.in_ok-walker.walker c.search_with.new.walker setup c.search_with.ensures.code c.search_with.ensures.cells ∙
+    let er = root_same c.in_ok-walker.walker c.search_with.new.walker setup c.search_with.ensures.code
+    c.search_with.ensures.cells ∙
     ap (λ (m : Machine). root_of m setup) c.in_ok-walker.ensures.loaded in
-    let sound = sound_there c.in_ok-walker.walker c.search_with.new.walker setup c.search_with.ensures.code c.search_with.ensures.cells
+    let sound = sound_there c.in_ok-walker.walker c.search_with.new.walker setup c.search_with.ensures.code
+    c.search_with.ensures.cells
     n threads paths seen c.in_ok-found.ensures.sound in
     let some = c.are_roomy.ensures.some no in
     tells_narrow c.args.code.now c.args.cells setup threads n root
@@ -145,9 +157,11 @@ returns-clause-seen g c = λ yes.
     let root : Machine = root_of c.search_with.new.walker setup in
     let paths : List (List ℕ) = paths_of c.in_ok-found.found.paths.items in
     let seen : List Seen = c.in_ok-found.found.seen.items in
-    let er = root_same c.in_ok-walker.walker c.search_with.new.walker setup c.search_with.ensures.code c.search_with.ensures.cells ∙
+    let er = root_same c.in_ok-walker.walker c.search_with.new.walker setup c.search_with.ensures.code
+    c.search_with.ensures.cells ∙
     ap (λ (m : Machine). root_of m setup) c.in_ok-walker.ensures.loaded in
-    let sound = sound_there c.in_ok-walker.walker c.search_with.new.walker setup c.search_with.ensures.code c.search_with.ensures.cells
+    let sound = sound_there c.in_ok-walker.walker c.search_with.new.walker setup c.search_with.ensures.code
+    c.search_with.ensures.cells
     n threads paths seen c.in_ok-found.ensures.sound in
     tells_seen c.args.code.now c.args.cells setup threads n root
     c.most_steps.ensures er paths seen sound
@@ -162,9 +176,11 @@ returns-clause-tells g c = λ yes.
     let root : Machine = root_of c.search_with.new.walker setup in
     let paths : List (List ℕ) = paths_of c.in_ok-found.found.paths.items in
     let seen : List Seen = c.in_ok-found.found.seen.items in
-    let er = root_same c.in_ok-walker.walker c.search_with.new.walker setup c.search_with.ensures.code c.search_with.ensures.cells ∙
+    let er = root_same c.in_ok-walker.walker c.search_with.new.walker setup c.search_with.ensures.code
+    c.search_with.ensures.cells ∙
     ap (λ (m : Machine). root_of m setup) c.in_ok-walker.ensures.loaded in
-    let sound = sound_there c.in_ok-walker.walker c.search_with.new.walker setup c.search_with.ensures.code c.search_with.ensures.cells
+    let sound = sound_there c.in_ok-walker.walker c.search_with.new.walker setup c.search_with.ensures.code
+    c.search_with.ensures.cells
     n threads paths seen c.in_ok-found.ensures.sound in
     let closed = closed_there c.in_ok-walker.walker c.search_with.new.walker setup c.search_with.ensures.code
     c.search_with.ensures.cells n threads paths (c.in_ok-found.ensures.closed yes) in
@@ -183,9 +199,11 @@ returns-clause-ends g c = λ yes.
     let root : Machine = root_of c.search_with.new.walker setup in
     let paths : List (List ℕ) = paths_of c.in_ok-found.found.paths.items in
     let seen : List Seen = c.in_ok-found.found.seen.items in
-    let er = root_same c.in_ok-walker.walker c.search_with.new.walker setup c.search_with.ensures.code c.search_with.ensures.cells ∙
+    let er = root_same c.in_ok-walker.walker c.search_with.new.walker setup c.search_with.ensures.code
+    c.search_with.ensures.cells ∙
     ap (λ (m : Machine). root_of m setup) c.in_ok-walker.ensures.loaded in
-    let sound = sound_there c.in_ok-walker.walker c.search_with.new.walker setup c.search_with.ensures.code c.search_with.ensures.cells
+    let sound = sound_there c.in_ok-walker.walker c.search_with.new.walker setup c.search_with.ensures.code
+    c.search_with.ensures.cells
     n threads paths seen c.in_ok-found.ensures.sound in
     let closed = closed_there c.in_ok-walker.walker c.search_with.new.walker setup c.search_with.ensures.code
     c.search_with.ensures.cells n threads paths (c.in_ok-found.ensures.closed yes) in
@@ -204,9 +222,11 @@ returns-clause-whole g c = λ yes room.
     let root : Machine = root_of c.search_with.new.walker setup in
     let paths : List (List ℕ) = paths_of c.in_ok-found.found.paths.items in
     let seen : List Seen = c.in_ok-found.found.seen.items in
-    let er = root_same c.in_ok-walker.walker c.search_with.new.walker setup c.search_with.ensures.code c.search_with.ensures.cells ∙
+    let er = root_same c.in_ok-walker.walker c.search_with.new.walker setup c.search_with.ensures.code
+    c.search_with.ensures.cells ∙
     ap (λ (m : Machine). root_of m setup) c.in_ok-walker.ensures.loaded in
-    let sound = sound_there c.in_ok-walker.walker c.search_with.new.walker setup c.search_with.ensures.code c.search_with.ensures.cells
+    let sound = sound_there c.in_ok-walker.walker c.search_with.new.walker setup c.search_with.ensures.code
+    c.search_with.ensures.cells
     n threads paths seen c.in_ok-found.ensures.sound in
     let closed = closed_there c.in_ok-walker.walker c.search_with.new.walker setup c.search_with.ensures.code
     c.search_with.ensures.cells n threads paths (c.in_ok-found.ensures.closed yes) in
@@ -226,9 +246,11 @@ returns-clause-found g c =
     let root : Machine = root_of c.search_with.new.walker setup in
     let paths : List (List ℕ) = paths_of c.in_ok-found.found.paths.items in
     let seen : List Seen = c.in_ok-found.found.seen.items in
-    let er = root_same c.in_ok-walker.walker c.search_with.new.walker setup c.search_with.ensures.code c.search_with.ensures.cells ∙
+    let er = root_same c.in_ok-walker.walker c.search_with.new.walker setup c.search_with.ensures.code
+    c.search_with.ensures.cells ∙
     ap (λ (m : Machine). root_of m setup) c.in_ok-walker.ensures.loaded in
-    let sound = sound_there c.in_ok-walker.walker c.search_with.new.walker setup c.search_with.ensures.code c.search_with.ensures.cells
+    let sound = sound_there c.in_ok-walker.walker c.search_with.new.walker setup c.search_with.ensures.code
+    c.search_with.ensures.cells
     n threads paths seen c.in_ok-found.ensures.sound in
     let count : length paths ≡ length c.in_ok-found.found.paths.items = length-paths c.in_ok-found.found.paths.items in
     let many : length paths ≡ c.len.result = omega (arith, count) in

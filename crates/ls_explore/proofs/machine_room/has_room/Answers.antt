@@ -18,7 +18,8 @@ returns-clause-within c =
     let program : Program = program_of c.args.image.now in
     let code : Code = c.args.image.now.code in
     let once = within_prop file program code in
-    let typed : ∥ IsWellTyped file ∥₁ = subst (λ (k : Checked). ∥ IsWellTyped (elaborated_file k).file ∥₁) c.checked.ensures
+    let typed : ∥ IsWellTyped file ∥₁ = subst (λ (k : Checked). ∥ IsWellTyped (elaborated_file k).file ∥₁)
+    c.checked.ensures
     c.well_typed.ensures in
     ∥∥₁_elim c.args.image.now.kept once (λ runs. ∥∥₁_elim typed once (λ well.
     ∥∥₁_elim c.args.image.now.source.kept once (λ reads.
@@ -31,7 +32,8 @@ returns-clause-stops c =
     let program : Program = program_of c.args.image.now in
     let code : Code = c.args.image.now.code in
     let once = stops_prop file program code in
-    let typed : ∥ IsWellTyped file ∥₁ = subst (λ (k : Checked). ∥ IsWellTyped (elaborated_file k).file ∥₁) c.checked.ensures
+    let typed : ∥ IsWellTyped file ∥₁ = subst (λ (k : Checked). ∥ IsWellTyped (elaborated_file k).file ∥₁)
+    c.checked.ensures
     c.well_typed.ensures in
     ∥∥₁_elim c.args.image.now.kept once (λ runs. ∥∥₁_elim typed once (λ well.
     ∥∥₁_elim c.args.image.now.source.kept once (λ reads.

@@ -21,7 +21,8 @@ loop-front-preserved c =
     record {
       text = search rules;
       done = ap (λ l. l ++ numbered i rest) (two ∙ ap (λ l. l ++ c.number_of.result.now) one ∙
-          ap (λ l. (had ++ front) ++ l) c.number_of.ensures) ∙ append_assoc (had ++ front) (number_of i) (numbered i rest) ∙
+          ap (λ l. (had ++ front) ++ l) c.number_of.ensures) ∙ append_assoc (had ++ front) (number_of i)
+          (numbered i rest) ∙
           append_assoc had front (number_of i ++ numbered i rest) ∙ ap (λ l. had ++ l) (sym first.0) ∙
           c.loop-front.invariant.done;
     }

@@ -11,7 +11,8 @@ pub returns-in-Ends : goal.returns-in-Ends
 returns-in-Ends g c =
     let gives = c.into_iter-outcome-iterator.ensures.into_iter_gives in
     let road = YieldsList-from_vec c.args.outcomes.items gives.0 (gives.1 ∙ c.args.outcomes.ok.0) in
-    let so_far = YieldsList-so_far road c.loop-outcome.yielded c.loop-outcome.outcome-iterator c.loop-outcome.yielded_by in
+    let so_far = YieldsList-so_far road c.loop-outcome.yielded c.loop-outcome.outcome-iterator
+    c.loop-outcome.yielded_by in
     let turn = YieldsList-turn road c.loop-outcome.yielded c.loop-outcome.outcome-iterator c.loop-outcome.yielded_by
     c.next.result c.next.new.self c.in-Some.outcome c.in-Some.is c.next.ensures.steps in
     let cut = cut_at c.args.outcomes.items c.loop-outcome.yielded c.in-Some.outcome so_far turn.0 turn.1 in

@@ -14,5 +14,6 @@ returns g c =
     let chain = rw (c.map.ensures.base, c.map.ensures.f, c.with_min_len.ensures.base) at h.1 in
     let places = chain.1 ∙ (λ i. nat_range (ends.0 i) (ends.1 i)) in
     rw h.2 (subst (λ ns. AllZip
-    (λ n o. IfOk o (IsOutcomeAt c.args.programs.now (g.J.Judge.IsGood c.args.judge.now) (g.J.Judge.IsCut c.args.judge.now)
+    (λ n o. IfOk o (IsOutcomeAt c.args.programs.now (g.J.Judge.IsGood c.args.judge.now)
+    (g.J.Judge.IsCut c.args.judge.now)
     (g.J.Judge.Halts c.args.judge.now) c.args.first n)) ns h.0) places chain.2))

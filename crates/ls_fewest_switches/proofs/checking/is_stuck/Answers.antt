@@ -20,7 +20,8 @@ loop-thread-preserved c =
     let inv = c.loop-thread.invariant in
     let is : c.in_ok-did.did ≡ did_at r c.loop-thread.thread =
     c.in_ok-did.ensures.did ∙ ap (λ (q : Progress). did_at q c.loop-thread.thread) inv.same in
-    let still : IsStill (did_at r c.loop-thread.thread) = subst IsStill is (c.is_still.ensures c.if-not-is_still.false) in
+    let still : IsStill (did_at r c.loop-thread.thread) =
+    subst IsStill is (c.is_still.ensures c.if-not-is_still.false) in
     record {
       same = c.in_ok-did.ensures.run ∙ stays_so (progress_of c.loop-thread.run) r c.loop-thread.thread inv.same still;
       still = still_more r c.loop-thread.thread inv.still still;

@@ -34,7 +34,8 @@ returns g c =
     (IsEnd stands (g.O.Observer.bad o) c.args.scope.wanted file) n r states closing.graph.edges.items
     closing.looked.items in
     let root : noticed_at first (table_of c.in_ok-beginning.beginning.tables.transitions)
-    (map stands c.in_ok-beginning.beginning.tables.pool.values.items) c.in_ok-beginning.beginning.root.place ≡ noticed_of first next file program [] =
+    (map stands c.in_ok-beginning.beginning.tables.pool.values.items) c.in_ok-beginning.beginning.root.place ≡
+    noticed_of first next file program [] =
     c.in_ok-beginning.ensures.stands
     ∙ ap (λ (k : Configuration). record { configuration = k; noted = stands c.in_ok-start.field-0 })
     c.in_ok-numbered.ensures.start

@@ -26,7 +26,8 @@ loop-line-preserved c =
     ∙ ap (λ t. t ++ 10 ∷ []) (c.in_ok-push_str.ensures.bytes ∙ ap (λ t. out ++ t) c.unmarked_line.ensures) in
     record {
       rest_text = search rules;
-      so_far = ap (λ t. t ++ unmarked after) pushed ∙ append_assoc (out ++ unmarked_line line) (10 ∷ []) (unmarked after)
+      so_far = ap (λ t. t ++ unmarked after) pushed ∙ append_assoc (out ++ unmarked_line line) (10 ∷ [])
+          (unmarked after)
           ∙ append_assoc out (unmarked_line line) (10 ∷ unmarked after)
           ∙ ap (λ t. out ++ t) (sym (unmarks_on rest line after first)) ∙ c.loop-line.invariant.so_far;
     }

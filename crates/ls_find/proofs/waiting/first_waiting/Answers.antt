@@ -12,7 +12,8 @@ pub loop-at-preserved : goal.loop-at-preserved
 loop-at-preserved c =
     one_so c.args.rows.now (λ k r. IsEnd r.ending → AreExcused (lists_of c.args.runs.now) r.history) c.loop-at.at
     c.index-rows-at.result
-    (slice_get-get_or c.args.rows.now c.loop-at.at c.index-rows-at.result c.loop-at-test.true ∙ ap Some (sym c.index-rows-at.is))
+    (slice_get-get_or c.args.rows.now c.loop-at.at c.index-rows-at.result c.loop-at-test.true ∙
+    ap Some (sym c.index-rows-at.is))
     c.loop-at.invariant c.if-waits_in.ensures
 
 pub returns-clause-none : goal.returns-clause-none

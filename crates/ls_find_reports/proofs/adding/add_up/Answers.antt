@@ -20,7 +20,8 @@ returns-in_err-sort-clause-refused c =
 
 pub returns-in_default-clause-refused : goal.returns-in_default-clause-refused
 returns-in_default-clause-refused c =
-    Nothing (none_in c.args.text.now c.in_ok-reports.reports.items c.sort.new.reports.items c.in_ok-reports.ensures.found
+    Nothing (none_in c.args.text.now c.in_ok-reports.reports.items c.sort.new.reports.items
+    c.in_ok-reports.ensures.found
     c.in_ok-sort.ensures.permutes (sym c.as_slice.ensures.value ∙ c.in_default.ensures))
 
 pub sum_from-requires-clause-first : goal.sum_from-requires-clause-first
@@ -37,14 +38,16 @@ sum_from-requires-clause-more c =
 
 pub returns-in_default-sum_from-clause-refused : goal.returns-in_default-sum_from-clause-refused
 returns-in_default-sum_from-clause-refused c =
-    let there = are_in c.args.text.now c.in_ok-reports.reports.items c.sort.new.reports.items c.in_ok-reports.ensures.found
+    let there = are_in c.args.text.now c.in_ok-reports.reports.items c.sort.new.reports.items
+    c.in_ok-reports.ensures.found
     c.in_ok-sort.ensures.permutes c.in_ok-sort.ensures.rise c.in-Some.first c.in-Some.more.now
     (sym c.as_slice.ensures.value ∙ c.in-Some.ensures) in
     Apart (plain_report c.in-Some.first) (map plain_report c.in-Some.more.now) there c.in_default-sum_from.ensures.none
 
 pub returns-then-is_other-clause-refused : goal.returns-then-is_other-clause-refused
 returns-then-is_other-clause-refused c =
-    let there = are_in c.args.text.now c.in_ok-reports.reports.items c.sort.new.reports.items c.in_ok-reports.ensures.found
+    let there = are_in c.args.text.now c.in_ok-reports.reports.items c.sort.new.reports.items
+    c.in_ok-reports.ensures.found
     c.in_ok-sort.ensures.permutes c.in_ok-sort.ensures.rise c.in-Some.first c.in-Some.more.now
     (sym c.as_slice.ensures.value ∙ c.in-Some.ensures) in
     let sum = c.in-Some-sum_from.ensures.some in
@@ -53,12 +56,14 @@ returns-then-is_other-clause-refused c =
 
 pub returns-in_err-print_report-clause-refused : goal.returns-in_err-print_report-clause-refused
 returns-in_err-print_report-clause-refused c =
-    let p = err_from_is_err_and c.from_residual-in_err-print_report.result c.from_residual-in_err-print_report.ensures.1 in
+    let p = err_from_is_err_and c.from_residual-in_err-print_report.result
+    c.from_residual-in_err-print_report.ensures.1 in
     rw (p.1, p.2) OutOfMemory
 
 pub returns-clause-sum : goal.returns-clause-sum
 returns-clause-sum c =
-    let there = are_in c.args.text.now c.in_ok-reports.reports.items c.sort.new.reports.items c.in_ok-reports.ensures.found
+    let there = are_in c.args.text.now c.in_ok-reports.reports.items c.sort.new.reports.items
+    c.in_ok-reports.ensures.found
     c.in_ok-sort.ensures.permutes c.in_ok-sort.ensures.rise c.in-Some.first c.in-Some.more.now
     (sym c.as_slice.ensures.value ∙ c.in-Some.ensures) in
     let sum = c.in-Some-sum_from.ensures.some in

@@ -6,4 +6,5 @@ use Rattle.ls_find_reports.proofs.adding.sort.Goals as goal
 
 pub returns-clause-rise : goal.returns-clause-rise
 returns-clause-rise c =
-    IsNonDecreasingBy-from_sort_by_key (λ r. r.figures.from) _ c.in_ok-sort_by_key.ensures.sorted (λ a r q k. search rules)
+    IsNonDecreasingBy-from_sort_by_key (λ r. r.figures.from) _ c.in_ok-sort_by_key.ensures.sorted
+    (λ a r q k. search rules)

@@ -7,7 +7,11 @@ use Rattle.ls_find_reports.proofs.Guesses.{not_both}
 use Rattle.ls_find_reports.proofs.adding.sum_from.Goals as goal
 
 pub loop-at-init : goal.loop-at-init
-loop-at-init c = record { sum = c.requires.first; way = sets_out (plain_report c.args.first) (map plain_report c.args.more.now) }
+loop-at-init c = record {
+  sum = c.requires.first;
+  way = sets_out (plain_report c.args.first)
+      (map plain_report c.args.more.now);
+}
 
 pub loop-at-preserved : goal.loop-at-preserved
 loop-at-preserved c =
@@ -25,7 +29,8 @@ pub returns-then-not-follows-clause-none : goal.returns-then-not-follows-clause-
 returns-then-not-follows-clause-none c =
     let report = c.report_at-report.result in
     let left = ap (map plain_report) (drop_one c.args.more.now c.loop-at.at report c.report_at-report.ensures) in
-    apart (plain_report c.args.first) (map plain_report c.args.more.now) (plain_report c.loop-at.sum) (plain_report report)
+    apart (plain_report c.args.first) (map plain_report c.args.more.now) (plain_report c.loop-at.sum)
+    (plain_report report)
     _ _ c.loop-at.invariant.way left (λ f. not_both (c.follows.ensures.1 f) c.if-not-follows.true)
 
 pub returns-clause-some : goal.returns-clause-some

@@ -15,7 +15,8 @@ pub returns-then-not-is_line-clause-reads : goal.returns-then-not-is_line-clause
 returns-then-not-is_line-clause-reads c = λ f is e.
     let same = c.guessed-figures.ensures f is e in
     absurd (not_both
-    (c.is_line.ensures.1 (e ∙ ap figures_line (sym same) ∙ sym c.in_ok-put_figures.ensures ∙ sym c.as_str.ensures.value))
+    (c.is_line.ensures.1 (e ∙ ap figures_line (sym same) ∙ sym c.in_ok-put_figures.ensures ∙
+    sym c.as_str.ensures.value))
     c.if-not-is_line.true)
 
 pub returns-clause-reads : goal.returns-clause-reads

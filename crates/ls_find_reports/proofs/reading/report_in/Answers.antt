@@ -41,4 +41,5 @@ returns-clause-reads c = λ r after is e.
     c.in-Some-cut.after.now r after c.in-Some.ensures c.in-Some-cut.ensures is e in
     let same = sym (some_is (sym c.in-Some-2.is ∙ c.in_ok-figures.ensures.reads r.figures is.figures has.second)) in
     c.with_figures.ensures.reads r after
-    (with_lines c.in-Some-2.figures c.in-Some.first.now c.in-Some-cut.second.now c.in-Some-cut.after.now r after same is has)
+    (with_lines c.in-Some-2.figures c.in-Some.first.now c.in-Some-cut.second.now c.in-Some-cut.after.now r
+    after same is has)

@@ -14,6 +14,7 @@ loop-done-preserved g c =
     let fits : c.put-count.result ≤ length (drop n xs) = rw part at c.put-count.ensures.within in
     record {
       within = omega arith;
-      written = appends_more _ _ _ n c.put-count.result xs _ part c.loop-done.invariant.written c.put-count.ensures.bytes;
+      written = appends_more _ _ _ n c.put-count.result xs _ part c.loop-done.invariant.written
+          c.put-count.ensures.bytes;
       kept = λ e. c.put-count.ensures.same (omega arith) ∙ c.loop-done.invariant.kept e;
     }

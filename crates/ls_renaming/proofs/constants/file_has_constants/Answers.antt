@@ -9,4 +9,5 @@ use Rattle.ls_renaming.proofs.constants.file_has_constants.Goals as goal
 pub returns : goal.returns
 returns c = λ yes.
     file_constants (plain_file c.args.file.now)
-    (subst (λ ms. MethodsHaveConstants (map plain_method ms)) c.deref.ensures.value (c.methods_have_constants.ensures yes))
+    (subst (λ ms. MethodsHaveConstants (map plain_method ms)) c.deref.ensures.value
+    (c.methods_have_constants.ensures yes))

@@ -6,4 +6,5 @@ use Rattle.ls_meaning.specs.Constants.{UseConstants}
 use Rattle.ls_renaming.proofs.trees.+statements.Given as goal
 
 abbrev pub invariant-use_constants-loop-s : goal.invariant-use_constants-loop-s
-invariant-use_constants-loop-s l = UseConstants (statements_of (drop l.s-index l.ss)) → UseConstants (statements_of l.ss)
+invariant-use_constants-loop-s l = UseConstants (statements_of (drop l.s-index l.ss)) →
+    UseConstants (statements_of l.ss)

@@ -12,7 +12,8 @@ returns c =
     let f : ℕ → ℕ = names_of c.args.names.now in
     let control : control_of c.in_ok-control.control ≡ renamed_control f (control_of c.args.work.now.control) =
     c.in_ok-control.ensures in
-    let frames : frames_of c.in_ok-frames.frames.items ≡ map (renamed_frame f) (frames_of c.args.work.now.frames.items) =
+    let frames : frames_of c.in_ok-frames.frames.items ≡
+    map (renamed_frame f) (frames_of c.args.work.now.frames.items) =
     frames_renamed f c.args.work.now.frames.items c.in_ok-frames.frames.items
     (c.in_ok-frames.ensures ∙ ap (λ l. map (renamed_frame f) (map frame_of l)) c.deref.ensures.value) in
     let locals : c.in_ok-locals.locals.items ≡ renamed_values f c.args.work.now.locals.items =

@@ -1,6 +1,7 @@
 -- Why `find_hopeless` in src/finding.rt keeps its contract.
 
-use Rattle.std.proofs.Common.{sym, subst, arith, le_of_eq, refl, length, map, take, take_all, string_bytes, List, String}
+use Rattle.std.proofs.Common.{sym, subst, arith, le_of_eq, refl, length, map, take, take_all, string_bytes, List}
+use Rattle.std.proofs.Common.{String}
 use Rattle.std.proofs.Common.{Global}
 use Rattle.ls_linearizable.specs.Linearizable.{IsLinearizable}
 use Rattle.ls_serial_orders.specs.Known.{file_of, program_of}

@@ -11,7 +11,8 @@ pub loop-number-preserved : goal.loop-number-preserved
 loop-number-preserved c =
     foreign_more (plain_program c.args.program.now) c.loop-number.number (plain_thread c.index-threads-number.result)
     (plain_event c.args.event.now)
-    (subst (λ ts. slice_get (map plain_thread ts) c.loop-number.number ≡ Some (plain_thread c.index-threads-number.result))
+    (subst (λ ts. slice_get (map plain_thread ts) c.loop-number.number ≡
+    Some (plain_thread c.index-threads-number.result))
     c.as_slice-threads.ensures.value
     (get_map plain_thread c.as_slice-threads.result.now c.loop-number.number c.index-threads-number.result
     c.loop-number-test.true c.index-threads-number.is))

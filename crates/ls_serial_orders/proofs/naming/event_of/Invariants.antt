@@ -12,5 +12,6 @@ use Rattle.ls_serial_orders.proofs.naming.event_of.Given as goal
 -- it is no event of the threads so far
 abbrev pub invariant-loop-number : goal.invariant-loop-number
 invariant-loop-number l =
-    (k : ℕ) → k < l.number → (t : ThreadProgram) (h : Happening) → slice_get (plain_program l.program).threads k ≡ Some t →
+    (k : ℕ) → k < l.number → (t : ThreadProgram) (h : Happening) → slice_get (plain_program l.program).threads k ≡
+    Some t →
     HasName (plain_program l.program) t h (plain_event l.event) → ⊥

@@ -7,7 +7,8 @@ use Rattle.ls_types_reading.proofs.program.read_program.Goals as goal
 
 pub returns-clause-typed : goal.returns-clause-typed
 returns-clause-typed c = λ f is.
-    c.reads_well_typed.ensures f (elaborated_file c.args.checked.now) c.args.text.now (plain_program c.in_ok-program.program)
+    c.reads_well_typed.ensures f (elaborated_file c.args.checked.now) c.args.text.now
+    (plain_program c.in_ok-program.program)
     is c.in_ok-program.ensures.read
 
 pub returns-clause-kept : goal.returns-clause-kept

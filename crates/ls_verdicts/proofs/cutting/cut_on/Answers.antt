@@ -17,7 +17,8 @@ pub steps_past-requires : goal.steps_past-requires
 steps_past-requires c =
     let program = plain_program c.args.program.now in
     let same = c.as_slice.ensures.value ∙ c.in_ok-history.ensures in
-    let some = subst (λ o. IfSome o (IsHopelessRun program c.as_slice.result.now)) c.in-Some.is c.in_ok-at.ensures.some in
+    let some = subst (λ o. IfSome o (IsHopelessRun program c.as_slice.result.now)) c.in-Some.is
+    c.in_ok-at.ensures.some in
     is_past (plain_file c.args.file.now) program c.args.steps.now c.in-Some.at
     (subst (λ (h : List Event). IsHopelessRun program h c.in-Some.at) same some)
 
@@ -25,7 +26,8 @@ pub returns-in-Some-clause-some : goal.returns-in-Some-clause-some
 returns-in-Some-clause-some c =
     let program = plain_program c.args.program.now in
     let same = c.as_slice.ensures.value ∙ c.in_ok-history.ensures in
-    let some = subst (λ o. IfSome o (IsHopelessRun program c.as_slice.result.now)) c.in-Some.is c.in_ok-at.ensures.some in
+    let some = subst (λ o. IfSome o (IsHopelessRun program c.as_slice.result.now)) c.in-Some.is
+    c.in_ok-at.ensures.some in
     cut (plain_file c.args.file.now) program c.args.steps.now c.in-Some.at
     (subst (λ (h : List Event). IsHopelessRun program h c.in-Some.at) same some) c.in_ok-cut-in-Some.cut
     c.in_ok-cut-in-Some.ensures

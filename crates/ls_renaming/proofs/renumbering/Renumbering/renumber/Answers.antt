@@ -29,6 +29,7 @@ returns-clause-there c =
           c.in_ok-store.ensures.there);
       width = subst (λ (o : Option (Vec ℕ Global)). IfSome o (λ v. length v.items ≡ length c.args.works.now))
           c.in-Some-2.is c.in_ok-works.ensures.width;
-      works_there = subst (λ (o : Option (Vec ℕ Global)). IfSome o (λ v. AreWorksThere t' names c.args.works.now v.items))
+      works_there = subst (λ (o : Option (Vec ℕ Global)).
+          IfSome o (λ v. AreWorksThere t' names c.args.works.now v.items))
           c.in-Some-2.is c.in_ok-works.ensures.there;
     }

@@ -26,7 +26,8 @@ returns-in-Waits-clause-did c p s =
     let action = c.args.action.now in
     ap (did_by action) (sym c.in-Waits.is)
     ∙ did_there r c.args.thread action c.in_ok-perform.field-0 (store_of c.perform.new.self.store)
-    (c.in_ok-perform.ensures.effect ∙ ap (λ l. effect (map plain_class l) (store_of r.store_and_events.store) c.args.thread action)
+    (c.in_ok-perform.ensures.effect ∙ ap (λ l. effect (map plain_class l) (store_of r.store_and_events.store)
+    c.args.thread action)
     c.deref.ensures.value) p s
 
 pub returns-in-Waits-clause-run : goal.returns-in-Waits-clause-run
@@ -34,7 +35,8 @@ returns-in-Waits-clause-run c =
     let r = c.args.self.now in
     let action = c.args.action.now in
     has_waited r c.args.thread action c.perform.new.self _ c.in_ok-perform.field-0 c.in-Waits.is
-    (c.in_ok-perform.ensures.effect ∙ ap (λ l. effect (map plain_class l) (store_of r.store_and_events.store) c.args.thread action)
+    (c.in_ok-perform.ensures.effect ∙ ap (λ l. effect (map plain_class l) (store_of r.store_and_events.store)
+    c.args.thread action)
     c.deref.ensures.value) c.in_ok-perform.ensures.waits c.in_ok-perform.ensures.events
 
 pub returns-in-Does-clause-did : goal.returns-in-Does-clause-did
@@ -43,7 +45,8 @@ returns-in-Does-clause-did c p s =
     let action = c.args.action.now in
     ap (did_by action) (sym c.in-Does.is)
     ∙ did_there r c.args.thread action c.in_ok-perform.field-0 (store_of c.perform.new.self.store)
-    (c.in_ok-perform.ensures.effect ∙ ap (λ l. effect (map plain_class l) (store_of r.store_and_events.store) c.args.thread action)
+    (c.in_ok-perform.ensures.effect ∙ ap (λ l. effect (map plain_class l) (store_of r.store_and_events.store)
+    c.args.thread action)
     c.deref.ensures.value) p s
 
 pub returns-in-Does-clause-run : goal.returns-in-Does-clause-run
@@ -52,7 +55,8 @@ returns-in-Does-clause-run c =
     let action = c.args.action.now in
     has_taken r c.args.thread action c.perform.new.self _ _ c.in_ok-perform.field-0 c.in-Does.answer
     c.index_mut.result.now c.take.new.self c.in-Does.is
-    (c.in_ok-perform.ensures.effect ∙ ap (λ l. effect (map plain_class l) (store_of r.store_and_events.store) c.args.thread action)
+    (c.in_ok-perform.ensures.effect ∙ ap (λ l. effect (map plain_class l) (store_of r.store_and_events.store)
+    c.args.thread action)
     c.deref.ensures.value) c.in_ok-perform.ensures.waits c.in_ok-perform.ensures.events c.requires.within
     c.requires.asks
     c.index_mut.ensures.value c.take.ensures refl

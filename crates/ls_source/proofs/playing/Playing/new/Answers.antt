@@ -39,7 +39,8 @@ returns c =
     let made : map thread_of c.in_ok-threads.threads.items ≡ fresh_threads ps = c.in_ok-threads.ensures ∙
     ap fresh_threads c.deref.ensures.value in
     record {
-      shows = ap (λ s. so_far file program s c.in_ok-store_and_events.store_and_events.events.items) c.in_ok-store_and_events.ensures.store
+      shows = ap (λ s. so_far file program s c.in_ok-store_and_events.store_and_events.events.items)
+          c.in_ok-store_and_events.ensures.store
           ∙ ap (so_far file program _) c.in_ok-store_and_events.ensures.events;
       lists = length-map program.threads (λ t. []) ∙ length-map ps plain_thread;
       kept = subst (λ l. IsKept file program l (map (λ t. []) program.threads)) (sym made)

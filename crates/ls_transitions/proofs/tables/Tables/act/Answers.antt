@@ -23,7 +23,12 @@ returns-in_ok-work-in-Does-clause-acted c =
     done_there t (tables_of c.keep_store.new.self) (tables_of c.keep_work.new.self) c.args.thread c.args.store
     (thread_of c.args.rest) (thread_of c.take.new.self) (thread_of c.settle.new.self) (store_of c.index.result.now)
     (store_of c.act.new.self) action
-    (record { action = action; answer = c.in-Does.answer; store = c.in_ok-kept-in-Does.kept; work = c.in_ok-work-in-Does.work })
+    (record {
+      action = action;
+      answer = c.in-Does.answer;
+      store = c.in_ok-kept-in-Does.kept;
+      work = c.in_ok-work-in-Does.work;
+    })
     (item_there store_of c.args.self.now.stores.items c.args.store c.index.result.now c.requires.there c.index.ensures)
     (ap (plain_effect (store_of c.act.new.self)) (sym c.in-Does.is)
     ∙ c.in_ok-act.ensures.effect
