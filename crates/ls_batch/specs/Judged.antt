@@ -8,7 +8,7 @@ use Rattle.ls_checked.specs.CheckedProgram.{Program}
 use Rattle.ls_report.specs.Events.{Text}
 use Rattle.ls_report.specs.Printing.{run_text}
 use Rattle.ls_batch.specs.Tallies.{Row}
-use Rattle.ls_serial_search.specs.Told.{IsMeant, usual}
+use Rattle.ls_linearity.specs.Meant.{IsMeant}
 use Rattle.ls_verdicts.specs.Verdicts.{IsHistoryOf, IsVerdict}
 use Rattle.ls_verdicts.specs.declared.verdicts.Verdict.TheVariants as verdicts
 use Rattle.ls_batch.specs.Words.{beside_text, first_text}
@@ -18,17 +18,17 @@ use Rattle.ls_batch.specs.declared.judging.Judgement.{Judgement}
 abbrev pub AreHistoriesOf : Program → List Row → Type 0
 AreHistoriesOf p rows = All (λ r. IsHistoryOf p r.history) rows
 
--- The verdict on set calls, and whether the history is linearizable to the serial runs of its program. If that is not
--- known, there is the reason.
+-- The verdict on set calls, and whether the history is linearizable to its program. If that is not known, there is the
+-- reason.
 pub record IsJudgement (file : File) (p : Program) (run : List Event) (said : Judgement) : Type 0 where
   pub verdict : IsVerdict p run said.verdict
-  pub linear : IsMeant file p usual run said.linearity
+  pub linear : IsMeant file p run said.linearity
 
--- The same by a reference, a program of a file of its own: set calls aren't judged apart, and the serial runs are those
--- of the reference.
+-- The same by a reference, a program of a file of its own: set calls aren't judged apart, and the history is
+-- linearizable to the reference.
 pub record IsJudgementLike (sfile : File) (sprogram : Program) (run : List Event) (said : Judgement) : Type 0 where
   pub verdict : said.verdict ≡ verdicts.NotOneSet
-  pub linear : IsMeant sfile sprogram usual run said.linearity
+  pub linear : IsMeant sfile sprogram run said.linearity
 
 -- each row has one that may be said of its history
 abbrev pub AreSaid : (List Event → Judgement → Type 0) → List Row → List Judgement → Type 0

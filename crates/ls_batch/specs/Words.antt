@@ -6,7 +6,7 @@ use Rattle.ls_serial_search.specs.declared.judging.Linearity.TheVariants as line
 use Rattle.ls_verdicts.specs.declared.verdicts.Verdict.{Verdict}
 use Rattle.ls_verdicts.specs.declared.verdicts.Verdict.TheVariants as verdicts
 
--- whether it is linearizable to the serial runs of its program
+-- whether it is linearizable
 abbrev pub linearity_text : Linearity → Text
 linearity_text linearities.Linearizable = codes "linearizable"
 linearity_text linearities.NotLinearizable = codes "not linearizable"

@@ -1,6 +1,7 @@
 // How many seeds gave each history, and the least of them.
 
-ghost use Rattle.std.specs.Prelude.{◌≡◌, ◌<◌, ◌^◌, ℕ, List, length, Some, None, if◌then◌else◌, IfSome, IfNone, IfOk, OnOk};
+ghost use Rattle.std.specs.Prelude.{◌≡◌, ◌<◌, ◌^◌, ℕ, List, length, Some, None, if◌then◌else◌, IfSome, IfNone, IfOk};
+ghost use Rattle.std.specs.Prelude.{OnOk};
 ghost use Rattle.ls_batch.specs.Counted.{AreCounts, are_same, both, count_at, histories_in, one_of, runs_from};
 ghost use Rattle.ls_batch.specs.Numbers.{Key, key_of, plain_key};
 ghost use Rattle.ls_batch.specs.Tallies.{History, IsTally};
@@ -24,7 +25,8 @@ impl Clone for Count {
     }
 }
 
-/// The count of each history of some seeds. So the time of a search grows with the logarithm of the number of histories.
+/// The count of each history of some seeds. So the time of a search grows with the logarithm of the number of
+/// histories.
 #[derive(Drop)]
 pub struct Counts {
     pub(crate) counts: BTreeMap<HistoryKey, Count>,
@@ -56,7 +58,8 @@ impl Counts {
     /// Counts more seeds of a history, by its key.
     fn put(&mut self, key: HistoryKey, more: Count) -> Result<(), AllocError>
         ensures { OnOk result ((other : Key) → count_at self.new other
-            ≡ (if are_same other (plain_key key) then both (count_at self.old (plain_key key)) (Some more) else count_at self.old other)) }
+            ≡ (if are_same other (plain_key key) then both (count_at self.old (plain_key key)) (Some more) else count_at
+            self.old other)) }
     {
         let count = with(self.counts.get(&key).copied(), more);
         self.counts.insert(key, count)?;
@@ -86,7 +89,8 @@ impl Counts {
 
     /// The tally of consecutive seeds: each distinct history once, in the order of their least seeds.
     pub fn tally(self, alloc: Global) -> Result<Tally, AllocError>
-        ensures { (first : ℕ) (histories : List History) → length histories < 2 ^ 64 → AreCounts (runs_from first histories) self → IfOk result (λ tally. IsTally histories first tally) }
+        ensures { (first : ℕ) (histories : List History) → length histories < 2 ^ 64 →
+            AreCounts (runs_from first histories) self → IfOk result (λ tally. IsTally histories first tally) }
     {
         let mut rest = self;
         let mut entries = Vec::new(alloc);
@@ -101,7 +105,8 @@ impl Counts {
 
 /// The two, of which the first has at least as many histories.
 fn by_size(left: Counts, right: Counts) -> (Counts, Counts)
-    ensures { (key : Key) → both (count_at result.0 key) (count_at result.1 key) ≡ both (count_at left key) (count_at right key) }
+    ensures { (key : Key) → both (count_at result.0 key) (count_at result.1 key) ≡ both (count_at left key)
+        (count_at right key) }
 {
     if left.counts.len() < right.counts.len() {
         (right, left)

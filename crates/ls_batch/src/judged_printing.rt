@@ -13,8 +13,9 @@ use crate::{Entry, Tally};
 use ls_checked::program::Program;
 use ls_checked::tree::File;
 use ls_events::event::Event;
+use ls_linearity::{judge_for, own_judge};
 use ls_report::print_history;
-use ls_serial_search::telling::{Bounds, serial_runs};
+use ls_serial_orders::once_laws::readable_is_once;
 use ls_specification::Specification;
 use std::alloc::{AllocError, Global};
 use std::fmt::Write;
@@ -60,36 +61,33 @@ pub fn print_judged(
     ensures { IfOk result
         (λ text. IsJudged (plain_file file.now) (plain_program program.now) tally.now (string_bytes text)) }
 {
-    let search = serial_runs(alloc, file, program, &Bounds::usual())?;
+    let judge = own_judge(alloc, file, program)?;
     let mut out = String::new(alloc);
     for entry in tally.entries() {
         let history = entry.history(alloc)?;
-        let said = judgement_on(alloc, &search, history.as_slice(), program)?;
+        let said = judgement_on(alloc, &judge, history.as_slice(), program)?;
         push_judged(alloc, &mut out, entry, history.as_slice(), said, program)?;
     }
     Ok(out)
 }
 
-/// The same with what there is to say of each history by a specification: whether it is linearizable to its serial
-/// runs.
+/// The same with what there is to say of each history by a specification: whether it is linearizable to it.
 pub fn print_judged_like(
     alloc: Global,
     tally: &Tally,
     specification: Specification<'_>,
     program: &Program,
 ) -> Result<String, AllocError>
+    requires { AreHistoriesOf (plain_program program.now) tally.now }
     ensures { IfOk result (λ text. IsJudgedLike (spec_file specification.entry) (spec_program specification.entry)
         (plain_program program.now) tally.now (string_bytes text)) }
 {
-    let Specification {
-        file,
-        program: serial,
-    } = specification;
-    let search = serial_runs(alloc, file, serial, &Bounds::usual())?;
+    readable_is_once();
+    let judge = judge_for(alloc, specification)?;
     let mut out = String::new(alloc);
     for row in tally.entries() {
         let history = row.history(alloc)?;
-        let said = judgement_like(&search, history.as_slice());
+        let said = judgement_like(alloc, &judge, history.as_slice())?;
         push_judged(alloc, &mut out, row, history.as_slice(), said, program)?;
     }
     Ok(out)

@@ -4,15 +4,17 @@ ghost use Rattle.std.specs.Prelude.{◌≡◌, IfOk};
 ghost use Rattle.ls_checked.specs.CheckedProgram.{Program as ProgramValue};
 ghost use Rattle.ls_checked.specs.CheckedTree.{File as FileValue};
 ghost use Rattle.ls_checked.specs.PlainProgram.{plain_program};
-ghost use Rattle.ls_serial_search.specs.Told.{Tells, usual};
+ghost use Rattle.ls_linearity.specs.Judges.{Judges};
+ghost use Rattle.ls_linearizable.specs.Resting.{AreOnce};
 ghost use Rattle.ls_verdicts.specs.Verdicts.{IsHistoryOf};
 ghost use Rattle.ls_batch.specs.Judged.{IsJudgement, IsJudgementLike};
 ghost use Rattle.ls_batch.specs.Words.{beside_set, beside_text, first_text, linearity_text};
 
 use ls_checked::program::Program;
 use ls_events::event::Event;
-use ls_serial_search::judging::{Linearity, linearity_on};
-use ls_serial_search::telling::SerialSearch;
+use ls_linearity::{SerialJudge, linearity_by};
+use ls_serial_orders::once_laws::readable_is_once;
+use ls_serial_search::judging::Linearity;
 use ls_verdicts::{Verdict, verdict_on};
 use std::alloc::{AllocError, Global};
 
@@ -21,7 +23,7 @@ use std::alloc::{AllocError, Global};
 pub struct Judgement {
     /// Whether its set calls have a legal order.
     pub verdict: Verdict,
-    /// Whether it is linearizable to the serial runs of its program.
+    /// Whether it is linearizable to its program.
     pub linearity: Linearity,
 }
 
@@ -31,32 +33,37 @@ impl Clone for Judgement {
     }
 }
 
-/// What there is to say of a history of a run of the program, by its serial runs. The only refusal is that memory ran
-/// out.
+/// What there is to say of a history of a run of the program. The only refusal is that memory ran out.
 pub(crate) fn judgement_on(
     alloc: Global,
-    search: &SerialSearch,
+    judge: &SerialJudge,
     history: &[Event],
     program: &Program,
 ) -> Result<Judgement, AllocError>
     requires { IsHistoryOf (plain_program program.now) history.now }
-    ensures { IfOk result (λ said. (file : FileValue) → Tells file (plain_program program.now) usual search.now →
+    ensures { IfOk result (λ said. (file : FileValue) → Judges file (plain_program program.now) judge.now →
         IsJudgement file (plain_program program.now) history.now said) }
 {
+    readable_is_once();
     let verdict = verdict_on(alloc, history, program)?;
-    let linearity = linearity_on(search, history);
+    let linearity = linearity_by(alloc, judge, history)?;
     Ok(Judgement { verdict, linearity })
 }
 
-/// What there is to say of a history by a reference, by its serial runs.
-pub(crate) fn judgement_like(search: &SerialSearch, history: &[Event]) -> Judgement
-    ensures { (file : FileValue) (program : ProgramValue) → Tells file program usual search.now →
-        IsJudgementLike file program history.now result }
+/// What there is to say of a history by a reference. The only refusal is that memory ran out.
+pub(crate) fn judgement_like(
+    alloc: Global,
+    judge: &SerialJudge,
+    history: &[Event],
+) -> Result<Judgement, AllocError>
+    ensures { IfOk result (λ said. (file : FileValue) (program : ProgramValue) → Judges file program judge.now →
+        AreOnce history.now → IsJudgementLike file program history.now said) }
 {
-    Judgement {
+    let linearity = linearity_by(alloc, judge, history)?;
+    Ok(Judgement {
         verdict: Verdict::NotOneSet,
-        linearity: linearity_on(search, history),
-    }
+        linearity,
+    })
 }
 
 /// Whether a history is linearizable.

@@ -108,8 +108,8 @@ fn event_of(key: &EventKey) -> Event
     }
 }
 
-/// A history as it stands in the order: by a number that its events give, and then by these. So two that differ are mostly told apart
-/// by one comparison.
+/// A history as it stands in the order: by a number that its events give, and then by these. So two that differ are
+/// mostly told apart by one comparison.
 #[derive(PartialEq, Eq, PartialOrd, Ord, Drop)]
 pub(crate) struct HistoryKey {
     pub(crate) number: u64,

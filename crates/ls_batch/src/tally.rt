@@ -9,8 +9,8 @@ use ls_events::event::Event;
 use std::alloc::{AllocError, Global};
 use std::marker::Model;
 
-/// A history, how many seeds gave it, and the least of them. Entries are in the order of their seeds. The history is kept as it
-/// stands in the order of histories, and no second time.
+/// A history, how many seeds gave it, and the least of them. Entries are in the order of their seeds. The history is
+/// kept as it stands in the order of histories, and no second time.
 #[derive(PartialEq, Eq, PartialOrd, Ord, Drop)]
 pub struct Entry {
     pub(crate) seed: u64,

@@ -1,5 +1,6 @@
 -- Rows without a legal order, and the one that is cut first.
-use Rattle.std.proofs.Common.{◌≡◌, ◌∙◌, ◌<◌, ◌≤◌, ◌+◌, ◌&&◌, Option, ℕ, suc, Bool, true, false, cond, List, [], ◌∷◌, ◌++◌, None, Some}
+use Rattle.std.proofs.Common.{◌≡◌, ◌∙◌, ◌<◌, ◌≤◌, ◌+◌, ◌&&◌, Option, ℕ, suc, Bool, true, false, cond, List, [], ◌∷◌}
+use Rattle.std.proofs.Common.{◌++◌, None, Some}
 use Rattle.std.proofs.Common.{length, filter, take, refl, sym, ap, subst, arith, get_or, slice_get, true≢false}
 use Rattle.std.proofs.lemmas.List.{get_or-map, length-map, length-take-le, map-append, take_more}
 use Rattle.std.proofs.lemmas.Option.{same_Some, slice_get-get_or, slice_get-map, slice_get_within}
@@ -42,7 +43,8 @@ module _ (file : File) (program : Program) (k : ℕ) where
       (subst (λ (h : List RunEvent). IsVerdict program h j.verdict) so.history so.verdict) is
 
   -- a row with another verdict isn't illegal
-  pub not_illegal : (j : Judged) → IsSo file program k j → is_illegal j.verdict ≡ false → ¬ IsIllegal program (history j)
+  pub not_illegal : (j : Judged) → IsSo file program k j → is_illegal j.verdict ≡ false →
+      ¬ IsIllegal program (history j)
   not_illegal j so other = λ is. true≢false (sym (ap is_illegal (verdict_so j so is)) ∙ other)
 
   pub is_one : (j : Judged) → IsSo file program k j → is_illegal j.verdict ≡ true → IsIllegal program (history j)

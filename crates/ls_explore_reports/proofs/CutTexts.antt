@@ -13,7 +13,8 @@ use Rattle.ls_report.specs.Events.{Text}
 use Rattle.ls_report.specs.Printing.{run_text}
 use Rattle.ls_schedule.specs.Printing.{schedule_text}
 use Rattle.ls_explore_reports.specs.Below.{HasNames, IsBelow}
-use Rattle.ls_explore_reports.specs.Cuts.{ABeginning, AShorter, IsCutText, TheWhole, beginning_text, known_text, parts_text}
+use Rattle.ls_explore_reports.specs.Cuts.{ABeginning, AShorter, IsCutText, TheWhole, beginning_text, known_text}
+use Rattle.ls_explore_reports.specs.Cuts.{parts_text}
 use Rattle.ls_explore_reports.specs.Cuts.{with_known}
 use Rattle.ls_explore_reports.specs.Judged.{Judged}
 use Rattle.ls_explore_reports.specs.Printing.{row_text}
@@ -57,7 +58,8 @@ module _ (names : Names) (threads : List Text) (k : ℕ) (e : Exploring) (row : 
       subst (λ (t : Text). IsCutText names threads k e row steps t)
       (sym (is.2 ∙ ap (λ (ts : List ℕ). beginning_text names threads ts (is.0 ++ known_text known)) same))
       (ABeginning known is.0 less (goes_on names.file names.program whole steps less acts)
-      (subst (λ (ts : List ℕ). IsBelow e.order names.file names.program (source_history names.file names.program ts) is.0)
+      (subst (λ (ts : List ℕ). IsBelow e.order names.file names.program (source_history names.file names.program ts)
+      is.0)
       same is.1)
       (subst (λ (ts : List ℕ). IsKnown known names e ts) same so))
   begun_text s text (inr fewer) so lt is =

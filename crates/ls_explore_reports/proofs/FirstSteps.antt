@@ -1,5 +1,6 @@
 -- Beginnings of a schedule whose histories have so many events.
-use Rattle.std.proofs.Common.{◌≡◌, ◌∙◌, ◌⊎◌, inl, inr, ◌+◌, ◌<◌, ◌≤◌, ℕ, zero, suc, List, [], ◌∷◌, ◌++◌, Option, Some, None}
+use Rattle.std.proofs.Common.{◌≡◌, ◌∙◌, ◌⊎◌, inl, inr, ◌+◌, ◌<◌, ◌≤◌, ℕ, zero, suc, List, [], ◌∷◌, ◌++◌, Option, Some}
+use Rattle.std.proofs.Common.{None}
 use Rattle.std.proofs.Common.{length, take, refl, sym, ap, subst, arith, get_or, length-append, le_of_eq, take_all}
 use Rattle.std.proofs.Math.Seq.{take-append_seam}
 use Rattle.std.proofs.lemmas.Bool.{cases_lt}
@@ -67,12 +68,14 @@ module _ (file : File) (program : Program) where
             one_step n (omega (arith, le)) in
             let same : n + 1 ≡ suc n = omega arith in
             let here : length (history_to file program steps (suc n)) ≤ length (history_to file program steps n) + 1 =
-            subst (λ i. length (history_to file program steps i) ≤ length (history_to file program steps n) + 1) same next
+            subst (λ i. length (history_to file program steps i) ≤ length (history_to file program steps n) + 1)
+            same next
             in (suc n, le, omega (arith, more, here, few))
         by_place (inr less) before = before less
 
     all_there : length (history_to file program steps (length steps)) ≡ length (source_history file program steps)
-    all_there = ap (λ (ts : List ℕ). length (source_history file program ts)) (take_all (length steps) steps (le_of_eq refl))
+    all_there = ap (λ (ts : List ℕ). length (source_history file program ts))
+        (take_all (length steps) steps (le_of_eq refl))
 
     -- a beginning of the history with so many events is that of a beginning of the schedule
     pub is_begun : (n : ℕ) → n ≤ length steps →

@@ -15,3 +15,4 @@ mod RowsTold
 pub mod Collecting
 mod Flags
 mod RowsLike
+pub mod RowsOnce

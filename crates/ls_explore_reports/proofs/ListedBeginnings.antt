@@ -41,7 +41,8 @@ module _ (program : Program) where
         (take m h.events, begun_named run at m h, h.hopeless.before m few);
   }
 
-  module _ (rows : List Judged) (beginnings : List (List RunEvent)) (are : AreBeginnings program rows beginnings) (j : Judged)
+  module _ (rows : List Judged) (beginnings : List (List RunEvent)) (are : AreBeginnings program rows beginnings)
+      (j : Judged)
     where
       -- none comes with a row that isn't illegal
       pub none_more : (j.verdict ≡ verdicts.Illegal → ⊥) → AreBeginnings program (rows ++ j ∷ []) beginnings
@@ -62,7 +63,8 @@ module _ (program : Program) where
           AreBeginnings program (rows ++ j ∷ []) (beginnings ++ x ∷ [])
       one_more at x hopeless is = record {
         each = All-push (HasBeginning program (beginnings ++ x ∷ [])) rows j
-            (All-weaker (HasBeginning program beginnings) (HasBeginning program (beginnings ++ x ∷ [])) (more_there x) rows
+            (All-weaker (HasBeginning program beginnings) (HasBeginning program (beginnings ++ x ∷ []))
+            (more_there x) rows
             are.each)
             (λ e. (at, hopeless, subst (Contains (beginnings ++ x ∷ [])) is (Contains-push beginnings x)));
         only = All-push (IsJustIllegal program) beginnings x are.only

@@ -8,7 +8,7 @@ use Rattle.ls_meaning.specs.Runs.{source_history}
 use Rattle.ls_explore.specs.Rows.{Told}
 use Rattle.ls_explore_reports.specs.Laws.{EachIsLike, NoneIsUnlike, NoneIsUnlikeThatFits}
 use Rattle.ls_explore_reports.specs.Rows.{histories}
-use Rattle.ls_serial_search.specs.Told.{IsMeant, usual}
+use Rattle.ls_linearity.specs.Meant.{IsMeant}
 use Rattle.ls_serial_search.specs.declared.judging.Linearity.{Linearity}
 use Rattle.ls_serial_search.specs.declared.judging.Linearity.TheVariants as linearities
 use Rattle.ls_explore_reports.specs.Judged.{AreMeant, Judged, are_known, count_not_linearizable}
@@ -22,7 +22,7 @@ module _ (file : File) (program : Program) where
   so_of : (h : List Event) (l : Linearity) →
       is_known l ≡ true →
       is_not_linearizable l ≡ false →
-      IsMeant file program usual h l →
+      IsMeant file program h l →
       IsLinearizable file program h
   so_of h linearities.Linearizable known none is = is
   so_of h linearities.NotLinearizable known none is = absurd cc
@@ -32,7 +32,7 @@ module _ (file : File) (program : Program) where
   at_place : (js : List Judged) (k : ℕ) (d : Judged) →
       k < length js →
       ((n : ℕ) (x : Judged) → n < length js →
-      IsMeant file program usual (get_or js n x).row.history (get_or js n x).linearity) →
+      IsMeant file program (get_or js n x).row.history (get_or js n x).linearity) →
       are_known js ≡ true →
       count_not_linearizable js ≡ 0 →
       IsLinearizable file program (get_or js k d).row.history

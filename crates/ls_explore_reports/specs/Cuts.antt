@@ -1,5 +1,6 @@
 -- Of the rows without a legal order, the shortest beginning of a schedule that has none.
-use Rattle.std.specs.Prelude.{◌≡◌, ◌<◌, ◌++◌, ◌∷◌, [], ℕ, Bool, true, false, List, None, All, Contains, codes, length, map}
+use Rattle.std.specs.Prelude.{◌≡◌, ◌<◌, ◌++◌, ◌∷◌, [], ℕ, Bool, true, false, List, None, All, Contains, codes, length}
+use Rattle.std.specs.Prelude.{map}
 use Rattle.std.specs.Prelude.{take}
 use Rattle.ls_checked.specs.CheckedTree.{File}
 use Rattle.ls_checked.specs.CheckedProgram.{Program}
@@ -33,8 +34,8 @@ IsNoShorter file program k n j =
     j.verdict ≡ verdicts.Illegal → (m : ℕ) → m < n →
     IsLegalRun program (history_to file program (schedule_of k j.row) m)
 
--- The row is illegal, and with so many steps of its schedule the history ceases to have a legal order. Of no illegal row
--- does it so with fewer.
+-- The row is illegal, and with so many steps of its schedule the history ceases to have a legal order. Of no illegal
+-- row does it so with fewer.
 pub record IsLeastCut (file : File) (program : Program) (k : ℕ) (judged : List Judged) (row : Judged) (steps : ℕ)
     : Type 0 where
   pub there : Contains judged row
@@ -74,7 +75,8 @@ pub data IsCutText (names : Names) (threads : List Text) (k : ℕ) (e : Explorin
   ABeginning : (known : Bool) (below : Text) →
       steps < length (schedule_of k row.row) →
       (t : ℕ) × ActAll names.file names.program (take steps (schedule_of k row.row) ++ t ∷ []) →
-      IsBelow e.order names.file names.program (history_to names.file names.program (schedule_of k row.row) steps) below →
+      IsBelow e.order names.file names.program (history_to names.file names.program (schedule_of k row.row) steps)
+      below →
       IsKnown known names e (take steps (schedule_of k row.row)) →
       IsCutText names threads k e row steps
       (beginning_text names threads (take steps (schedule_of k row.row)) (below ++ known_text known))
@@ -93,7 +95,8 @@ pub record IsOfLeast (names : Names) (threads : List Text) (k : ℕ) (judged : L
   pub is : IsCutText names threads k e row steps text
 
 -- With `--illegal` and `--first`, if a row is illegal, the least cut. Else the rows that are shown.
-pub data IsPrinted (names : Names) (threads : List Text) (k : ℕ) (judged : List Judged) (e : Exploring) : Text → Type 0 where
+pub data IsPrinted (names : Names) (threads : List Text) (k : ℕ) (judged : List Judged) (e : Exploring)
+    : Text → Type 0 where
   OfRows : (e.illegal ≡ true → e.first ≡ true → count_illegal judged ≡ 0) →
       IsPrinted names threads k judged e (rows_text names threads k (shown e judged))
   OfACut : (steps : ℕ) (text : Text) →
@@ -107,4 +110,4 @@ pub record IsExploredText (names : Names) (threads : List Text) (k : ℕ) (judge
     (complete roomy : Bool) (e : Exploring) (text : Text) : Type 0 where
   pub rows : Text
   pub printed : IsPrinted names threads k judged e rows
-  pub is : text ≡ rows ++ last_text states judged complete roomy
+  pub is : text ≡ rows ++ last_text e.states states judged complete roomy

@@ -7,10 +7,12 @@ use Rattle.ls_events.specs.declared.event.Event.{Event}
 use Rattle.ls_explore.specs.Rows.{Told}
 use Rattle.ls_explore_reports.specs.Below.{HasNames, IsBelow}
 use Rattle.ls_report.specs.Events.{Text}
+use Rattle.ls_linearity.specs.Meant.{IsLongUnjudged, IsMeant}
 use Rattle.ls_linearizable.specs.Linearizable.{IsLinearizable}
+use Rattle.ls_linearizable.specs.Resting.{AreOnce}
 use Rattle.ls_explore_reports.specs.Rows.{RowsExplain}
 use Rattle.ls_serial_search.specs.Found.{IsNotJudged}
-use Rattle.ls_serial_search.specs.Told.{IsMeant, usual}
+use Rattle.ls_serial_search.specs.Told.{usual}
 use Rattle.ls_serial_search.specs.declared.telling.Doubt.TheVariants as doubts
 use Rattle.ls_serial_search.specs.declared.judging.Linearity.{Linearity}
 use Rattle.ls_serial_search.specs.declared.judging.Linearity.TheVariants as linearities
@@ -36,16 +38,15 @@ AreHistories p rows = All (λ (r : Told). IsHistoryOf p r.history) rows
 abbrev pub IsJudged : Program → Judged → Type 0
 IsJudged p j = IsVerdict p j.row.history j.verdict
 
--- A history is linearizable if one of the rows begins with a serial history that explains it. If none does, it is not
--- linearizable where the rows tell of every schedule. Where they don't, the serial runs of the program say it; or it is
--- not known, since a call alone doesn't end or there are too many orders, and no serial history that was found explains
--- it.
+-- What is said is so. Or it isn't known by the program's calls alone: then a history is linearizable if one of the rows
+-- begins with a serial history that explains it. If none does, it is not linearizable where the rows tell of every
+-- schedule. Where they don't, it stays unknown, with the reason that is said.
 abbrev pub IsLinearity : File → Program → Bool → List Told → List Event → Linearity → Type 0
 IsLinearity file program whole rows h linearities.Linearizable = RowsExplain rows h ⊎ IsLinearizable file program h
 IsLinearity file program whole rows h linearities.NotLinearizable =
-    ¬ RowsExplain rows h × ((whole ≡ true) ⊎ (¬ IsLinearizable file program h))
+    (¬ IsLinearizable file program h) ⊎ (¬ RowsExplain rows h × (whole ≡ true))
 IsLinearity file program whole rows h linearities.LongCall =
-    ¬ RowsExplain rows h × (whole ≡ false) × IsNotJudged file program usual doubts.LongCall h
+    ¬ RowsExplain rows h × (whole ≡ false) × IsLongUnjudged file program h
 IsLinearity file program whole rows h linearities.ManyOrders =
     ¬ RowsExplain rows h × (whole ≡ false) × IsNotJudged file program usual doubts.ManyOrders h
 
@@ -66,7 +67,11 @@ abbrev pub SaysNoSet : Judged → Type 0
 SaysNoSet j = j.verdict ≡ verdicts.NotOneSet
 
 abbrev pub AreMeant : File → Program → List Judged → Type 0
-AreMeant file program judged = All (λ (j : Judged). IsMeant file program usual j.row.history j.linearity) judged
+AreMeant file program judged = All (λ (j : Judged). IsMeant file program j.row.history j.linearity) judged
+
+-- no event stands twice in a row's history
+abbrev pub AreEachOnce : List Told → Type 0
+AreEachOnce rows = All (λ (r : Told). AreOnce r.history) rows
 
 abbrev pub is_not_linearizable : Linearity → Bool
 is_not_linearizable linearities.NotLinearizable = true

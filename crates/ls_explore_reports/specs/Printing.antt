@@ -1,5 +1,6 @@
 -- The text of an exploration.
-use Rattle.std.specs.Prelude.{ℕ, zero, suc, Bool, true, false, List, [], ◌∷◌, ◌++◌, codes, length, take}
+use Rattle.std.specs.Prelude.{ℕ, zero, suc, Bool, true, false, List, [], ◌∷◌, ◌++◌, codes, length, nat_lt, take}
+use Rattle.std.specs.Prelude.{if◌then◌else◌}
 use Rattle.std.specs.Fmt.{decimal}
 use Rattle.std.specs.List.{filter, flat_map}
 use Rattle.ls_report.specs.Events.{Text}
@@ -102,17 +103,22 @@ illegal_text decided (suc n) = codes " illegal " ++ decimal (suc n)
 illegal_text true zero = codes " illegal 0"
 illegal_text false zero = []
 
+-- That not all states were kept. If as many were kept as may be, these were too many. If fewer were, they have too many
+-- objects.
+abbrev pub cut_text : ℕ → ℕ → Text
+cut_text limit states = if nat_lt states limit then codes " cut: too many objects\n" else codes " cut\n"
+
 -- whether the histories are complete, and whether a schedule runs out of cells
-abbrev pub end_text : Bool → Bool → Text
-end_text true true = codes " complete\n"
-end_text true false = codes " complete in these cells\n"
-end_text false roomy = codes " cut\n"
+abbrev pub end_text : ℕ → ℕ → Bool → Bool → Text
+end_text limit states true true = codes " complete\n"
+end_text limit states true false = codes " complete in these cells\n"
+end_text limit states false roomy = cut_text limit states
 
 -- as `states 402 histories 6 illegal 0 not linearizable 0 complete`
-abbrev pub last_text : ℕ → List Judged → Bool → Bool → Text
-last_text states judged complete roomy =
+abbrev pub last_text : ℕ → ℕ → List Judged → Bool → Bool → Text
+last_text limit states judged complete roomy =
     counts_text states (length judged) ++ (illegal_text (are_decided judged) (count_illegal judged) ++
-    (linear_text (are_known judged) (count_not_linearizable judged) ++ end_text complete roomy))
+    (linear_text (are_known judged) (count_not_linearizable judged) ++ end_text limit states complete roomy))
 
 abbrev pub rows_text : Names → List Text → ℕ → List Judged → Text
 rows_text names threads k judged = flat_map (row_text names threads k) judged

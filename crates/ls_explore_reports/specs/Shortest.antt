@@ -1,5 +1,6 @@
 -- The shortest schedules of all whose histories have no legal order.
-use Rattle.std.specs.Prelude.{◌≡◌, ◌⊎◌, ◌+◌, ◌<◌, ℕ, ◌++◌, ◌∷◌, [], Bool, true, false, List, None, All, Contains, length, take}
+use Rattle.std.specs.Prelude.{◌≡◌, ◌⊎◌, ◌+◌, ◌<◌, ℕ, ◌++◌, ◌∷◌, [], Bool, true, false, List, None, All, Contains}
+use Rattle.std.specs.Prelude.{length, take}
 use Rattle.ls_checked.specs.CheckedTree.{File}
 use Rattle.ls_checked.specs.CheckedProgram.{Program}
 use Rattle.ls_events.specs.declared.event.Event.{Event}

@@ -1,7 +1,8 @@
 // Of the rows without a legal order, the shortest beginning of a schedule that has none.
 
 ghost use Rattle.ls_events.specs.Limits.{most_steps};
-ghost use Rattle.std.specs.Prelude.{◌≡◌, ◌≤◌, ◌<◌, ◌⊎◌, ◌++◌, ◌∷◌, ℕ, [], All, IfErr, IfOk, IsErrOf, List, None, OnOk, Option};
+ghost use Rattle.std.specs.Prelude.{◌≡◌, ◌≤◌, ◌<◌, ◌⊎◌, ◌++◌, ◌∷◌, ℕ, [], All, IfErr, IfOk, IsErrOf, List, None, OnOk};
+ghost use Rattle.std.specs.Prelude.{Option};
 ghost use Rattle.std.specs.Prelude.{false, length, string_bytes, take, true};
 ghost use Rattle.ls_checked.specs.Plain.{plain_file};
 ghost use Rattle.ls_checked.specs.PlainProgram.{plain_program};

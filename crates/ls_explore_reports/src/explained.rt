@@ -1,9 +1,8 @@
 // Which rows are explained.
 
-ghost use Rattle.std.specs.Prelude.{◌≡◌, ◌↔◌, Decides, IfOk, List};
-ghost use Rattle.ls_events.specs.declared.event.Event.{Event as EventValue};
-ghost use Rattle.ls_serial.specs.Serial.{HaveBeginning, IsExplainedBy, IsSerial};
-ghost use Rattle.ls_explore_reports.specs.Rows.{TellExplained, histories};
+ghost use Rattle.std.specs.Prelude.{Decides, IfOk};
+ghost use Rattle.ls_serial.specs.Serial.{IsExplainedBy};
+ghost use Rattle.ls_explore_reports.specs.Rows.{AreRunsOfRows, TellExplained};
 
 use ls_events::event::Event;
 use ls_explore::Row;
@@ -11,9 +10,8 @@ use ls_serial::SerialRuns;
 use std::alloc::{AllocError, Global};
 
 /// The serial runs of these rows. The only refusal is that memory ran out.
-fn serial_runs(alloc: Global, rows: &[Row]) -> Result<SerialRuns, AllocError>
-    ensures { IfOk result (λ runs. (g : List EventValue) → IsSerial g →
-        HaveBeginning runs g ↔ HaveBeginning (histories rows.now) g) }
+pub(crate) fn serial_runs(alloc: Global, rows: &[Row]) -> Result<SerialRuns, AllocError>
+    ensures { IfOk result (AreRunsOfRows rows.now) }
 {
     let mut runs = SerialRuns::new(alloc);
     for at in 0..rows.len() {
@@ -23,7 +21,7 @@ fn serial_runs(alloc: Global, rows: &[Row]) -> Result<SerialRuns, AllocError>
 }
 
 /// Whether one of the runs explains a history.
-fn explain(runs: &SerialRuns, history: &[Event]) -> bool
+pub(crate) fn explain(runs: &SerialRuns, history: &[Event]) -> bool
     ensures { Decides result (IsExplainedBy runs.now history.now) }
 {
     runs.explaining(history).is_some()

@@ -17,8 +17,8 @@ pub fn none_is_illegal()
     every_schedule_is_legal();
 }
 
-/// If the last line says `not linearizable 0` and that the rows are complete, the history of each schedule of the program
-/// that fits the cells is linearizable. If it says `complete` alone, this is so of every schedule.
+/// If the last line says `not linearizable 0` and that the rows are complete, the history of each schedule of the
+/// program that fits the cells is linearizable. If it says `complete` alone, this is so of every schedule.
 pub fn none_is_not_linearizable()
     ensures fitting { NoneIsNotLinearizableThatFits }
     ensures whole { NoneIsNotLinearizable }

@@ -1,19 +1,18 @@
 // Rows judged by a specification.
 
 ghost use Rattle.std.specs.Prelude.{◌≡◌, All, IfOk};
-ghost use Rattle.ls_explore_reports.specs.Judged.{AreMeant, IsToldBelowLike, SaysNoSet, rows_of};
+ghost use Rattle.ls_explore_reports.specs.Judged.{AreEachOnce, AreMeant, IsToldBelowLike, SaysNoSet, rows_of};
 ghost use Rattle.ls_specification.specs.Specification.{spec_file, spec_program};
 
 use crate::below::{below, known_if};
 use crate::judging::JudgedRow;
 use ls_explore::Row;
-use ls_serial_search::judging::linearity_on;
-use ls_serial_search::telling::{Bounds, serial_runs};
+use ls_linearity::{judge_for, linearity_by};
 use ls_specification::Specification;
 use ls_verdicts::Verdict;
 use std::alloc::{AllocError, Global};
 
-/// The rows, each with what the serial runs of a specification say of its history, and nothing of it as one of a set.
+/// The rows, each with what a specification says of its history, and nothing of it as one of a set.
 /// With `orders`, what the command `order` tells of the history by the specification stands below the row.
 pub fn judge_rows_like<'a>(
     alloc: Global,
@@ -21,6 +20,7 @@ pub fn judge_rows_like<'a>(
     specification: Specification<'_>,
     orders: bool,
 ) -> Result<Vec<JudgedRow<'a>>, AllocError>
+    requires { AreEachOnce rows.now }
     ensures rows { IfOk result (λ judged. rows_of judged.items ≡ rows.now) }
     ensures linear { IfOk result (λ judged. AreMeant (spec_file specification.entry) (spec_program specification.entry)
         judged.items) }
@@ -29,13 +29,13 @@ pub fn judge_rows_like<'a>(
         (spec_program specification.entry)) judged.items) }
 {
     let Specification { file, program } = specification;
-    let search = serial_runs(alloc, file, program, &Bounds::usual())?;
+    let judge = judge_for(alloc, specification)?;
     let known = known_if(alloc, file, program, orders)?;
     let mut judged = Vec::with_capacity(alloc, rows.len())?;
     for at in 0..rows.len() {
         let row = &rows[at];
         let history = row.history();
-        let linearity = linearity_on(&search, history);
+        let linearity = linearity_by(alloc, &judge, history)?;
         let below = below(alloc, &known, history)?;
         judged.push(JudgedRow::new(row, Verdict::NotOneSet, linearity, below))?;
     }

@@ -7,9 +7,10 @@ ghost use Rattle.ls_labels.specs.Names.{names_of};
 ghost use Rattle.ls_schedule.specs.Reading.{thread_name, thread_names};
 ghost use Rattle.ls_state.specs.Scene.{scene_of};
 ghost use Rattle.ls_state.specs.Seen.{IsOwn, names_in, scene_seen};
-ghost use Rattle.ls_explore_reports.specs.Printing.{counts_text, end_text, ending_text, illegal_text};
+ghost use Rattle.ls_explore_reports.specs.Printing.{counts_text, cut_text, end_text, ending_text, illegal_text};
 ghost use Rattle.ls_explore_reports.specs.Printing.{is_shown, is_wrong, last_text, linear_part, linear_text};
-ghost use Rattle.ls_explore_reports.specs.Printing.{beside_part, linearity_part, over_text, row_text, rows_text, set_part};
+ghost use Rattle.ls_explore_reports.specs.Printing.{beside_part, linearity_part, over_text, row_text, rows_text};
+ghost use Rattle.ls_explore_reports.specs.Printing.{set_part};
 ghost use Rattle.ls_explore_reports.specs.Printing.{shown, verdict_part};
 ghost use Rattle.ls_explore_reports.specs.Waiting.{asked_text, listed, waiting, waits_text};
 ghost use Rattle.ls_explore.specs.Tellings.{schedule_of};
@@ -22,7 +23,7 @@ use crate::judging::{
 };
 use ls_checked::program::ThreadProgram;
 use ls_events::schedule::{MOST_STEPS, Schedule};
-use ls_explore::{Ending, Row};
+use ls_explore::{Ending, ImageExploration, Row};
 use ls_labels::names::Names;
 use ls_labels::threads::push_wait;
 use ls_meaning::step::Asked;
@@ -371,12 +372,23 @@ fn push_illegal(out: &mut String, decided: bool, count: usize) -> Result<(), All
     Ok(())
 }
 
+/// That not all states were kept. If fewer were kept than may be, they have too many objects; else they were too many.
+pub fn cut_words(limit: usize, states: usize) -> &'static str
+    ensures { result.now ≡ cut_text limit states }
+{
+    if states < limit {
+        " cut: too many objects\n"
+    } else {
+        " cut\n"
+    }
+}
+
 /// Whether the histories are complete, and whether a schedule runs out of cells.
-fn end_words(complete: bool, roomy: bool) -> &'static str
-    ensures { result.now ≡ end_text complete roomy }
+fn end_words(limit: usize, states: usize, complete: bool, roomy: bool) -> &'static str
+    ensures { result.now ≡ end_text limit states complete roomy }
 {
     if !complete {
-        return " cut\n";
+        return cut_words(limit, states);
     }
     if roomy {
         return " complete\n";
@@ -388,15 +400,16 @@ fn end_words(complete: bool, roomy: bool) -> &'static str
 /// not linearizable, and whether they are complete.
 pub(crate) fn push_last(
     out: &mut String,
-    states: usize,
     judged: &[JudgedRow<'_>],
-    complete: bool,
-    roomy: bool,
+    limit: usize,
+    found: &ImageExploration,
 ) -> Result<(), AllocError>
-    ensures { OnOk result (string_bytes out.new ≡ string_bytes out.old ++ last_text states judged.now complete roomy) }
+    ensures { OnOk result (string_bytes out.new ≡ string_bytes out.old ++
+        last_text limit found.now.states judged.now found.now.complete found.now.roomy) }
 {
-    push_counts(out, states, judged.len())?;
+    push_counts(out, found.states, judged.len())?;
     push_illegal(out, are_decided(judged), count_illegal(judged))?;
     push_linear(out, are_known(judged), count_not_linearizable(judged))?;
-    out.push_str(end_words(complete, roomy))
+    let words = end_words(limit, found.states, found.complete, found.roomy);
+    out.push_str(words)
 }

@@ -55,8 +55,8 @@ fn is_known(shortest: bool, whole: bool, judged: &[JudgedRow<'_>]) -> bool
 }
 
 /// The steps with which a row's history ceases to have a legal order; or a schedule of fewer steps, where the rows are
-/// not those of a machine, whose history has none either and after which a thread acts. Also whether it is known that no
-/// schedule of the program whose history has none is shorter. At most so many states are kept as may be explored.
+/// not those of a machine, whose history has none either and after which a thread acts. Also whether it is known that
+/// no schedule of the program whose history has none is shorter. At most so many states are kept as may be explored.
 pub(crate) fn shortest_illegal(
     alloc: Global,
     names: Names<'_>,

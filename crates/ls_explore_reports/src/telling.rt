@@ -107,10 +107,10 @@ fn printed_rows(
     }
 }
 
-/// The text of an exploration, each of whose rows has its verdict. With `illegal` and `first`, if a row has no legal order,
-/// the shortest beginning of the schedule of such a row that has none stands in place of the row. A shorter schedule
-/// stands there, if one is found that has none and after which a thread acts. Below it it is said if it is known that no
-/// schedule of the program that has none is shorter.
+/// The text of an exploration, each of whose rows has its verdict. With `illegal` and `first`, if a row has no legal
+/// order, the shortest beginning of the schedule of such a row that has none stands in place of the row. A shorter
+/// schedule stands there, if one is found that has none and after which a thread acts. Below it it is said if it is
+/// known that no schedule of the program that has none is shorter.
 ///
 /// Refused where memory runs out, and where a row's schedule has over 1,000,000 steps.
 pub fn print_exploration(
@@ -129,7 +129,7 @@ pub fn print_exploration(
     ensures long { IsErrOf result ResultTooLong → HasLong found.now.setup (rows_of judged.now) }
 {
     let mut out = printed_rows(alloc, names, found, judged, exploring)?;
-    push_last(&mut out, found.states, judged, found.complete, found.roomy)?;
+    push_last(&mut out, judged, exploring.states, found)?;
     Ok(out)
 }
 
@@ -143,11 +143,12 @@ pub fn print_rows(
 ) -> Result<String, TranslationFault>
     ensures text { IfOk result (λ text. string_bytes text ≡
         rows_text (names_of names.entry) (thread_names names.entry.program.now) found.now.setup
-        (shown exploring judged.now) ++ last_text found.now.states judged.now found.now.complete found.now.roomy) }
+        (shown exploring judged.now) ++
+        last_text exploring.states found.now.states judged.now found.now.complete found.now.roomy) }
     ensures only { IfErr result (λ e. (e ≡ Memory) ⊎ (e ≡ ResultTooLong)) }
     ensures long { IsErrOf result ResultTooLong → HasLong found.now.setup (rows_of judged.now) }
 {
     let mut out = shown_rows(alloc, names, found.setup, judged, exploring)?;
-    push_last(&mut out, found.states, judged, found.complete, found.roomy)?;
+    push_last(&mut out, judged, exploring.states, found)?;
     Ok(out)
 }

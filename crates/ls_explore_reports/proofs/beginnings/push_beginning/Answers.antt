@@ -36,5 +36,6 @@ returns-in_ok-push c = λ rows are.
     subst (AreBeginnings program (rows ++ j ∷ []))
     (sym (ap (map items_of) c.in_ok-push.ensures.items
     ∙ map-append items_of c.args.beginnings.now.items (c.in-Some.beginning ∷ [])))
-    (one_more program rows (map items_of c.args.beginnings.now.items) are j some.0 (items_of c.in-Some.beginning) hopeless
+    (one_more program rows (map items_of c.args.beginnings.now.items) are j some.0
+    (items_of c.in-Some.beginning) hopeless
     is)

@@ -15,7 +15,12 @@ use Rattle.ls_explore_reports.proofs.CutTexts.{of_parts}
 use Rattle.ls_explore_reports.proofs.cutting.beginning.Goals as goal
 
 pub below-requires : goal.below-requires
-below-requires c = (c.args.orders, plain_file c.args.names.file.now, plain_program c.args.names.program.now, c.in_ok-serial.ensures)
+below-requires c = (
+  c.args.orders,
+  plain_file c.args.names.file.now,
+  plain_program c.args.names.program.now,
+  c.in_ok-serial.ensures,
+)
 
 pub returns : goal.returns
 returns c =
@@ -23,7 +28,8 @@ returns c =
     let program = plain_program c.args.names.program.now in
     let text = string_bytes c.in_ok-below.below in
     let same = c.as_slice.ensures.value ∙ c.in_ok-history.ensures ∙ ap (source_history file program) c.steps.ensures in
-    let printed = c.as_slice-2.ensures.value ∙ c.in_ok-history.ensures ∙ ap (source_history file program) c.steps.ensures in (
+    let printed = c.as_slice-2.ensures.value ∙ c.in_ok-history.ensures ∙ ap (source_history file program)
+    c.steps.ensures in (
       text,
       subst (λ (h : List Event). IsBelow c.args.orders file program h text) same
           (c.in_ok-below.ensures c.args.orders file program c.in_ok-serial.ensures

@@ -15,4 +15,5 @@ returns-clause-fitting c = λ file program cells rows all each schedule fits.
 pub returns-clause-whole : goal.returns-clause-whole
 returns-clause-whole c = λ file program rows all each schedule.
     begun_linearizable file program (histories rows) (all_of_histories file program rows each)
-    (source_history file program schedule) (told_begins rows (source_history file program schedule) (all.begun schedule))
+    (source_history file program schedule) (told_begins rows (source_history file program schedule)
+    (all.begun schedule))

@@ -23,7 +23,8 @@ returns-clause-whole c = λ file program k rows flags truth all explained none s
     (all_of_histories file program rows
     (λ r there. explained_linearizable file program (histories rows) (told_true file program k rows truth) r.history
     (all_flagged (λ (q : Told). RowsExplain rows q.history) rows flags explained none r there)))
-    (source_history file program schedule) (told_begins rows (source_history file program schedule) (all.begun schedule))
+    (source_history file program schedule) (told_begins rows (source_history file program schedule)
+    (all.begun schedule))
 
 pub returns-clause-unexplained : goal.returns-clause-unexplained
 returns-clause-unexplained c = λ file program rows flags i r whole explained at down l.

@@ -1,11 +1,8 @@
 -- What the loop `at` of `serial_runs` in src/explained.rt keeps.
 
-use Rattle.std.proofs.Common.{◌↔◌, List, take}
-use Rattle.ls_events.specs.declared.event.Event.{Event}
-use Rattle.ls_serial.specs.Serial.{HaveBeginning, IsSerial}
-use Rattle.ls_explore_reports.specs.Rows.{histories}
+use Rattle.std.proofs.Common.{take}
+use Rattle.ls_explore_reports.specs.Rows.{AreRunsOfRows}
 use Rattle.ls_explore_reports.proofs.explained.serial_runs.Given as goal
 
 abbrev pub invariant-loop-at : goal.invariant-loop-at
-invariant-loop-at l = (g : List Event) → IsSerial g →
-    HaveBeginning l.runs g ↔ HaveBeginning (histories (take l.at l.rows)) g
+invariant-loop-at l = AreRunsOfRows (take l.at l.rows) l.runs

@@ -1,10 +1,12 @@
 -- Why `judge_rows_like` in src/likeness.rt keeps its loop `at` and what `below` requires.
 
-use Rattle.std.proofs.Common.{◌≡◌, ◌++◌, ◌∷◌, [], List, refl, string_bytes, subst}
+use Rattle.std.proofs.Common.{◌≡◌, ◌++◌, ◌∷◌, ◌∙◌, [], List, ap, refl, string_bytes, subst, sym}
 use Rattle.ls_checked.specs.CheckedTree.{File}
 use Rattle.ls_checked.specs.CheckedProgram.{Program}
 use Rattle.ls_events.specs.declared.event.Event.{Event}
-use Rattle.ls_serial_search.specs.Told.{IsMeant, Tells, usual}
+use Rattle.ls_explore.specs.Rows.{Told}
+use Rattle.ls_linearity.specs.Meant.{IsMeant}
+use Rattle.ls_linearizable.specs.Resting.{AreOnce}
 use Rattle.ls_specification.specs.Specification.{spec_file, spec_program}
 use Rattle.ls_explore_reports.specs.Below.{HasNames, IsBelow}
 use Rattle.ls_explore_reports.specs.Judged.{IsToldBelowLike, Judged, SaysNoSet}
@@ -23,14 +25,16 @@ loop-at-preserved c =
     let is = subst (λ (x : Judged). c.push.new.self.items ≡ c.loop-at.judged.items ++ x ∷ []) c.new.ensures
     c.in_ok-push.ensures.items in
     record {
+      judges = c.loop-at.invariant.judges;
       runs = c.loop-at.invariant.runs;
       rows = judged_more c.loop-at.judged.items c.push.new.self.items _ rows c.loop-at.at is c.loop-at-test.true
           c.index-rows-at.is c.loop-at.invariant.rows;
-      linear = all_more (λ (j : Judged). IsMeant file program usual j.row.history j.linearity) c.loop-at.judged.items
+      linear = all_more (λ (j : Judged). IsMeant file program j.row.history j.linearity) c.loop-at.judged.items
           c.push.new.self.items _ is c.loop-at.invariant.linear
-          (subst (λ (h : List Event). IsMeant file program usual h c.linearity_on-linearity.result)
-          c.history-history.ensures (c.linearity_on-linearity.ensures file program usual
-          (subst (λ b. Tells file program b c.in_ok-search.search) c.usual.ensures c.in_ok-search.ensures)));
+          (subst (λ (h : List Event). IsMeant file program h c.in_ok-linearity.linearity)
+          c.history-history.ensures (c.in_ok-linearity.ensures file program c.loop-at.invariant.judges
+          (subst AreOnce (sym (c.history-history.ensures ∙ ap (λ (r : Told). r.history) c.index-rows-at.is))
+          (c.requires c.loop-at.at c.index-rows-at.result c.loop-at-test.true))));
       sets = all_more SaysNoSet c.loop-at.judged.items c.push.new.self.items _ is c.loop-at.invariant.sets refl;
       below = all_more (IsToldBelowLike c.args.orders file program) c.loop-at.judged.items c.push.new.self.items _ is
           c.loop-at.invariant.below

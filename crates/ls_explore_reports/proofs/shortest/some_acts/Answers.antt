@@ -14,7 +14,8 @@ loop-thread-preserved c =
     c.in_ok-did.ensures.did ∙ ap (λ (q : Progress). did_at q c.loop-thread.thread) c.loop-thread.invariant in
     let still : IsStill (did_at r c.loop-thread.thread) =
     subst IsStill is (c.has_acted.ensures.still c.if-has_acted.false) in
-    c.in_ok-did.ensures.run ∙ stays_so (progress_of c.loop-thread.run) r c.loop-thread.thread c.loop-thread.invariant still
+    c.in_ok-did.ensures.run ∙ stays_so (progress_of c.loop-thread.run) r c.loop-thread.thread
+    c.loop-thread.invariant still
 
 pub returns-then-has_acted : goal.returns-then-has_acted
 returns-then-has_acted c = λ yes.

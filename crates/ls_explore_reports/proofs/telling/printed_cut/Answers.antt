@@ -10,7 +10,8 @@ use Rattle.ls_explore.specs.Tellings.{schedule_of}
 use Rattle.ls_explore_reports.specs.Cuts.{IsOfLeast, with_known}
 use Rattle.ls_explore_reports.specs.Printing.{row_text}
 use Rattle.ls_explore_reports.specs.Shortest.{IsCutOrShorter}
-use Rattle.ls_explore_reports.proofs.CutRows.{as_error, cut_is, cut_of, if_ok, least_cut, long_there, place_within, row_so}
+use Rattle.ls_explore_reports.proofs.CutRows.{as_error, cut_is, cut_of, if_ok, least_cut, long_there, place_within}
+use Rattle.ls_explore_reports.proofs.CutRows.{row_so}
 use Rattle.ls_explore_reports.proofs.CutTexts.{begun_text, cut_named, whole_text}
 use Rattle.ls_translation.specs.declared.fault.TranslationFault.TheVariants.{ResultTooLong}
 use Rattle.ls_explore_reports.proofs.telling.printed_cut.Goals as goal
@@ -41,9 +42,11 @@ pub shortest_illegal-requires-clause-cut : goal.shortest_illegal-requires-clause
 shortest_illegal-requires-clause-cut c =
     let names = names_of c.args.names in
     let k = c.args.found.now.setup in
-    cut_of names.file names.program k c.args.judged.now c.requires.so c.args.cut c.requires.cut c.index-judged-cut.result
+    cut_of names.file names.program k c.args.judged.now c.requires.so c.args.cut c.requires.cut
+    c.index-judged-cut.result
     c.index-judged-cut.is c.in_ok-first.first
-    (c.in_ok-first.ensures ∙ ap (take c.args.cut.steps) (c.in_ok-schedule.ensures.steps ∙ ap (schedule_of k) c.row.ensures))
+    (c.in_ok-first.ensures ∙ ap (take c.args.cut.steps) (c.in_ok-schedule.ensures.steps ∙
+    ap (schedule_of k) c.row.ensures))
 
 pub beginning-requires : goal.beginning-requires
 beginning-requires c =
@@ -76,7 +79,8 @@ returns-then-len-clause-text c =
     record {
       row = row;
       least = least;
-      is = begun_text names (thread_names c.args.names.program.now) k c.args.exploring row c.args.cut.steps least.cut so.acts
+      is = begun_text names (thread_names c.args.names.program.now) k c.args.exploring row c.args.cut.steps
+          least.cut so.acts
           run.shortest run.schedule (string_bytes c.in_ok-text.text)
           (subst (λ ts. IsCutOrShorter names c.args.exploring ts run.schedule) first c.in_ok-run.ensures.schedule)
           c.in_ok-run.ensures.known

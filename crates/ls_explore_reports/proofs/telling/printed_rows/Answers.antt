@@ -16,7 +16,8 @@ printed_cut-requires c =
     record {
       so = c.requires.so;
       whole = c.requires.whole;
-      cut = subst (IsLeastOf names.file names.program (schedules_of c.args.found.now.setup c.args.judged.now)) c.in-Some.is
+      cut = subst (IsLeastOf names.file names.program (schedules_of c.args.found.now.setup c.args.judged.now))
+          c.in-Some.is
           (c.in_ok-cut.ensures.least wanted);
     }
 

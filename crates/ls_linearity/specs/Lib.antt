@@ -1,0 +1,4 @@
+pub mod Tabled
+pub mod Followed
+pub mod Meant
+pub mod Judges
