@@ -6,6 +6,7 @@ are those of a page of choices, which tells objects by class and number. Over al
 after: program order, locks, monitors, markable references and volatile fields order them, as happens-before does. `explore --races` must tell
 a race exactly if there are two accesses to one variable that isn't volatile, one a write, that aren't ordered so. It must name the variables
 that two threads are about to access in one state, and no others. The last two steps of the schedule that it prints are two such accesses.
+Beside `none` of `explore --verdict` a line must say so too. The page of the schedule marks the two accesses, if there is Node.
 Where a `tryLock()` fails, it counts as one that sees what the owner of its lock did before it took the lock.
 
 Of so many classes all programs with two threads of one call are looked at one by one. The first of which `explore --races` tells a race must
@@ -16,11 +17,14 @@ import collections
 import json
 import random
 import re
+import shutil
+import subprocess
 import sys
 
-from tool import PROGRAM, joined, keep, run
+from tool import PROGRAM, TOP, joined, keep, run
 
 STATES, MOST_ORDERS = "3000", 30000
+MARKED = f"{TOP}/tests/page/meets.js"
 FIELD = re.compile(r"(\w+)\.\d+ (reads|writes) (\w+)#(\d+)\.(\w+): ")
 ITEM = re.compile(r"(\w+)\.\d+ (reads|writes) boolean\[\]#(\d+)\[(-?\d+)\]: (?!ArrayIndexOutOfBounds|(true|false): ArrayIndexOutOfBounds)")
 # what acquires, and what releases: a lock as it is freed, and as it is taken; a markable reference
@@ -209,7 +213,32 @@ def wrong_run(program, case, text, told):
         return f"the last steps of the schedule aren't accesses that conflict: {last}"
     if not all(any(line.endswith(it) for line in told) for it in last):
         return f"the last steps aren't told: {last}"
-    return None
+    return wrong_mark(program, text, told[1], last)
+
+
+def wrong_mark(program, text, schedule, last):
+    """What is wrong with the accesses that the page of a schedule marks, by its last two steps; None where there is no Node."""
+    if not shutil.which("node"):
+        return None
+    data = run(program, ["page"], joined(text, schedule.encode()), seconds=60).out
+    marked = subprocess.run(["node", MARKED], input=data, capture_output=True, check=True).stdout.decode().split("\n")[:-1]
+    is_so = len(marked) == 2 and all(any(it.startswith(words) for words in marked) for it in last)
+    return None if is_so else f"the page marks {marked}, and the last steps are {last}"
+
+
+RACED = re.compile(r"// data race on (.*): Java allows more than is shown here")
+FREE = {"// no data race: Java allows no other history",
+        "// no data race, if a tryLock() that fails sees what the owner of its lock did before it took the lock"}
+
+
+def wrong_beside(program, text, meets):
+    """What is wrong with the line beside `none` of a verdict, by the variables on which accesses meet."""
+    told = run(program, ["explore", "--verdict"], text, seconds=60).out.decode().split("\n")
+    if told[0] != "none" or not told[-2].endswith(" complete"):
+        return None
+    found = RACED.fullmatch(told[1])
+    is_so = found[1].replace("an element of ", "") in meets if found else not meets and told[1] in FREE
+    return None if is_so else f"says {told[1]!r} beside none, and accesses meet on {sorted(meets)}"
 
 
 def tried(program, case):
@@ -233,6 +262,8 @@ def tried(program, case):
         return f"says {told[0]!r}, and accesses meet on {sorted(meets)}", ""
     if meets and (wrong := wrong_run(program, case, text, told)):
         return wrong, ""
+    if wrong := wrong_beside(program, text, meets):
+        return wrong, ""
     if races is None:
         return None, "too many orders"
     return (f"says {told[0]!r}, and by happens-before there is {'one' if races else 'none'}" if races != bool(meets) else None,
@@ -241,8 +272,6 @@ def tried(program, case):
 
 BOUNDS = ["--calls", "1", "--setup", "0"]
 BESIDE = re.compile(r"// data race on (.*) in number (\d+): Java allows more than is shown here")
-FREE = {"// no data race: Java allows no other history",
-        "// no data race, if a tryLock() that fails sees what the owner of its lock did before it took the lock"}
 
 
 def first_race(program, classes, count):
@@ -272,8 +301,8 @@ def family(program, case):
     if not shown[0].startswith(wanted) or first and shown[-2] != schedule:
         return f"shows {shown[0]!r} and {shown[-2]!r}, and the first race is in {first}, by {schedule}", ""
     told = run(program, ["find", *BOUNDS], classes, seconds=120).out.decode().split("\n")
-    if told[0] == "// none" and (not BESIDE.fullmatch(told[2]) or int(BESIDE.fullmatch(told[2])[2]) != first if first else told[2] not in FREE):
-        return f"says {told[2]!r} beside none, and the first race is in {first}", ""
+    if told[0] == "// none" and (not BESIDE.fullmatch(told[-2]) or int(BESIDE.fullmatch(told[-2])[2]) != first if first else told[-2] not in FREE):
+        return f"says {told[-2]!r} beside none, and the first race is in {first}", ""
     return None, ("race" if first else "no race") + (" beside none" if told[0] == "// none" else "")
 
 

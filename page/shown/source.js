@@ -122,11 +122,15 @@ whenRead.push(() => {
   scheduleText = new ScheduleText(data.schedule, run.threads.length - 1);
 });
 
+// Two threads that are about to make accesses that race; null where none are, or where the text isn't followed.
+const racing = () => following.classes === null ? null : meeting(run, following.classes, view.count);
+
 // What a thread does next stands there, and the calls that it is in are named at their own lines.
-function markThread(thread, ranges, signs) {
+function markThread(thread, races, ranges, signs) {
   const name = run.threads[thread], next = following.standsAt(thread, view.count);
   if (!next || run.asked(thread, view.count)[0] === null) return null;
-  ranges[next.part].push({ start: next.start, end: next.end, kind: "next", colour: colour(thread) });
+  const kind = races !== null && races.includes(thread) ? "next races" : "next";
+  ranges[next.part].push({ start: next.start, end: next.end, kind, colour: colour(thread) });
   signs[next.part].push({ start: next.start, name, isInner: true, title: name + " does this next" });
   for (const { at, title } of next.frames) {
     const isThere = at.part === next.part && codes[at.part].lineAt(at.start) === codes[at.part].lineAt(next.start);
@@ -138,9 +142,10 @@ function markThread(thread, ranges, signs) {
 
 function showSource() {
   const ranges = { classes: [], program: [], schedule: [] }, signs = { classes: [], program: [], schedule: [] };
+  const races = racing();
   let revealed = null;
   run.threads.forEach((name, thread) => {
-    const place = markThread(thread, ranges, signs);
+    const place = markThread(thread, races, ranges, signs);
     if (place !== null && (view.row ? view.row.thread === name : revealed === null)) revealed = place;
   });
   const done = view.stop > 0 ? following.places[view.count - 1] : null;

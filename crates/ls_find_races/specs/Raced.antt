@@ -1,5 +1,5 @@
 -- What is found of the data races of a program of a class.
-use Rattle.std.specs.Prelude.{◌≡◌, ℕ, Bool, false, List, Err, Ok, string_bytes}
+use Rattle.std.specs.Prelude.{◌≡◌, ℕ, Bool, List, Err, Ok, string_bytes}
 use Rattle.ls_compiler.specs.Answers.{CompilesTo}
 use Rattle.ls_explore_reports.specs.ImageNames.{names_in}
 use Rattle.ls_fewest_switches.specs.Wording.{switches_text}
@@ -10,11 +10,10 @@ use Rattle.ls_find_races.specs.declared.explorer.RaceWhy.TheVariants as whys
 use Rattle.ls_image.specs.Images.{Compiles, program_of_image}
 use Rattle.ls_image.specs.declared.image.Image.{Image}
 use Rattle.ls_race_laws.specs.Meeting.{NeverMeets}
-use Rattle.ls_race_laws.specs.declared.access.Kind.{Kind}
 use Rattle.ls_race_reports.specs.ClassFlags.{AreFlags}
+use Rattle.ls_race_reports.specs.Verdicts.{IsSureRace, IsUnknown}
 use Rattle.ls_race_reports.specs.Words.{kind_text}
-use Rattle.ls_races.specs.Races.{IsRaceOf}
-use Rattle.ls_races.specs.Volatile.{is_unsure, volatile_by}
+use Rattle.ls_races.specs.Volatile.{volatile_by}
 use Rattle.ls_races.specs.declared.finding.Race.{Race}
 use Rattle.ls_schedule.specs.Printing.{schedule_text}
 use Rattle.ls_schedule.specs.Reading.{schedule_of, thread_names}
@@ -29,10 +28,13 @@ pub record IsRaceFree (classes program : Text) : Type 0 where
   pub declared : AreFlags classes flags
   pub never : NeverMeets (volatile_by flags) (file_of image) (program_of image)
 
--- with this program it compiles, and nothing is said of it
-pub record IsNotSaid (classes program : Text) : Type 0 where
+-- with this program it compiles, and nothing is said of it, for a reason
+pub record IsNotSaid (states : ℕ) (classes program : Text) : Type 0 where
   pub image : Image
   pub compiles : Compiles classes program image
+  pub flags : List (List Bool)
+  pub declared : AreFlags classes flags
+  pub unknown : IsUnknown states flags (file_of image) (program_of image)
 
 -- With this program it compiles, and the last two steps of a run are accesses that race, on a field that no class with
 -- as many fields declares volatile, or on an element. These are the texts of the variable, of the context switches if
@@ -42,10 +44,8 @@ pub record IsRacedProgram (classes program : Text) (f : RaceFound) : Type 0 wher
   pub compiles : Compiles classes program image
   pub flags : List (List Bool)
   pub declared : AreFlags classes flags
-  pub told : List Kind
   pub race : Race
-  pub is_race : IsRaceOf (volatile_by flags) told (file_of image) (program_of image) race
-  pub sure : is_unsure flags race.on ≡ false
+  pub is_race : IsSureRace flags (file_of image) (program_of image) race
   pub on : string_bytes f.on ≡ kind_text (names_in image) flags race.on
   pub switches : string_bytes f.switches ≡ switches_text race.fewest race.schedule
   pub said : string_bytes f.schedule ≡ schedule_text (thread_names (program_of_image image)) race.schedule

@@ -20,7 +20,7 @@ use ls_family_search::{Judge, Judgement};
 use ls_fewest_switches::{SimpleRun, push_switches};
 use ls_find::exchanged_in;
 use ls_image::image::Image;
-use ls_race_reports::{first_sure, flags_in, is_free, kind_words, races_of};
+use ls_race_reports::{RaceVerdict, flags_in, kind_words, race_verdict};
 use ls_races::Race;
 use ls_schedule::print_schedule;
 use ls_text_laws::schedules_read_back;
@@ -100,17 +100,14 @@ fn judged(
 ) -> Result<Judgement<RaceWhy>, AllocError>
     ensures { IfOk result (λ j. (classes program : Text) → AreFlags classes (map (λ v. v.items) flags.now) →
         Compiles classes program image.now →
-        IsJudgement (IsRaceFree classes program) (IsNotSaid classes program) (IsRaceWhy classes program) j) }
+        IsJudgement (IsRaceFree classes program) (IsNotSaid states classes program) (IsRaceWhy classes program) j) }
 {
     schedules_read_back();
-    if is_free(alloc, image, states, flags)? {
-        return Ok(Judgement::Good);
-    }
-    let races = races_of(alloc, image, states, flags)?;
-    match first_sure(flags, races.races.as_slice()) {
-        None => Ok(Judgement::Cut),
-        Some(race) => {
-            let found = found_of(alloc, image, flags, race)?;
+    match race_verdict(alloc, image, states, flags)? {
+        RaceVerdict::Free => Ok(Judgement::Good),
+        RaceVerdict::Unknown => Ok(Judgement::Cut),
+        RaceVerdict::Raced(race) => {
+            let found = found_of(alloc, image, flags, &race)?;
             Ok(Judgement::Halt(RaceWhy::Raced(found)))
         }
     }
@@ -123,7 +120,7 @@ impl<'a> Judge for RaceExplorer<'a> {
 
     ghost IsGood = { λ e program. IsRaceFree e.classes.now program };
 
-    ghost IsCut = { λ e program. IsNotSaid e.classes.now program };
+    ghost IsCut = { λ e program. IsNotSaid e.states e.classes.now program };
 
     ghost Halts = { λ e program why. IsRaceWhy e.classes.now program why };
 

@@ -1,8 +1,9 @@
 // The data races of an image's program.
 
-ghost use Rattle.std.specs.Prelude.{◌≡◌, [], IfOk, IsTrue, map};
+ghost use Rattle.std.specs.Prelude.{◌≡◌, ◌≤◌, [], IfOk, IsTrue, map};
 ghost use Rattle.std.specs.Option.{option_copied};
 ghost use Rattle.ls_race_laws.specs.Meeting.{NeverMeets};
+ghost use Rattle.ls_races.specs.Extents.{IsRaceExtent};
 ghost use Rattle.ls_races.specs.Races.{AllAreOn, AreRaces, kinds_of};
 ghost use Rattle.ls_races.specs.Volatile.{volatile_by};
 ghost use Rattle.ls_translation.specs.Texts.{file_of, program_of};
@@ -20,11 +21,14 @@ pub fn races_of(
     states: usize,
     flags: &[Vec<bool>],
 ) -> Result<Races, AllocError>
+    requires room { 1 ≤ states }
     ensures races { IfOk result (λ r. AreRaces (volatile_by (map (λ v. v.items) flags.now)) [] (file_of image.now)
         (program_of image.now) r.races.items) }
     ensures none { IfOk result (λ r. IsTrue r.complete →
         AllAreOn (volatile_by (map (λ v. v.items) flags.now)) (kinds_of r.races.items) (file_of image.now)
         (program_of image.now)) }
+    ensures extent { IfOk result (λ r. IsRaceExtent (volatile_by (map (λ v. v.items) flags.now))
+        (kinds_of r.races.items) (file_of image.now) (program_of image.now) states r.states r.complete) }
 {
     let found = find_races(Scope {
         alloc,

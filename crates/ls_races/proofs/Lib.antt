@@ -3,5 +3,7 @@ mod Nexts
 mod Stepped
 mod Replayed
 mod Covering
+mod OneGraph
 mod Sights
 mod Told
+mod Extents

@@ -1,5 +1,5 @@
 -- Accesses that meet where a run leads to, and the race that they are.
-use Rattle.std.proofs.Common.{◌≡◌, ◌≤◌, ℕ, Bool, true, false, List, [], ◌∷◌, ◌++◌, Option, Some, length}
+use Rattle.std.proofs.Common.{◌≡◌, ◌≤◌, ◌<◌, ◌+◌, ℕ, Bool, true, false, List, [], ◌∷◌, ◌++◌, Option, Some, length}
 use Rattle.std.proofs.Common.{refl, sym, ap, ◌∙◌, subst}
 use Rattle.std.specs.Prelude.{◌||◌}
 use Rattle.ls_events.specs.Limits.{most_steps}
@@ -22,6 +22,7 @@ use Rattle.ls_race_laws.specs.Meeting.{MeetsAfter, access_by}
 use Rattle.ls_race_laws.proofs.Racing.{meetings_are_races}
 use Rattle.ls_races.specs.declared.finding.Race.{Race}
 use Rattle.ls_races.specs.declared.meetings.Met.{Met}
+use Rattle.ls_races.specs.Extents.{MeetsLate}
 use Rattle.ls_races.specs.Met.{AreNext, IsMet, IsNext, swapped}
 use Rattle.ls_races.specs.Races.{IsRaceBy, IsUntold}
 use Rattle.ls_races.specs.Sought.{IsMetAfter}
@@ -119,3 +120,16 @@ module _ (volatile : Volatile) (told : List Kind) (file : File) (program : Progr
         race = meetings_are_races volatile file program steps r.on meets.0;
         fewest = fewest;
       }
+
+  -- where a schedule has no room for both accesses, they meet too late
+  pub late_is : (m : Met) → IsMetAfter volatile told file program steps m → ActAll file program steps →
+      most_steps < length steps + 2 →
+      MeetsLate volatile told file program
+  late_is m is acts long = record {
+    before = steps;
+    acts = acts;
+    on = m.on;
+    meets = is.meets;
+    untold = is.untold;
+    long = long;
+  }

@@ -1,6 +1,6 @@
 -- What is told of a graph is told of schedules.
-use Rattle.std.proofs.Common.{◌≡◌, ◌∙◌, ℕ, Bool, true, List, Option, None, Some, Ok, Err, sym, subst}
-use Rattle.std.specs.Prelude.{IfOk, IfSome, Result}
+use Rattle.std.proofs.Common.{◌≡◌, ◌⊎◌, inl, inr, ◌∙◌, ℕ, Bool, true, List, Option, None, Some, Ok, Err, sym, subst}
+use Rattle.std.specs.Prelude.{IfNone, IfOk, IfSome, Result}
 use Rattle.ls_checked.specs.CheckedTree.{File}
 use Rattle.ls_checked.specs.CheckedProgram.{Program}
 use Rattle.ls_graph.specs.Costs.{costs}
@@ -27,11 +27,17 @@ module _ (volatile : Volatile) (told : List Kind) (file : File) (program : Progr
     fewest = λ known. least (costs Changes 0 is.before) (is.fewest known);
   }
 
-  pub sight_map : (F G : Type 0) → (F → G) → (sight : Sight) → IsSightBy F A volatile told file program sight →
-      IsSightBy G B volatile told file program sight
-  sight_map F G free sights.Free is = free is
-  sight_map F G free (sights.Met r) is = race_map r is
-  sight_map F G free sights.Cut is = is
+  pub sight_map : (F G : Type 0) → (F → G) → (C D : Type 0) → (C → D) → (sight : Sight) →
+      IsSightBy F C A volatile told file program sight →
+      IsSightBy G D B volatile told file program sight
+  sight_map F G free C D cut sights.Free is = free is
+  sight_map F G free C D cut (sights.Met r) is = race_map r is
+  sight_map F G free C D cut sights.Cut is = cut is
+
+-- one of two reasons is another
+pub cut_map : (A B C : Type 0) → (A → C) → A ⊎ B → C ⊎ B
+cut_map A B C so (inl a) = inl (so a)
+cut_map A B C so (inr b) = inr b
 
 module _ (volatile : Volatile) (told : List Kind) (file : File) (program : Program) (A : ℕ → Type 0) where
   -- where it is known what the steps before the accesses cost
@@ -58,3 +64,10 @@ module _ (volatile : Volatile) (told : List Kind) (file : File) (program : Progr
   known_at (Ok (Some r)) count P fewest same race p least = race_known count r (race p) (λ k. least (sym same ∙ k))
   known_at (Ok None) count P fewest same race p least = tt
   known_at (Err e) count P fewest same race p least = tt
+
+-- why there may be no race is known
+pub late_at : {X E : Type 0} (L P : Type 0) (result : Result (Option X) E) → IfOk result (λ o. IfNone o (P → L)) → P →
+    IfOk result (λ o. IfNone o L)
+late_at L P (Ok (Some r)) late p = tt
+late_at L P (Ok None) late p = late p
+late_at L P (Err e) late p = tt

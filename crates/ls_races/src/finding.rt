@@ -1,16 +1,20 @@
 // The data races of a program.
 
-ghost use Rattle.std.specs.Prelude.{◌≡◌, [], IfOk, IfSome, IsTrue, length, map};
+ghost use Rattle.std.specs.Prelude.{◌≡◌, ◌⊎◌, ◌≤◌, [], IfNone, IfOk, IfSome, IsTrue, length, map};
 ghost use Rattle.ls_checked.specs.Plain.{plain_file};
 ghost use Rattle.ls_checked.specs.PlainProgram.{plain_program};
 ghost use Rattle.ls_graph.specs.Costs.{costs};
 ghost use Rattle.ls_graph.specs.Graph.{IsWhole};
 ghost use Rattle.ls_graph.specs.Walks.{IsLeast};
+ghost use Rattle.ls_graph.specs.declared.closing.Halt.TheVariants.{Full};
 ghost use Rattle.ls_graph.specs.declared.costs.Counted.TheVariants.{Changes};
 ghost use Rattle.ls_race_laws.specs.Meeting.{NeverMeets};
+ghost use Rattle.ls_races.specs.Extents.{IsRaceExtent, MeetsLate};
 ghost use Rattle.ls_races.specs.Races.{AllAreOn, AreRaces, IsRaceBy, kinds_of};
-ghost use Rattle.ls_races.specs.Sought.{IsPlayed, IsRaceGraph, IsSight, IsSightBy};
+ghost use Rattle.ls_races.specs.Sought.{IsPlayed, IsRaceClosing, IsSight, IsSightBy};
 ghost use Rattle.ls_races.specs.Volatile.{volatile_by};
+ghost use Rattle.ls_search.specs.Objects.{most_objects};
+ghost use Rattle.ls_search.specs.Verdicts.{AreReached};
 
 use crate::playing::{Played, play_along, played_none};
 use crate::replaying::{met_after, numbered_of, play_both};
@@ -66,7 +70,8 @@ pub enum Sight {
     /// There is none on a variable of a kind that wasn't told.
     Free,
     Met(Race),
-    /// It isn't known, since there would be too many states.
+    /// It isn't known: there would be too many states, or the run to the accesses has more steps than a schedule may
+    /// have.
     Cut,
 }
 
@@ -85,7 +90,9 @@ const MOST_AT_ONCE: usize = 4096;
 
 /// How far the graph is found, and in which order.
 fn plan_of(scope: Scope<'_>, counted: Counted) -> Plan
-    ensures { result.actors ≡ length scope.entry.program.now.threads.items }
+    ensures actors { result.actors ≡ length scope.entry.program.now.threads.items }
+    ensures limit { result.bounds.limit ≡ scope.entry.limit }
+    ensures weight { result.bounds.weight ≡ most_objects }
 {
     Plan {
         alloc: scope.alloc,
@@ -106,9 +113,8 @@ fn closed<'x>(
     told: &'x [Kind],
     counted: Counted,
 ) -> Result<Closing<Kept>, AllocError>
-    ensures { IfOk result (λ c. IsRaceGraph (volatile_by (map (λ v. v.items) scope.entry.classes.now)) told.now
-        (plain_file scope.entry.file.now) (plain_program scope.entry.program.now) c.graph.edges.items
-        (length c.graph.found.nodes.items) c.looked.items) }
+    ensures { IfOk result (IsRaceClosing (volatile_by (map (λ v. v.items) scope.entry.classes.now)) told.now
+        (plain_file scope.entry.file.now) (plain_program scope.entry.program.now) scope.entry.limit) }
 {
     let plan = plan_of(scope, counted);
     let start = played_none(scope.alloc, scope.file, scope.program)?;
@@ -149,8 +155,9 @@ fn closed<'x>(
     Ok(closing)
 }
 
-/// The race after a run, if accesses meet there on a variable of a kind that wasn't told. It is told whether the run is
-/// known to have the fewest changes of thread.
+/// The race after a run, at which accesses meet on a variable of a kind that wasn't told. Answers nothing where a
+/// schedule has no room for them. It is told whether the run is known to have the fewest changes of thread. A refusal
+/// is that memory ran out, or that no accesses meet there.
 fn race_after(
     scope: Scope<'_>,
     told: &[Kind],
@@ -163,13 +170,17 @@ fn race_after(
         IsRaceBy (λ n. n ≡ costs Changes 0 played.entry.steps.items)
         (volatile_by (map (λ v. v.items) scope.entry.classes.now)) told.now (plain_file scope.entry.file.now)
         (plain_program scope.entry.program.now) r)) }
+    ensures late { IfOk result (λ o. IfNone o (
+        IsPlayed (plain_file scope.entry.file.now) (plain_program scope.entry.program.now) played.entry →
+        MeetsLate (volatile_by (map (λ v. v.items) scope.entry.classes.now)) told.now
+        (plain_file scope.entry.file.now) (plain_program scope.entry.program.now))) }
 {
     let Some(met) = met_after(scope, told, &played)? else {
-        return Ok(None);
+        return Err(AllocError);
     };
     let on = met.on;
     match play_both(scope.alloc, played, met)? {
-        None => Ok(None),
+        None => Err(AllocError),
         Some(after) => {
             if after.steps.len() > MOST_STEPS {
                 return Ok(None);
@@ -183,20 +194,23 @@ fn race_after(
     }
 }
 
-/// The race at the node at which a graph was left.
+/// The race at the node at which a graph was left. Answers nothing where a schedule has no room for its steps. A
+/// refusal is that memory ran out, or that the edges to the node lead to no accesses that meet.
 fn race_at_end(
     scope: Scope<'_>,
     told: &[Kind],
     closing: &Closing<Kept>,
 ) -> Result<Option<Race>, AllocError>
-    ensures { IfOk result (λ o. IfSome o (IsRaceBy (IsLeast Changes closing.now.graph.edges.items
+    ensures race { IfOk result (λ o. IfSome o (IsRaceBy (IsLeast Changes closing.now.graph.edges.items
         (length closing.now.graph.found.nodes.items) closing.now.looked.items)
         (volatile_by (map (λ v. v.items) scope.entry.classes.now)) told.now (plain_file scope.entry.file.now)
         (plain_program scope.entry.program.now))) }
+    ensures late { IfOk result (λ o. IfNone o (MeetsLate (volatile_by (map (λ v. v.items) scope.entry.classes.now))
+        told.now (plain_file scope.entry.file.now) (plain_program scope.entry.program.now))) }
 {
     let edges = edges_to_last(scope.alloc, closing)?;
     let Some(played) = play_along(scope.alloc, scope.file, scope.program, &edges)? else {
-        return Ok(None);
+        return Err(AllocError);
     };
     let spent = costs(Counted::Changes, &played.steps);
     let threads = scope.program.threads.len() as u8;
@@ -204,19 +218,23 @@ fn race_at_end(
     race_after(scope, told, played, fewest)
 }
 
-/// What a graph tells of races.
+/// What a graph tells of races. A refusal is that memory ran out, that a graph isn't whole though there is room, or
+/// that the edges to the node at which it was left lead to no accesses that meet. That none is so isn't proved.
 fn sight_of(scope: Scope<'_>, told: &[Kind], closing: &Closing<Kept>) -> Result<Sight, AllocError>
     ensures { IfOk result (IsSightBy
         (IsWhole (length closing.now.graph.found.nodes.items) closing.now.looked.items)
+        ((closing.now.halt ≡ Full) ⊎ MeetsLate (volatile_by (map (λ v. v.items) scope.entry.classes.now)) told.now
+        (plain_file scope.entry.file.now) (plain_program scope.entry.program.now))
         (IsLeast Changes closing.now.graph.edges.items (length closing.now.graph.found.nodes.items)
         closing.now.looked.items) (volatile_by (map (λ v. v.items) scope.entry.classes.now)) told.now
         (plain_file scope.entry.file.now) (plain_program scope.entry.program.now)) }
 {
     match closing.halt {
-        Halt::Full | Halt::Far => Ok(Sight::Cut),
+        Halt::Full => Ok(Sight::Cut),
+        Halt::Far => Err(AllocError),
         Halt::Closed => {
             if !is_whole(closing) {
-                return Ok(Sight::Cut);
+                return Err(AllocError);
             }
             Ok(Sight::Free)
         }
@@ -234,10 +252,14 @@ struct Looked {
     states: usize,
 }
 
-/// Looks for a race on a variable of a kind that wasn't told.
+/// Looks for a race on a variable of a kind that wasn't told. The refusals are those of `sight_of`.
 fn look(scope: Scope<'_>, told: &[Kind]) -> Result<Looked, AllocError>
-    ensures { IfOk result (λ l. IsSight (volatile_by (map (λ v. v.items) scope.entry.classes.now)) told.now
-        (plain_file scope.entry.file.now) (plain_program scope.entry.program.now) l.sight) }
+    requires room { 1 ≤ scope.limit }
+    ensures sight { IfOk result (λ l. IsSight (volatile_by (map (λ v. v.items) scope.entry.classes.now)) told.now
+        (plain_file scope.entry.file.now) (plain_program scope.entry.program.now) scope.entry.limit l.states l.sight) }
+    ensures reached { IfOk result (λ l. AreReached (plain_file scope.entry.file.now)
+        (plain_program scope.entry.program.now) 0 l.states) }
+    ensures few { IfOk result (λ l. l.states ≤ scope.entry.limit) }
 {
     let closing = closed(&Mute, scope, told, Counted::Changes)?;
     let sight = sight_of(scope, told, &closing)?;
@@ -248,14 +270,21 @@ fn look(scope: Scope<'_>, told: &[Kind]) -> Result<Looked, AllocError>
 }
 
 /// The data races of a program, one for each kind of variable on which accesses meet, the simplest first. If they are
-/// complete, accesses meet on variables of no other kind, after no schedule of any length. At most so many states are
-/// kept at once. A refusal is that memory ran out, or that a store, a work or a state has no number left.
+/// complete, accesses meet on variables of no other kind, after no schedule of any length. If they aren't, so many
+/// states were kept as may be, or they have over 4,194,304 objects together, or accesses meet after more steps than a
+/// schedule may have. A refusal is that memory ran out, or that a store, a work or a state has no number left. A graph
+/// that isn't whole though there is room is refused too, and so is one whose edges to accesses that meet lead to none.
+/// That none is so isn't proved.
 pub fn find_races(scope: Scope<'_>) -> Result<Races, AllocError>
+    requires room { 1 ≤ scope.limit }
     ensures races { IfOk result (λ r. AreRaces (volatile_by (map (λ v. v.items) scope.entry.classes.now)) []
         (plain_file scope.entry.file.now) (plain_program scope.entry.program.now) r.races.items) }
     ensures none { IfOk result (λ r. IsTrue r.complete →
         AllAreOn (volatile_by (map (λ v. v.items) scope.entry.classes.now)) (kinds_of r.races.items)
         (plain_file scope.entry.file.now) (plain_program scope.entry.program.now)) }
+    ensures extent { IfOk result (λ r. IsRaceExtent (volatile_by (map (λ v. v.items) scope.entry.classes.now))
+        (kinds_of r.races.items) (plain_file scope.entry.file.now) (plain_program scope.entry.program.now)
+        scope.entry.limit r.states r.complete) }
 {
     let mut races = Vec::new(scope.alloc);
     let mut told: Vec<Kind> = Vec::new(scope.alloc);
@@ -282,11 +311,7 @@ pub fn find_races(scope: Scope<'_>) -> Result<Races, AllocError>
             }
         }
     }
-    Ok(Races {
-        races,
-        states: 0,
-        complete: false,
-    })
+    Err(AllocError)
 }
 
 /// Whether accesses of a program meet after no schedule of any length. True only where that is so; false also where

@@ -7,7 +7,6 @@ ghost use Rattle.ls_races.specs.Sought.{IsPlayed};
 
 use ls_checked::program::Program;
 use ls_checked::tree::File;
-use ls_events::schedule::MOST_STEPS;
 use ls_graph::closing::Edge;
 use ls_meaning::step::has_acted;
 use ls_source::playing::Playing;
@@ -56,8 +55,7 @@ pub fn play_one<'a>(
     Ok(Some(Played { playing, steps }))
 }
 
-/// The steps of an edge more, with those at once after the first. Answers nothing where one doesn't act, or where there
-/// are too many.
+/// The steps of an edge more, with those at once after the first. Answers nothing where one doesn't act.
 fn play_edge<'a>(
     alloc: Global,
     played: Played<'a>,
@@ -68,9 +66,6 @@ fn play_edge<'a>(
 {
     let mut played = played;
     for _ in 0..edge.mark.saturating_add(1) {
-        if played.steps.len() >= MOST_STEPS {
-            return Ok(None);
-        }
         match play_one(alloc, played, edge.actor)? {
             None => return Ok(None),
             Some(after) => played = after,
@@ -79,7 +74,7 @@ fn play_edge<'a>(
     Ok(Some(played))
 }
 
-/// The run along edges. Answers nothing where a step doesn't act, or where there are too many.
+/// The run along edges. Answers nothing where a step doesn't act.
 pub fn play_along<'a>(
     alloc: Global,
     file: &'a File,

@@ -106,7 +106,8 @@ module _ (file : File) (program : Program) where
   not_silent (u ∷ path) schedule (inr h) silent =
       let go = step_stride file program (source_run file program schedule) (long_of_all file program schedule) u in
       not_silent path (schedule ++ u ∷ [])
-      (subst (Sounds file path) (sym go.1 ∙ ap (configuration_of file program) (sym (one_more file program schedule u).state))
+      (subst (Sounds file path) (sym go.1 ∙ ap (configuration_of file program)
+      (sym (one_more file program schedule u).state))
       h)
       (λ more.
       ap (source_history file program) (append_assoc schedule (u ∷ []) more)
@@ -123,7 +124,8 @@ module _ (file : File) (program : Program) where
       (subst (λ (k : Configuration). LeadsTo at_once file k ts last) (run_after file program schedule t) leads.1)
 
   -- what is longer turns too
-  pub turns_later : (schedule ts : List ℕ) → TurnsForEver file program schedule → TurnsForEver file program (schedule ++ ts)
+  pub turns_later : (schedule ts : List ℕ) → TurnsForEver file program schedule → TurnsForEver file program
+      (schedule ++ ts)
   turns_later schedule ts h = record {
     acts = λ more.
         subst (λ (l : List ℕ). (t : ℕ) × IsActing (step file program (source_run file program l) t).did)

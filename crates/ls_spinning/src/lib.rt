@@ -6,7 +6,7 @@ mod finding;
 mod leading;
 pub mod mute;
 mod sounding;
-mod states;
+pub mod states;
 
 pub use confirming::turns_after;
-pub use finding::{Turning, find_turning};
+pub use finding::{Turning, find_turning, states_of, turning_in};

@@ -107,9 +107,10 @@ pub(crate) fn loud_of<'a>(
     requires there { AreThere (table_of transitions.old) graph.now.found.nodes.items }
     requires within { (i : ℕ) (e : EdgeValue) → slice_get graph.now.edges.items i ≡ Some e →
         e.from < length graph.now.found.nodes.items }
-    ensures { IfOk result (λ marks. AreLoud (table_of transitions.old).file
+    ensures loud { IfOk result (λ marks. AreLoud (table_of transitions.old).file
         (places_of (table_of transitions.old) graph.now.found.nodes.items) graph.now.edges.items
         (length graph.now.edges.items) marks.items) }
+    ensures grows { OnOk result (Grows (table_of transitions.old) (table_of transitions.new)) }
 {
     let mut marks = Vec::new(alloc);
     for edge in &graph.edges {

@@ -15,5 +15,6 @@ returns c = λ whole schedule on m.
     let volatile = volatile_by (map (λ v. v.items) c.args.scope.classes.now) in
     let closing = c.in_ok-closing.closing in
     races_none volatile [] (plain_file c.args.scope.file.now) (plain_program c.args.scope.program.now)
-    closing.graph.edges.items (length closing.graph.found.nodes.items) closing.looked.items c.in_ok-closing.ensures
+    closing.graph.edges.items (length closing.graph.found.nodes.items) closing.looked.items
+    c.in_ok-closing.ensures.graph
     (c.is_whole.ensures whole) schedule on m (λ i k at. nothing_told k on at)

@@ -19,7 +19,7 @@ returns c = λ all.
     let file : File = plain_file c.args.scope.file.now in
     let program : Program = plain_program c.args.scope.program.now in
     turning file program c.args.steps.now c.in_ok-led.led c.in_ok-led.ensures
-    (c.is_whole.ensures c.if-not-is_whole.false) c.in_ok-loud.loud.items c.in_ok-loud.ensures
+    (c.is_whole.ensures c.if-not-is_whole.false) c.in_ok-loud.loud.items c.in_ok-loud.ensures.loud
     (λ i e here.
     c.are_single.ensures c.if-not-are_single.false i e
     (ap (λ (l : List Edge). slice_get l i) c.deref.ensures.value ∙ here)) c.in_ok-left.left.items c.in_ok-left.ensures
