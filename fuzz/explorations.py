@@ -24,7 +24,7 @@ WAITS = re.compile(rb"(?m)^(\w+)\.\d+( waits for .*)$")
 VERDICT = re.compile(rb"(, (legal|illegal|not judged))?(, (not )?linearizable)?$")
 # how a row may end of itself, if no thread waits and if one does
 ENDS = (b"ended", b"out of cells", b"goes on", b"not seen"), (b"out of cells", b"goes on", b"not seen")
-END = re.compile(rb"states (\d+) histories (\d+)( illegal (\d+))?( not linearizable (\d+))? (complete|cut)( .*)?\n")
+END = re.compile(rb"states (\d+) histories (\d+)( illegal (\d+))?( not linearizable (\d+))? (complete|cut)([: ].*)?\n")
 
 
 def lines(text):

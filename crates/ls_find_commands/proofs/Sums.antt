@@ -138,7 +138,8 @@ figures_add before mid to count ps qs is =
     sym (sum_by-append (λ x. cond (is_cut x) 1 0) ps qs) in
     let f : first_of (count_by is_cut ps) (number_after before (position is_cut ps))
     (number_after mid (position is_cut qs)) ≡ number_after before (position is_cut (ps ++ qs)) =
-    ap (λ n. first_of (count_by is_cut ps) (number_after before (position is_cut ps)) (number_after n (position is_cut qs)))
+    ap (λ n. first_of (count_by is_cut ps) (number_after before (position is_cut ps))
+    (number_after n (position is_cut qs)))
     (sym is) ∙ sym (first_in_both before ps qs) in
     λ i. record { from = before + 1; to = to; count = count; doubles = d i; cut = c i; first = f i }
 

@@ -10,7 +10,8 @@ use Rattle.ls_find_commands.specs.Found.{IsWhole, smallest}
 
 -- it is said of the programs of the class with 1 for each int, and printed so
 pub whole_is : (o small : Choosing) (sought : Sought) (classes : Text) (menu : Option Text) (p q : Programs)
-    (making : Text) (calls : List Text) (said text printed : Text) → small ≡ smallest o → AreProgramsOf small classes menu p → q ≡ p →
+    (making : Text) (calls : List Text) (said text printed : Text) → small ≡ smallest o → AreProgramsOf small classes
+    menu p → q ≡ p →
     making ≡ q.making → calls ≡ q.calls → RunsAlone sought classes making calls said → text ≡ said →
     printed ≡ whole_text text → IsWhole o sought classes menu printed
 whole_is o small sought classes menu p q making calls said text printed is_small of_class same makes are alone shows

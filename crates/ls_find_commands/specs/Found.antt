@@ -32,7 +32,8 @@ use Rattle.ls_find_reports.specs.Printing.{figures_of, found_text, none_text}
 use Rattle.ls_find_reports.specs.declared.figures.Figures.{Figures}
 use Rattle.ls_report.specs.Events.{Text}
 use Rattle.ls_find_commands.specs.Lacking.{IsFirstFault, IsNoReference, LacksNone, no_calls}
-use Rattle.ls_find_commands.specs.Racing.{IsBeside, race_halted_answer}
+use Rattle.ls_find_commands.specs.Besides.{AreBeside}
+use Rattle.ls_find_commands.specs.Racing.{race_halted_answer}
 use Rattle.ls_find_commands.specs.declared.command.Range.{Range}
 
 -- no program, of so many, has the first number, or the last comes before it
@@ -68,13 +69,13 @@ answer_beside before to count ps (Some h) beside = halted_answer before to count
 abbrev pub AreAllNumbers : Range → Type 0
 AreAllNumbers r = (r.from ≡ 1) × (1000000 ≤ r.to)
 
--- data races are told beside `none` where no range is asked for
+-- more is said beside `none` where no range is asked for
 abbrev pub IsAskedBeside : Range → Option (Halted Why) → Bool → Type 0
 IsAskedBeside r halted asked = (asked ≡ true) ↔ (AreAllNumbers r × (halted ≡ None))
 
 -- What is found among programs: what a search of the numbers of a range says, by a reference if one is given. Each
 -- program that it has passed is good for what is looked for, if none up to that one is cut. Beside `none` it is said
--- what a search for data races says; or such a search alone is asked for.
+-- what calls do that run one at a time, and what a search for data races says; or such a search alone is asked for.
 pub data FindsIn (reference : Option Text) (classes : Text) (p : Programs) (r : Range) : Result Text ToolFault → Type 0
   where
     NoNumbers : IsBadRange r (length (plans p.family)) → FindsIn reference classes p r (Err faults.BadNumbers)
@@ -84,14 +85,14 @@ pub data FindsIn (reference : Option Text) (classes : Text) (p : Programs) (r : 
         IsFound r.sought r.states reference classes p (r.from - 1) (min r.to (length (plans p.family))) f →
         PassedAreSound r.sought reference classes p (r.from - 1) f →
         IsAskedBeside r f.halted asked →
-        IsBeside asked classes p beside →
+        AreBeside asked r.states classes p beside →
         FindsIn reference classes p r
         (answer_beside (r.from - 1) (min r.to (length (plans p.family))) (length (plans p.family)) f.passed.items
         f.halted beside)
     Raced : (f : Finding RaceWhy) →
         ¬ IsBadRange r (length (plans p.family)) →
         r.races ≡ true →
-        IsRaceFinding classes p (r.from - 1) (min r.to (length (plans p.family))) f →
+        IsRaceFinding r.states classes p (r.from - 1) (min r.to (length (plans p.family))) f →
         PassedAreFree classes p (r.from - 1) f →
         FindsIn reference classes p r
         (race_halted_answer (r.from - 1) (min r.to (length (plans p.family))) (length (plans p.family)) f.passed.items

@@ -2,3 +2,4 @@ pub mod Found
 pub mod Ranges
 pub mod Lacking
 pub mod Racing
+pub mod Besides

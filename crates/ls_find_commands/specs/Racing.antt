@@ -1,6 +1,6 @@
 -- What is found of the data races of a class's programs, and what is said of them beside `none`.
-use Rattle.std.specs.Prelude.{◌≡◌, ◌↔◌, ◌⊎◌, ℕ, zero, suc, ◌+◌, Bool, true, false, List, [], ◌++◌, Option, Some, None}
-use Rattle.std.specs.Prelude.{Result, Ok, Err, codes, count_by, length, string_bytes}
+use Rattle.std.specs.Prelude.{◌≡◌, ◌↔◌, ◌⊎◌, ℕ, ◌+◌, Bool, true, false, List, [], ◌++◌, Option, Some, None}
+use Rattle.std.specs.Prelude.{Result, Ok, Err, codes, count_by, length, nat_eq, string_bytes}
 use Rattle.std.specs.Fmt.{decimal}
 use Rattle.std.specs.Str.Iter.{HasSubslice}
 use Rattle.ls_families.specs.Families.{plans}
@@ -16,6 +16,7 @@ use Rattle.ls_find_races.specs.declared.explorer.RaceWhy.{RaceWhy}
 use Rattle.ls_find_races.specs.declared.explorer.RaceWhy.TheVariants as whys
 use Rattle.ls_find_reports.specs.Printing.{figures_of, found_text, is_cut, none_text}
 use Rattle.ls_find_reports.specs.declared.figures.Figures.{Figures}
+use Rattle.ls_race_reports.specs.Beside.{free_line, raced_line}
 use Rattle.ls_report.specs.Events.{Text}
 
 -- ---- races looked for
@@ -38,19 +39,13 @@ race_halted_answer before to count ps (Some h) =
 
 -- ---- races told beside `none`
 
--- No race is found: so it is of all programs, or of what was explored where so many are cut. A `tryLock()` that fails
--- sees its lock; the API promises nothing of one.
+-- no race is found: so it is of all programs, or of what was explored where so many are cut
 abbrev pub free_text : Bool → ℕ → Text
-free_text tries (suc cut) = codes "// no data race in what was explored\n"
-free_text true zero =
-    codes "// no data race, if a tryLock() that fails sees what the owner of its lock did before it took the lock\n"
-free_text false zero = codes "// no data race: Java allows no other history\n"
+free_text tries cut = free_line (nat_eq cut 0) tries
 
 -- the program of a number has this race
 abbrev pub raced_text : ℕ → RaceFound → Text
-raced_text number f =
-    codes "// data race on " ++ (string_bytes f.on ++ (codes " in number " ++ (decimal number ++
-    codes ": Java allows more than is shown here\n")))
+raced_text number f = raced_line (string_bytes f.on) (codes " in number " ++ decimal number)
 
 abbrev pub race_text : ℕ → RaceWhy → Text
 race_text number (whys.Raced f) = raced_text number f
@@ -60,12 +55,12 @@ abbrev pub beside_text : Bool → List Passed → Option (Halted RaceWhy) → Te
 beside_text tries ps None = free_text tries (count_by is_cut ps)
 beside_text tries ps (Some h) = race_text (length ps + 1) h.halt
 
--- What a search of all programs for races says, if it is asked; else nothing.
-pub data IsBeside (asked : Bool) (classes : Text) (p : Programs) : Text → Type 0 where
-  Silent : asked ≡ false → IsBeside asked classes p []
+-- What a search of all programs for races says, if it is asked, where so many states of each may be kept; else nothing.
+pub data IsBeside (asked : Bool) (states : ℕ) (classes : Text) (p : Programs) : Text → Type 0 where
+  Silent : asked ≡ false → IsBeside asked states classes p []
   Says : (tries : Bool) (f : Finding RaceWhy) →
       asked ≡ true →
       (tries ≡ true) ↔ HasSubslice classes (codes "tryLock") →
-      IsRaceFinding classes p 0 (length (plans p.family)) f →
+      IsRaceFinding states classes p 0 (length (plans p.family)) f →
       PassedAreFree classes p 0 f →
-      IsBeside asked classes p (beside_text tries f.passed.items f.halted)
+      IsBeside asked states classes p (beside_text tries f.passed.items f.halted)

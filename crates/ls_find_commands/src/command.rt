@@ -10,9 +10,10 @@ ghost use Rattle.ls_items.specs.Cutting.{plain_text};
 ghost use Rattle.ls_find_commands.specs.Found.{FindsIn, FindsTo, IsAskedBeside, IsBadRange, PrintsTo};
 ghost use Rattle.ls_find_commands.specs.Found.{answer_beside, why_answer};
 
+use crate::besides::said_beside;
 use crate::menus::{Texts, programs_for};
 use crate::noting::searched;
-use crate::racing::{beside, told_finding};
+use crate::racing::told_finding;
 use crate::whole::{are_all_numbers, at_once};
 use ls_class_programs::Choosing;
 use ls_explore::{ExploreFault, MOST_STATES, Watch};
@@ -132,7 +133,7 @@ fn numbers_of(range: Range, count: u64) -> Numbers
     }
 }
 
-/// Whether data races are told beside `none`: where none is found, and no range is asked for.
+/// Whether more is said beside `none`: where none is found, and no range is asked for.
 fn is_asked_beside(range: Range, finding: &Finding<Why>) -> bool
     ensures { IsAskedBeside range finding.now.halted result }
 {
@@ -142,7 +143,7 @@ fn is_asked_beside(range: Range, finding: &Finding<Why>) -> bool
     }
 }
 
-/// What is found among programs of a class text, and what is said of data races beside `none`.
+/// What is found among programs of a class text, and what is said beside `none`.
 fn found<W: Watch>(
     rt: &(impl Threads + Sync),
     alloc: Global,
@@ -172,7 +173,7 @@ fn found<W: Watch>(
         classes: texts.classes,
         states: range.states,
     };
-    let said = beside(rt, alloc, asked, &races, programs, watch)?;
+    let said = said_beside(rt, alloc, asked, &races, programs, watch)?;
     finding_text(alloc, from, to, count, finding, said.as_str())
 }
 
@@ -235,7 +236,8 @@ fn found_in<W: Watch>(
 /// If no range is asked for and no reference is given, each call of the class runs alone, under one lock, and that
 /// decides what is looked for, this is said at once, whatever the bounds.
 ///
-/// If no range is asked for and none is found, a line says of data races what a search for them says: that there is
+/// If no range is asked for and none is found, lines say of calls that run one at a time in how many programs one
+/// throws or never ends, and in which first. A last line says of data races what a search for them says: that there is
 /// none, or the first program with one and the variable. If data races are looked for, nothing else is: the first
 /// program with one is found, and a schedule whose last two steps are the accesses.
 ///

@@ -1,6 +1,7 @@
 //! The command `find`: what it says of a class text.
 #![tactic(auto)]
 
+mod besides;
 mod command;
 mod lacking;
 pub mod laws;

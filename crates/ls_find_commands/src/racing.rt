@@ -84,27 +84,16 @@ pub(crate) fn told_finding(
 fn free_words(tries: bool, cut: u64) -> &'static str
     ensures { result.now ≡ free_text tries cut }
 {
-    if cut > 0 {
-        return "// no data race in what was explored\n";
-    }
-    if tries {
-        return "// no data race, if a tryLock() that fails sees what the owner of its lock did before it took the \
-                lock\n";
-    }
-    "// no data race: Java allows no other history\n"
+    ls_race_reports::free_words(cut == 0, tries)
 }
 
 /// What is said of the program of a number with this race.
 fn raced_words(alloc: Global, number: u64, found: &RaceFound) -> Result<String, AllocError>
     ensures { IfOk result (λ text. string_bytes text ≡ raced_text number found.now) }
 {
-    let on = found.on.as_str();
-    let mut text = String::new(alloc);
-    write!(
-        text,
-        "// data race on {on} in number {number}: Java allows more than is shown here\n"
-    )?;
-    Ok(text)
+    let mut place = String::new(alloc);
+    write!(place, " in number {number}")?;
+    ls_race_reports::raced_words(alloc, found.on.as_str(), place.as_str())
 }
 
 /// What is said of the program of a number with which a search for races ends.
@@ -142,7 +131,7 @@ pub(crate) fn beside<W: Watch>(
     watch: &mut W,
 ) -> Result<String, AllocError>
     ensures beside { IfOk result (λ text.
-        IsBeside asked explorer.now.classes.now programs.now (string_bytes text)) }
+        IsBeside asked explorer.now.states explorer.now.classes.now programs.now (string_bytes text)) }
     ensures watched { GoesOn W.Since watch.old watch.new }
 {
     if !asked {

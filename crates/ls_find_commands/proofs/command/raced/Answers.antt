@@ -21,7 +21,8 @@ finding_text-requires-clause-last g c =
     let f = c.in_ok-finding.finding in
     let within : c.numbers_of-numbers.result.to ≤ length (plans c.args.programs.now.family) =
     omega (arith, many, c.numbers_of-numbers.ensures.there) in
-    let last = last_within c.args.programs.now (IsRaceFree classes) (IsNotSaid classes) (IsRaceWhy classes)
+    let last = last_within c.args.programs.now (IsRaceFree classes) (IsNotSaid c.args.range.states classes) (IsRaceWhy
+    classes)
     c.numbers_of-numbers.result.from c.numbers_of-numbers.result.to f c.in_ok-finding.ensures.finding within in
     omega (arith, last, many, c.count-count.type_inv, ap length c.in_ok-shown.ensures.passed)
 
@@ -30,7 +31,8 @@ finding_text-requires-clause-next g c =
     let many = c.count-count.ensures ∙ ap (λ (f : Family). length (plans f)) c.family.ensures in
     let classes = c.args.texts.classes.now in
     let f = c.in_ok-finding.finding in
-    let next = next_under c.args.programs.now (IsRaceFree classes) (IsNotSaid classes) (IsRaceWhy classes)
+    let next = next_under c.args.programs.now (IsRaceFree classes) (IsNotSaid c.args.range.states classes) (IsRaceWhy
+    classes)
     c.numbers_of-numbers.result.from c.numbers_of-numbers.result.to f c.in_ok-finding.ensures.finding
     (omega (arith, many, c.count-count.type_inv)) in
     subst (λ (xs : List Passed). IfSome c.in_ok-shown.shown.halted
@@ -49,8 +51,9 @@ returns-clause-gives g c =
     let from = c.numbers_of-numbers.ensures.from in
     let to : c.numbers_of-numbers.result.to ≡ min r.to (length (plans p.family)) =
     c.numbers_of-numbers.ensures.to ∙ ap (min r.to) many in
-    let found = subst (λ n. IsRaceFinding classes p (r.from - 1) n f) to
-    (subst (λ n. IsRaceFinding classes p n c.numbers_of-numbers.result.to f) from c.in_ok-finding.ensures.finding) in
+    let found = subst (λ n. IsRaceFinding r.states classes p (r.from - 1) n f) to
+    (subst (λ n. IsRaceFinding r.states classes p n c.numbers_of-numbers.result.to f) from
+    c.in_ok-finding.ensures.finding) in
     let free = subst (λ n. PassedAreFree classes p n f) from c.in_ok-finding.ensures.good in
     let F = c.numbers_of-numbers.result.from in
     let T = c.numbers_of-numbers.result.to in

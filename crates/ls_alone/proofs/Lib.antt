@@ -1,0 +1,2 @@
+pub mod ThrownCalls
+pub mod Ending

@@ -1,0 +1,4 @@
+pub mod Alone
+pub mod Words
+pub mod Thrown
+pub mod Ends

@@ -1,0 +1,90 @@
+#!/usr/bin/env python3
+"""alone [--program P] [--seed N] [--count N]: whether `find` counts rightly in which programs a call throws, or never ends, one at a time.
+
+Each case is a small class of `races.py`. Of it all programs with two threads of one call, and at most a call in the setup, are gone
+through. Their orders of whole calls are run by `trace`, one call after another, so no search is asked for them. Where `find` says `none`,
+the lines below it must count the programs in which a call ends by an exception, and those in which one never ends. They must name the
+first number of these, and a call that is so in its program. Ends with status 1 if something is wrong."""
+import argparse
+import collections
+import random
+import re
+import sys
+
+from races import Case
+from tool import PROGRAM, joined, keep, run
+
+ALONE = 400
+BOUNDS = ["--calls", "1", "--setup", "1"]
+TRACED = re.compile(r"\d+ (\w+)\.(\d+) (call|return|trap)\b ?(.*)")
+LINE = re.compile(r"// in (at least )?(\d+) a call (throws|never ends) when calls run one at a time: number (\d+), (.*)")
+
+
+def ran(program, text, schedule):
+    """The calls of a schedule, each with its end if it has ended: its thread, its words, what ended it, and the answer."""
+    calls = {}
+    for line in run(program, ["trace"], joined(text, f"{schedule}\n".encode()), seconds=60).out.decode().split("\n"):
+        event = TRACED.match(line)
+        if event and event[3] == "call":
+            calls[event[1], event[2]] = [event[1], event[4], None, None]
+        elif event:
+            calls[event[1], event[2]][2:] = event[3], event[4]
+    return list(calls.values())
+
+
+def faults(program, text):
+    """What calls are told that end by an exception in some order of whole calls, and that never end."""
+    throws, endless, left = set(), set(), [(f"setup*{ALONE}", ("A", "B"))]
+    while left:
+        schedule, threads = left.pop()
+        calls = ran(program, text, schedule)
+        throws |= {f"{words}, {answer}" for _, words, end, answer in calls if end == "trap"}
+        pending = {words for _, words, end, _ in calls if end is None}
+        endless |= pending
+        if not pending and not any(thread == "setup" and end == "trap" for thread, _, end, _ in calls):
+            left += [(f"{schedule} {thread}*{ALONE}", tuple(it for it in threads if it != thread)) for thread in threads]
+    return {"throws": throws, "never ends": endless}
+
+
+def tried(program, case):
+    """What is wrong with what is said of a class, or None; and a word on it."""
+    classes = case.text.encode()
+    told = run(program, ["find", *BOUNDS], classes, seconds=120).out.decode().split("\n")
+    if told[0] != "// none":
+        return None, "not none"
+    count = int(re.search(r" of (\d+) with ", told[1])[1])
+    said = {it[3]: it for it in map(LINE.fullmatch, told) if it}
+    if any(it[1] for it in said.values()):
+        return None, "not known"
+    programs = [run(program, ["find", "--print", str(n), *BOUNDS], classes).out for n in range(1, count + 1)]
+    all_faults = [faults(program, joined(classes, it)) for it in programs]
+    for kind in ("throws", "never ends"):
+        numbers = [n for n, it in enumerate(all_faults, 1) if it[kind]]
+        line = said.get(kind)
+        if bool(line) != bool(numbers):
+            return f"says {line and line[0]!r}, and a call {kind} in {numbers}", ""
+        if line and ((int(line[2]), int(line[4])) != (len(numbers), numbers[0]) or line[5] not in all_faults[numbers[0] - 1][kind]):
+            return f"says {line[0]!r}, and a call {kind} in {numbers}, first {sorted(all_faults[numbers[0] - 1][kind])}", ""
+    return None, " and ".join(sorted(said)) or "no fault"
+
+
+def main():
+    reader = argparse.ArgumentParser(description=__doc__)
+    reader.add_argument("--program", default=PROGRAM)
+    reader.add_argument("--seed", type=int, default=1)
+    reader.add_argument("--count", type=int, default=100)
+    options = reader.parse_args()
+    counts = collections.Counter()
+    for number in range(options.count):
+        case = Case(random.Random(options.seed * 1_000_000 + number))
+        wrong, word = tried(options.program, case)
+        counts["wrong" if wrong else word] += 1
+        if wrong:
+            print(f"{number}: {wrong}", flush=True)
+            keep(f"alone_{options.seed}_{number}", ["find", *BOUNDS], case.text.encode(), wrong, "all orders of whole calls")
+    print(f"{options.count} classes: " + ", ".join(f"{name} {count}" for name, count in sorted(counts.items())))
+    return 1 if counts["wrong"] else 0
+
+
+if __name__ == "__main__":
+    sys.exit(main())
