@@ -1,5 +1,6 @@
 -- What the command line may be, and what it asks for.
-use Rattle.std.specs.Prelude.{◌≡◌, ◌||◌, ℕ, Bool, true, false, not, is_some, List, [], ◌∷◌, map, codes, Option, Some, None}
+use Rattle.std.specs.Prelude.{◌≡◌, ◌||◌, ℕ, Bool, true, false, not, is_some, List, [], ◌∷◌, map, codes, Option, Some}
+use Rattle.std.specs.Prelude.{None}
 use Rattle.std.specs.Prelude.{Result, Ok, Err, bytes_eq, if◌then◌else◌}
 use Rattle.std.specs.Option.{option_map_or}
 use Rattle.std.specs.Str.Parse.{digits_value, without_leading_plus}
@@ -144,6 +145,7 @@ explore_line =
     (with_rule
     (with_rule
     (with_rule
+    (with_rule
     (with_rule (with_explain (codes "explore")) cells_rule)
     (number_rule false (codes "states")))
     (flag_rule (codes "illegal")))
@@ -152,6 +154,7 @@ explore_line =
     (flag_rule (codes "progress")))
     (flag_rule (codes "verdict")))
     (flag_rule (codes "races")))
+    (flag_rule (codes "ends")))
     spec_rule
 
 abbrev pub bounds_line : App
@@ -287,10 +290,13 @@ abbrev pub is_mixed : List Row → Bool
 is_mixed rows = is_some (number_asked (codes "cells") rows) || (flag_of (codes "illegal") rows ||
     (flag_of (codes "first") rows || (flag_of (codes "order") rows || flag_of (codes "progress") rows)))
 
--- the histories of all schedules, or a wrong run alone, or a run with a data race
+-- the histories of all schedules, or a wrong run alone, or a run with a data race, or whether calls end
 abbrev pub asked_explore : List Row → Request
 asked_explore rows =
-    if flag_of (codes "races") rows
+    if flag_of (codes "ends") rows
+    then requests.Ends (number_of (codes "states") 1000000 rows)
+    (is_mixed rows || (flag_of (codes "verdict") rows || flag_of (codes "races") rows))
+    else if flag_of (codes "races") rows
     then requests.Races (number_of (codes "states") 1000000 rows) (is_mixed rows || flag_of (codes "verdict") rows)
     else if flag_of (codes "verdict") rows
     then requests.Verdict (number_of (codes "states") 1000000 rows) (is_mixed rows)

@@ -87,6 +87,12 @@ pub(crate) fn explore_command<'a>(alloc: Global) -> Result<Command<'a>, AllocErr
         "prints the simplest run with a data race alone, or that there is none; as many states as --verdict",
     );
     let command = with_option(command, races);
+    let ends = flag_option(
+        alloc,
+        "ends",
+        "tells of each call alone whether it ends whatever other threads do; where it may not, a run that goes round",
+    );
+    let command = with_option(command, ends);
     with_reference(alloc, command)
 }
 
@@ -100,7 +106,8 @@ fn bounds_command<'a>(alloc: Global) -> Result<Command<'a>, AllocError>
         "find",
         "Finds the first small program of a class that isn't linearizable, or whose threads wait or turn for ever",
         "Standard input is a class text. As a second part, after a line %%, it may have a menu in place of the class's \
-         methods. A line of it has calls that stand together, as lock(#); unlock(#), where # is the thread's number:\n  \
+         methods. A line of it has calls that stand together, as lock(#);
+         unlock(#), where # is the thread's number:\n  \
          printf 'class C { int n; int next() { n = n + 1; return n; } }' | listset find",
     );
     let threads = number_option(

@@ -166,6 +166,12 @@ pub enum Request {
         /// Whether an option is given that goes with the histories or with a wrong run.
         mixed: bool,
     },
+    /// Whether calls end, by the states of the source: the most that are kept.
+    Ends {
+        states: u64,
+        /// Whether an option is given that goes with the histories, with a wrong run or with a data race.
+        mixed: bool,
+    },
     /// The first program of a class that isn't good for what is looked for.
     Find(Seeking),
     /// The number that the counts are to come to, if one is wanted.
@@ -389,7 +395,12 @@ fn asked_explore(options: &ArgMatches<'_>) -> Request
 {
     let states = number(options, "states", STATES);
     let verdict = flag(options, "verdict");
-    if flag(options, "races") {
+    let races = flag(options, "races");
+    if flag(options, "ends") {
+        let mixed = is_mixed(options) || (verdict || races);
+        return Request::Ends { states, mixed };
+    }
+    if races {
         let mixed = is_mixed(options) || verdict;
         return Request::Races { states, mixed };
     }

@@ -37,7 +37,8 @@ use Rattle.ls_faults.specs.Given.{GivesText}
 use Rattle.ls_faults.specs.declared.fault.ToolFault.{ToolFault}
 use Rattle.ls_faults.proofs.Answering.{Failed, wider}
 use Rattle.ls_commands.specs.Viewed.{names_in}
-use Rattle.ls_commands.specs.Aimed.{AimsIn, AimsTo, Aims, Breaks, Checks, IsAim, IsReadBack, NoFile, NoProgram, aim_text}
+use Rattle.ls_commands.specs.Aimed.{AimsIn, AimsTo, Aims, Breaks, Checks, IsAim, IsReadBack, NoFile, NoProgram}
+use Rattle.ls_commands.specs.Aimed.{aim_text}
 use Rattle.ls_commands.proofs.ViewedLemmas.{names_are}
 
 pub aim_fails : (names : Names) (targets : Text) (f : AimFault) →

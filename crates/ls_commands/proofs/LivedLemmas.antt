@@ -55,11 +55,13 @@ module _ (i : Image) (cells : ℕ) where
     live_fails (live.Open opening.BadCells) bad large = NoCells (bad.0 refl)
     live_fails (live.Open opening.BadLimit) bad large = BadLimit (large.0 refl).0 (large.0 refl).1
     live_fails live.NoThread bad large =
-        let good : ¬ Bad = refused_otherwise {A = Record} live.NoThread (live.Open opening.BadCells) Bad (λ e. cc) bad in
+        let good : ¬ Bad = refused_otherwise {A = Record} live.NoThread (live.Open opening.BadCells) Bad
+        (λ e. cc) bad in
         NoThread good (few good (refused_otherwise {A = Record} live.NoThread (live.Open opening.BadLimit) TooLarge
         (λ e. cc) large))
     live_fails live.Disagree bad large =
-        let good : ¬ Bad = refused_otherwise {A = Record} live.Disagree (live.Open opening.BadCells) Bad (λ e. cc) bad in
+        let good : ¬ Bad = refused_otherwise {A = Record} live.Disagree (live.Open opening.BadCells) Bad
+        (λ e. cc) bad in
         Disagree good (few good (refused_otherwise {A = Record} live.Disagree (live.Open opening.BadLimit) TooLarge
         (λ e. cc) large))
 

@@ -18,7 +18,8 @@ use Rattle.ls_faults.specs.declared.fault.ToolFault.{ToolFault}
 use Rattle.ls_faults.specs.declared.fault.ToolFault.TheVariants as fault
 use Rattle.ls_commands.proofs.ViewedLemmas.{names_are}
 use Rattle.ls_commands.specs.Viewed.{thread_names_of}
-use Rattle.ls_commands.specs.Paged.{JudgesTo, NoSchedule, Ordered, Plain, Played, PlaysTo, TellsTo, Wanted, with_verdict}
+use Rattle.ls_commands.specs.Paged.{JudgesTo, NoSchedule, Ordered, Plain, Played, PlaysTo, TellsTo, Wanted}
+use Rattle.ls_commands.specs.Paged.{with_verdict}
 
 -- a fault is passed on as it is
 through : (May : Result Text ToolFault → Type 0) (g : Result Text ToolFault → Result Text ToolFault)

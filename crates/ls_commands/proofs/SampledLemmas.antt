@@ -72,7 +72,8 @@ module _ (i : Image) (cells seed : ℕ) (d : Sampler) where
     read_again few =
         let r = replay (code_of_image i) cells seed d in
         let count = r.count in
-        prints (elaborated_file (checked_of i)) program (program_of_image i) (seed_schedule (code_of_image i) cells seed d)
+        prints (elaborated_file (checked_of i)) program (program_of_image i)
+        (seed_schedule (code_of_image i) cells seed d)
         compiles.reads
         (record {
           there = subst (λ n. All (λ t. t < n) (seed_schedule (code_of_image i) cells seed d))

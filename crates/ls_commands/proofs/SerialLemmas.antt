@@ -32,7 +32,8 @@ use Rattle.ls_faults.specs.declared.fault.ToolFault.{ToolFault}
 use Rattle.ls_faults.specs.declared.fault.ToolFault.TheVariants as faults
 use Rattle.ls_faults.proofs.Answering.{Failed, wider}
 use Rattle.ls_commands.specs.Check.{with_feed}
-use Rattle.ls_commands.specs.SerialOrdered.{Breaks, Checks, NoFile, NoHistory, NoProgram, OrdersIn, OrdersOf, OrdersSerially}
+use Rattle.ls_commands.specs.SerialOrdered.{Breaks, Checks, NoFile, NoHistory, NoProgram, OrdersIn, OrdersOf}
+use Rattle.ls_commands.specs.SerialOrdered.{OrdersSerially}
 use Rattle.ls_commands.specs.SerialOrdered.{OtherProgram, Ran, Told}
 
 -- ---- the history
@@ -51,7 +52,8 @@ pub foreign_fails : (o : ElaboratedFile) (p : Program) (h t : Text) (events : Li
     OrdersOf o p h (Err (faults.History (history_faults.BadHistory at)))
 foreign_fails o p h t events at e s foreign = OtherProgram events at (subst (λ x. Says x events) e s) foreign
 
-pub order_told : (o : ElaboratedFile) (p : Program) (h t : Text) (events : List Event) (run : List RunEvent) (text : Text) →
+pub order_told : (o : ElaboratedFile) (p : Program) (h t : Text) (events : List Event)
+    (run : List RunEvent) (text : Text) →
     t ≡ with_feed h →
     Says t events →
     AreNamed p run events →

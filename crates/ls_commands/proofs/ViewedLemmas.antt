@@ -33,7 +33,8 @@ use Rattle.ls_text_laws.specs.Histories.{SourceIsReadable}
 use Rattle.ls_faults.proofs.Answering.{wider}
 use Rattle.ls_commands.proofs.ShowsBack.{shows_back}
 use Rattle.ls_labels.specs.Names.{Names}
-use Rattle.ls_commands.specs.Viewed.{names_in, shown, viewed_by, viewed, RunsTo, Ran, NoProgram, ViewsTo, Checks, Breaks}
+use Rattle.ls_commands.specs.Viewed.{names_in, shown, viewed_by, viewed, RunsTo, Ran, NoProgram, ViewsTo, Checks}
+use Rattle.ls_commands.specs.Viewed.{Breaks}
 use Rattle.ls_commands.specs.Viewed.{NoFile}
 use Rattle.ls_commands.specs.declared.showing.View.{View}
 use Rattle.ls_faults.specs.declared.fault.ToolFault.{ToolFault}

@@ -54,8 +54,7 @@ fn judged(
 }
 
 /// The tally of the compiled program's runs under the samples, with what there is to say of each history: whether its
-/// calls, if they are all set calls on one object, have a legal order; and whether it is linearizable to the serial
-/// runs of its program.
+/// calls, if they are all set calls on one object, have a legal order; and whether it is linearizable to its program.
 pub fn judge_batch(
     rt: &(impl Threads + Sync),
     alloc: Global,
@@ -80,8 +79,10 @@ fn judged_like(
     cells: usize,
     sampling: Sampling,
 ) -> Result<String, ToolFault>
+    requires readable { RunsAreReadable image.now }
     ensures { GivesText (JudgedLike like.now image.now cells sampling) result }
 {
+    seeds_replay();
     let Sampling {
         first,
         count,
@@ -115,6 +116,7 @@ fn judged_by(
     sampling: Sampling,
     texts: JudgingTexts<'_>,
 ) -> Result<String, ToolFault>
+    requires readable { RunsAreReadable image.now }
     ensures { GivesText (AnswersLike texts.entry.reference.now texts.entry.program.now image.now
         (λ s. JudgedLike s image.now cells sampling)) result }
 {
@@ -123,7 +125,7 @@ fn judged_by(
 }
 
 /// The tally of the compiled program's runs under the samples, with what there is to say of each history by a
-/// reference: whether it is linearizable to the serial runs of its program.
+/// reference: whether it is linearizable to the program of the reference.
 pub fn judge_batch_like(
     rt: &(impl Threads + Sync),
     alloc: Global,
@@ -135,5 +137,6 @@ pub fn judge_batch_like(
         texts.entry.program.now) result }
 {
     let image = compile(alloc, texts.classes, texts.program)?;
+    compiled_is_readable();
     judged_by(rt, alloc, &image, cells, sampling, texts)
 }

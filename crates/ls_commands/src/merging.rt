@@ -66,14 +66,15 @@ fn is_of_ranges(text: &str) -> bool
     text.starts_with("//")
 }
 
-/// The merge of a text of tallies, one after another; or if it begins with `//`, of what `find` says of ranges of numbers.
+/// The merge of a text of tallies, one after another; or if it begins with `//`, of what `find` says of ranges of
+/// numbers.
 ///
-/// Of tallies each distinct history comes once, with its counts added and its least seed, in order of seed. With a number
-/// that is wanted, the counts come to that, and else it is refused with 89. A text that isn't of tallies is refused with
-/// 84, and counts of over 64 bits with 88.
+/// Of tallies each distinct history comes once, with its counts added and its least seed, in order of seed. With a
+/// number that is wanted, the counts come to that, and else it is refused with 89. A text that isn't of tallies is
+/// refused with 84, and counts of over 64 bits with 88.
 ///
-/// Of ranges there comes what `find` says of all their numbers. Refused with 84 if the text isn't of what `find` says; with
-/// 70 if a range doesn't follow the one before it; with 89 if there are not as many numbers as are wanted.
+/// Of ranges there comes what `find` says of all their numbers. Refused with 84 if the text isn't of what `find` says;
+/// with 70 if a range doesn't follow the one before it; with 89 if there are not as many numbers as are wanted.
 pub fn merge(alloc: Global, wanted: Option<u64>, text: &str) -> Result<String, ToolFault>
     ensures { GivesText (MergesTo wanted text.now) result }
 {

@@ -1,6 +1,8 @@
 -- What `explore --races` may answer.
-use Rattle.std.proofs.Common.{◌≡◌, ◌++◌, ◌∷◌, [], ℕ, Bool, Global, List, Ok, Vec, map, subst, sym}
+use Rattle.std.proofs.Common.{◌≡◌, ◌≤◌, ◌++◌, ◌∷◌, [], inl, refl, arith, ℕ, zero, suc, Bool, Global, List, Ok, Vec}
+use Rattle.std.proofs.Common.{map, subst, sym}
 use Rattle.ls_checked.specs.declared.program.Program.{Program}
+use Rattle.ls_explore.specs.Faults.{AreBadStates}
 use Rattle.ls_image.specs.declared.image.Image.{Image}
 use Rattle.ls_report.specs.Events.{Text}
 use Rattle.ls_labels.specs.Names.{Names}
@@ -45,3 +47,8 @@ pub same_races : (t : Text) (ns ns' : Names) (p p' : Program) (flags : List (Lis
 same_races t ns ns' p p' flags races states complete tries names program is =
     subst (λ x. t ≡ races_text x (thread_names p') flags races states complete tries) names
     (subst (λ x. t ≡ races_text ns (thread_names x) flags races states complete tries) program is)
+
+-- where the number of states isn't bad, some may be kept
+pub some_kept : (limit : ℕ) → ¬ AreBadStates limit → 1 ≤ limit
+some_kept zero good = absurd (good (inl refl))
+some_kept (suc n) good = omega arith

@@ -5,7 +5,8 @@ use Rattle.ls_events.specs.declared.value.Value.{Value}
 use Rattle.ls_checked.specs.CheckedTree.{File}
 use Rattle.ls_checked.specs.CheckedProgram.{Program}
 use Rattle.ls_meaning.specs.Steps.{Entry, run, trace}
-use Rattle.ls_meaning.specs.Runs.{State, event_of, history_of, source_history, source_run, source_step, source_trace, start}
+use Rattle.ls_meaning.specs.Runs.{State, event_of, history_of, source_history, source_run, source_step, source_trace}
+use Rattle.ls_meaning.specs.Runs.{start}
 use Rattle.ls_meaning.specs.Runs.{step}
 use Rattle.ls_meaning.specs.Still.{IsActing}
 use Rattle.ls_search_laws.proofs.Stepping.{run-append, trace-append}

@@ -64,7 +64,7 @@ pub data ExploredLike (s i : Image) (e : Exploring) : Result Text ToolFault → 
       AreGoodFor (code_of_image i) e.cells e.states →
       IsExplorationLike s i e.cells e.states e.order k judged kept complete roomy →
       ExploredLike s i e (Ok (rows_text (names_in i) (names_of_image i) k (shown e judged) ++
-      last_text kept judged complete roomy))
+      last_text e.states kept judged complete roomy))
   NoCells : (cells : ℕ) → e.cells ≡ Some cells → AreBadCells (code_of_image i).names cells →
       ExploredLike s i e (Err faults.BadCells)
   NoStates : HasGoodCells (code_of_image i) e.cells →
@@ -92,4 +92,5 @@ ExploresLike e like classes program answer =
 
 abbrev pub VerdictsLike : ℕ → Text → Text → Text → Result Text ToolFault → Type 0
 VerdictsLike limit like classes program answer =
-    AnswersOn classes program (λ i. AnswersLike like program i (λ s. Decided (file_of s) (program_of s) i limit)) answer
+    AnswersOn classes program (λ i. AnswersLike like program i (λ s. Decided classes (file_of s) (program_of s) i
+    limit)) answer

@@ -1,6 +1,6 @@
 -- The text of a program's data races.
 use Rattle.std.specs.Prelude.{ℕ, ◌-◌, Bool, true, false, List, [], ◌∷◌, ◌++◌, Option, Some, None, codes, length}
-use Rattle.std.specs.Prelude.{if◌then◌else◌}
+use Rattle.std.specs.Fmt.{decimal}
 use Rattle.ls_report.specs.Events.{Text}
 use Rattle.ls_labels.specs.Names.{Names}
 use Rattle.ls_trace.specs.Lines.{trace_text}
@@ -10,7 +10,7 @@ use Rattle.ls_races.specs.declared.finding.Race.{Race}
 use Rattle.ls_races.specs.Volatile.{is_unsure}
 use Rattle.ls_race_reports.specs.Sure.{first_sure}
 use Rattle.ls_race_reports.specs.Words.{fields_text}
-use Rattle.ls_explore_commands.specs.Reports.{last_text, run_report}
+use Rattle.ls_explore_commands.specs.Reports.{run_report}
 
 -- what stands before the fields, where it isn't known of each that it isn't volatile, or is
 abbrev pub before_fields : Bool → Text
@@ -56,9 +56,17 @@ head_text names threads None otherwise = otherwise
 head_text names threads (Some r) otherwise =
     run_report r.fewest names threads (codes "data race") r.schedule ++ accesses_text names r.schedule
 
+abbrev pub whole_text : Bool → Text
+whole_text true = codes " complete\n"
+whole_text false = codes " cut\n"
+
+-- how many states were kept, and whether all variables are told on which accesses race, as `states 402 complete`
+abbrev pub extent_text : ℕ → Bool → Text
+extent_text states complete = codes "states " ++ (decimal states ++ whole_text complete)
+
 -- A run with a data race, if there is one, a line for each kind of variable on which accesses race, and how many states
 -- were kept. It is told whether all kinds were found, and whether the class text has a call of `tryLock`.
 abbrev pub races_text : Names → List Text → List (List Bool) → List Race → ℕ → Bool → Bool → Text
 races_text names threads classes races states complete tries =
     head_text names threads (first_sure classes races) (none_text races complete tries)
-    ++ (kinds_text names classes races ++ last_text states complete)
+    ++ (kinds_text names classes races ++ extent_text states complete)

@@ -10,6 +10,7 @@ use Rattle.ls_faults.specs.declared.fault.ToolFault.{ToolFault}
 use Rattle.ls_faults.specs.declared.fault.ToolFault.TheVariants as faults
 use Rattle.ls_commands.specs.Compiled.{AnswersOn, names_of_image}
 use Rattle.ls_explore_reports.specs.ImageNames.{names_in}
+use Rattle.ls_races.specs.Extents.{IsRaceExtent}
 use Rattle.ls_races.specs.Races.{AllAreOn, AreRaces, kinds_of}
 use Rattle.ls_races.specs.Volatile.{volatile_by}
 use Rattle.ls_races.specs.declared.finding.Race.{Race}
@@ -24,7 +25,8 @@ AreRead i (r ∷ races) = IsReadBack i r.schedule × AreRead i races
 
 -- The text of a program's data races, or why there is none. Each that is told is one by happens-before: its last two
 -- steps are the accesses. If it is said that these are all, accesses meet on variables of no other kind, after no
--- schedule of any length.
+-- schedule of any length. If it isn't, so many states were kept as may be, or they have too many objects, or accesses
+-- meet too late for a schedule. The states that are told are those to which so many schedules lead.
 pub data Raced (classes : Text) (i : Image) (limit : ℕ) : Result Text ToolFault → Type 0 where
   NoStates : AreBadStates limit → Raced classes i limit (Err (faults.Explore explore.BadStates))
   Tells : (flags : List (List Bool)) (races : List Race) (states : ℕ) (complete tries : Bool) →
@@ -33,6 +35,7 @@ pub data Raced (classes : Text) (i : Image) (limit : ℕ) : Result Text ToolFaul
       (tries ≡ true) ↔ HasSubslice classes (codes "tryLock") →
       AreRaces (volatile_by flags) [] (file_of i) (program_of i) races →
       (complete ≡ true → AllAreOn (volatile_by flags) (kinds_of races) (file_of i) (program_of i)) →
+      IsRaceExtent (volatile_by flags) (kinds_of races) (file_of i) (program_of i) limit states complete →
       AreRead i races →
       Raced classes i limit (Ok (races_text (names_in i) (names_of_image i) flags races states complete tries))
 

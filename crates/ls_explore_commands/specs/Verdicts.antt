@@ -20,6 +20,7 @@ use Rattle.ls_source_judge.specs.Judged.{AllLike, IsSimplestUnlike, IsStuckRun, 
 use Rattle.ls_spinning.specs.Turning.{NeverTurns, TurnsForEver}
 use Rattle.ls_search.specs.Verdicts.{AreAll, AreReached, IsCut, NeverStuck}
 use Rattle.ls_explore_reports.specs.ImageNames.{names_in}
+use Rattle.ls_explore_commands.specs.Beside.{IsBeside}
 use Rattle.ls_explore_commands.specs.Readable.{IsReadBack}
 use Rattle.ls_explore_commands.specs.Reports.{bad_text, doubtful_text, free_text, stuck_and_doubtful_text, stuck_text}
 use Rattle.ls_explore_commands.specs.Reports.{turning_text, unsure_text}
@@ -51,9 +52,11 @@ IsRefusalOf steps f = (f ≡ translation.Memory) ⊎ ((f ≡ translation.ResultT
 -- The text of a verdict by a specification, or why there is none. If all states were kept, it is said of each schedule,
 -- of any length. If the context switches of a run are printed, no schedule that is wrong so has fewer, of any length.
 -- Of a history of which it isn't known whether it is linearizable, no schedule with this history has fewer. Each step
--- of a schedule that is printed acts, and the schedule is read as it is printed.
-pub data Decided (sfile : File) (sprogram : Program) (i : Image) (limit : ℕ) : Result Text ToolFault → Type 0 where
-  NoStates : AreBadStates limit → Decided sfile sprogram i limit (Err (faults.Explore explore.BadStates))
+-- of a schedule that is printed acts, and the schedule is read as it is printed. Beside `none` it is said of data races
+-- what is so by the class text.
+pub data Decided (classes : Text) (sfile : File) (sprogram : Program) (i : Image) (limit : ℕ)
+    : Result Text ToolFault → Type 0 where
+  NoStates : AreBadStates limit → Decided classes sfile sprogram i limit (Err (faults.Explore explore.BadStates))
   -- the history of this schedule isn't linearizable
   IsBad : (schedule : List ℕ) (fewest : Bool) (states : ℕ) (complete : Bool) →
       ¬ AreBadStates limit →
@@ -61,7 +64,8 @@ pub data Decided (sfile : File) (sprogram : Program) (i : Image) (limit : ℕ) :
       IsUnlikeRun sfile sprogram (file_of i) (program_of i) schedule →
       IsReadBack i schedule →
       (fewest ≡ true → IsSimplestUnlike sfile sprogram (file_of i) (program_of i) schedule) →
-      Decided sfile sprogram i limit (Ok (bad_text fewest (names_in i) (names_of_image i) schedule states complete))
+      Decided classes sfile sprogram i limit
+      (Ok (bad_text fewest (names_in i) (names_of_image i) schedule limit states complete))
   -- no serial history that was found explains it, and some may not have been found, for this reason
   IsDoubtful : (doubt : Doubt) (schedule : List ℕ) (fewest : Bool) (states : ℕ) (complete : Bool) →
       ¬ AreBadStates limit →
@@ -70,8 +74,8 @@ pub data Decided (sfile : File) (sprogram : Program) (i : Image) (limit : ℕ) :
       IsReadBack i schedule →
       (complete ≡ true → NeverStuck (file_of i) (program_of i)) →
       (fewest ≡ true → HasFewest false (file_of i) (program_of i) schedule) →
-      Decided sfile sprogram i limit
-      (Ok (doubtful_text doubt fewest (names_in i) (names_of_image i) schedule states complete))
+      Decided classes sfile sprogram i limit
+      (Ok (doubtful_text doubt fewest (names_in i) (names_of_image i) schedule limit states complete))
   -- the same of this schedule, and after the first no thread acts, and one waits for a lock
   IsStuckAndDoubtful : (stuck : List ℕ) (stuck_fewest : Bool) (doubt : Doubt) (schedule : List ℕ) (fewest : Bool)
       (states : ℕ) (complete : Bool) →
@@ -83,9 +87,9 @@ pub data Decided (sfile : File) (sprogram : Program) (i : Image) (limit : ℕ) :
       IsReadBack i schedule →
       (stuck_fewest ≡ true → HasFewestStuck (file_of i) (program_of i) stuck) →
       (fewest ≡ true → HasFewest false (file_of i) (program_of i) schedule) →
-      Decided sfile sprogram i limit
-      (Ok (stuck_and_doubtful_text stuck stuck_fewest doubt fewest (names_in i) (names_of_image i) schedule states
-      complete))
+      Decided classes sfile sprogram i limit
+      (Ok (stuck_and_doubtful_text stuck stuck_fewest doubt fewest (names_in i) (names_of_image i) schedule limit
+      states complete))
   -- after this schedule no thread acts, and one waits for a lock
   IsStuck : (schedule : List ℕ) (fewest : Bool) (states : ℕ) (complete : Bool) →
       ¬ AreBadStates limit →
@@ -94,7 +98,8 @@ pub data Decided (sfile : File) (sprogram : Program) (i : Image) (limit : ℕ) :
       IsReadBack i schedule →
       (fewest ≡ true → HasFewestStuck (file_of i) (program_of i) schedule) →
       (complete ≡ true → AllLike sfile sprogram (file_of i) (program_of i)) →
-      Decided sfile sprogram i limit (Ok (stuck_text fewest (names_in i) (names_of_image i) schedule states complete))
+      Decided classes sfile sprogram i limit
+      (Ok (stuck_text fewest (names_in i) (names_of_image i) schedule limit states complete))
   -- after this schedule some thread always acts, and no event comes any more
   IsTurning : (schedule : List ℕ) (states : ℕ) (complete : Bool) →
       ¬ AreBadStates limit →
@@ -104,28 +109,30 @@ pub data Decided (sfile : File) (sprogram : Program) (i : Image) (limit : ℕ) :
       IsReadBack i schedule →
       (complete ≡ true → AllLike sfile sprogram (file_of i) (program_of i)) →
       (complete ≡ true → NeverStuck (file_of i) (program_of i)) →
-      Decided sfile sprogram i limit (Ok (turning_text false (names_in i) (names_of_image i) schedule states complete))
+      Decided classes sfile sprogram i limit
+      (Ok (turning_text false (names_in i) (names_of_image i) schedule limit states complete))
   -- it isn't known whether threads can turn for ever
   IsUnsure : (states : ℕ) (complete : Bool) →
       ¬ AreBadStates limit →
       IsExtent (file_of i) (program_of i) limit states complete →
       (complete ≡ true → AllLike sfile sprogram (file_of i) (program_of i)) →
       (complete ≡ true → NeverStuck (file_of i) (program_of i)) →
-      Decided sfile sprogram i limit (Ok (unsure_text states complete))
-  IsFree : (states : ℕ) (complete : Bool) →
+      Decided classes sfile sprogram i limit (Ok (unsure_text limit states complete))
+  IsFree : (states : ℕ) (complete : Bool) (beside : Text) →
       ¬ AreBadStates limit →
       IsExtent (file_of i) (program_of i) limit states complete →
       (complete ≡ true → AllLike sfile sprogram (file_of i) (program_of i)) →
       (complete ≡ true → NeverStuck (file_of i) (program_of i)) →
       (complete ≡ true → NeverTurns (file_of i) (program_of i)) →
-      Decided sfile sprogram i limit (Ok (free_text states complete))
+      IsBeside classes i limit complete beside →
+      Decided classes sfile sprogram i limit (Ok (free_text beside limit states complete))
   -- the schedule that was found has more steps than a schedule may have
   TooLong : (schedule : List ℕ) →
       ¬ AreBadStates limit →
       IsTold sfile sprogram i schedule →
       most_steps < length schedule →
-      Decided sfile sprogram i limit (Err (faults.Translation translation.ResultTooLong))
+      Decided classes sfile sprogram i limit (Err (faults.Translation translation.ResultTooLong))
 
 abbrev pub VerdictsTo : ℕ → Text → Text → Result Text ToolFault → Type 0
 VerdictsTo limit classes program answer =
-    AnswersOn classes program (λ i. Decided (file_of i) (program_of i) i limit) answer
+    AnswersOn classes program (λ i. Decided classes (file_of i) (program_of i) i limit) answer

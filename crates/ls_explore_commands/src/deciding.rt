@@ -1,21 +1,23 @@
 // What `explore --verdict` says.
 
-ghost use Rattle.std.specs.Prelude.{◌↔◌, ◌≡◌, ℕ, IfNone, IfOk, IfSome, IsTrue};
+ghost use Rattle.std.specs.Prelude.{◌↔◌, ◌≡◌, IfNone, IfOk, IfSome, IsTrue};
 ghost use Rattle.ls_checked.specs.CheckedTree.{File as FileValue};
 ghost use Rattle.ls_checked.specs.CheckedProgram.{Program as ProgramValue};
 ghost use Rattle.ls_explore.specs.Faults.{AreBadStates};
 ghost use Rattle.ls_faults.specs.Given.{GivesText};
+ghost use Rattle.ls_report.specs.Events.{Text};
 ghost use Rattle.ls_explore_commands.specs.Readable.{AreReadBack};
 ghost use Rattle.ls_commands.specs.Likeness.{AnswersLike};
 ghost use Rattle.ls_explore_commands.specs.Likeness.{VerdictsLike};
 ghost use Rattle.ls_explore_commands.specs.Verdicts.{Decided, IsExtent, VerdictsTo};
 ghost use Rattle.ls_source_judge.specs.Judged.{AllLike, IsStuckRun, IsUnjudgedRun, IsUnlikeRun};
 ghost use Rattle.ls_specification.specs.Specification.{spec_file, spec_program};
-ghost use Rattle.ls_spinning.specs.Told.{IsTurning};
+ghost use Rattle.ls_explore_commands.specs.Beside.{IsBeside};
 ghost use Rattle.ls_spinning.specs.Turning.{NeverTurns, TurnsForEver};
 ghost use Rattle.ls_search.specs.Verdicts.{NeverStuck};
 ghost use Rattle.ls_translation.specs.Texts.{file_of, program_of};
 
+use crate::beside::{Told, told_of};
 use crate::laws::verdicts_read_back;
 use crate::reporting::{
     Extent, print_bad, print_doubtful, print_free, print_stuck, print_stuck_and_doubtful,
@@ -32,7 +34,7 @@ use ls_serial_search::telling::Doubt;
 use ls_source_judge::{Judged, judge_schedules};
 use ls_specification::Specification;
 use ls_specified::specified;
-use ls_spinning::{Turning, find_turning};
+use ls_spinning::Turning;
 use std::alloc::{AllocError, Global};
 
 /// Whether no states may be kept, or too many.
@@ -42,12 +44,14 @@ pub(crate) fn are_bad_states(states: usize) -> bool
     states == 0 || states > MOST_STATES
 }
 
-/// How many states were kept, and whether these are all.
-fn extent_of(judged: &Judged) -> Extent
+/// How many states may be kept, how many were, and whether these are all.
+fn extent_of(judged: &Judged, limit: usize) -> Extent
+    ensures limit { result.limit ≡ limit }
     ensures states { result.states ≡ judged.now.states }
     ensures complete { result.complete ≡ judged.now.complete }
 {
     Extent {
+        limit,
         states: judged.states,
         complete: judged.complete,
     }
@@ -58,18 +62,19 @@ fn bad_answer(
     alloc: Global,
     specification: Specification<'_>,
     image: &Image,
-    judged: &Judged,
+    extent: Extent,
     steps: &[u8],
 ) -> Result<String, ToolFault>
     requires { AreReadBack image.now }
-    ensures { (limit : ℕ) → ¬ AreBadStates limit →
-        IsExtent (file_of image.now) (program_of image.now) limit judged.now.states judged.now.complete →
+    ensures { (classes : Text) → ¬ AreBadStates extent.limit →
+        IsExtent (file_of image.now) (program_of image.now) extent.limit extent.states extent.complete →
         IsUnlikeRun (spec_file specification.entry) (spec_program specification.entry)
         (file_of image.now) (program_of image.now) steps.now →
-        GivesText (Decided (spec_file specification.entry) (spec_program specification.entry) image.now limit) result }
+        GivesText (Decided classes (spec_file specification.entry) (spec_program specification.entry)
+        image.now extent.limit) result }
 {
     let run = bad_run(alloc, specification, image, steps)?;
-    let text = print_bad(alloc, names_in(image), &run, extent_of(judged))?;
+    let text = print_bad(alloc, names_in(image), &run, extent)?;
     Ok(text)
 }
 
@@ -77,19 +82,19 @@ fn bad_answer(
 fn doubtful_answer(
     alloc: Global,
     image: &Image,
-    judged: &Judged,
+    extent: Extent,
     doubt: Doubt,
     steps: &[u8],
 ) -> Result<String, ToolFault>
     requires { AreReadBack image.now }
-    ensures { (sfile : FileValue) (sprogram : ProgramValue) (limit : ℕ) → ¬ AreBadStates limit →
-        IsExtent (file_of image.now) (program_of image.now) limit judged.now.states judged.now.complete →
+    ensures { (classes : Text) (sfile : FileValue) (sprogram : ProgramValue) → ¬ AreBadStates extent.limit →
+        IsExtent (file_of image.now) (program_of image.now) extent.limit extent.states extent.complete →
         IsUnjudgedRun sfile sprogram (file_of image.now) (program_of image.now) doubt steps.now →
-        (IsTrue judged.now.complete → NeverStuck (file_of image.now) (program_of image.now)) →
-        GivesText (Decided sfile sprogram image.now limit) result }
+        (IsTrue extent.complete → NeverStuck (file_of image.now) (program_of image.now)) →
+        GivesText (Decided classes sfile sprogram image.now extent.limit) result }
 {
     let run = run_along(alloc, image, steps)?;
-    let text = print_doubtful(alloc, names_in(image), doubt, &run, extent_of(judged))?;
+    let text = print_doubtful(alloc, names_in(image), doubt, &run, extent)?;
     Ok(text)
 }
 
@@ -97,21 +102,20 @@ fn doubtful_answer(
 fn stuck_and_doubtful_answer(
     alloc: Global,
     image: &Image,
-    judged: &Judged,
+    extent: Extent,
     stuck: &[u8],
     doubt: Doubt,
     steps: &[u8],
 ) -> Result<String, ToolFault>
     requires { AreReadBack image.now }
-    ensures { (sfile : FileValue) (sprogram : ProgramValue) (limit : ℕ) → ¬ AreBadStates limit →
-        IsExtent (file_of image.now) (program_of image.now) limit judged.now.states judged.now.complete →
+    ensures { (classes : Text) (sfile : FileValue) (sprogram : ProgramValue) → ¬ AreBadStates extent.limit →
+        IsExtent (file_of image.now) (program_of image.now) extent.limit extent.states extent.complete →
         IsStuckRun (file_of image.now) (program_of image.now) stuck.now →
         IsUnjudgedRun sfile sprogram (file_of image.now) (program_of image.now) doubt steps.now →
-        GivesText (Decided sfile sprogram image.now limit) result }
+        GivesText (Decided classes sfile sprogram image.now extent.limit) result }
 {
     let first = stuck_run(alloc, image, stuck)?;
     let run = run_along(alloc, image, steps)?;
-    let extent = extent_of(judged);
     let text = print_stuck_and_doubtful(alloc, names_in(image), &first, &run, doubt, extent)?;
     Ok(text)
 }
@@ -120,31 +124,37 @@ fn stuck_and_doubtful_answer(
 fn stuck_answer(
     alloc: Global,
     image: &Image,
-    judged: &Judged,
+    extent: Extent,
     steps: &[u8],
 ) -> Result<String, ToolFault>
     requires { AreReadBack image.now }
-    ensures { (sfile : FileValue) (sprogram : ProgramValue) (limit : ℕ) → ¬ AreBadStates limit →
-        IsExtent (file_of image.now) (program_of image.now) limit judged.now.states judged.now.complete →
+    ensures { (classes : Text) (sfile : FileValue) (sprogram : ProgramValue) → ¬ AreBadStates extent.limit →
+        IsExtent (file_of image.now) (program_of image.now) extent.limit extent.states extent.complete →
         IsStuckRun (file_of image.now) (program_of image.now) steps.now →
-        (IsTrue judged.now.complete → AllLike sfile sprogram (file_of image.now) (program_of image.now)) →
-        GivesText (Decided sfile sprogram image.now limit) result }
+        (IsTrue extent.complete → AllLike sfile sprogram (file_of image.now) (program_of image.now)) →
+        GivesText (Decided classes sfile sprogram image.now extent.limit) result }
 {
     let run = stuck_run(alloc, image, steps)?;
-    let text = print_stuck(alloc, names_in(image), &run, extent_of(judged))?;
+    let text = print_stuck(alloc, names_in(image), &run, extent)?;
     Ok(text)
 }
 
-/// The text that no run is wrong.
-fn free_answer(alloc: Global, image: &Image, judged: &Judged) -> Result<String, ToolFault>
-    ensures { (sfile : FileValue) (sprogram : ProgramValue) (limit : ℕ) → ¬ AreBadStates limit →
-        IsExtent (file_of image.now) (program_of image.now) limit judged.now.states judged.now.complete →
-        (IsTrue judged.now.complete → AllLike sfile sprogram (file_of image.now) (program_of image.now)) →
-        (IsTrue judged.now.complete → NeverStuck (file_of image.now) (program_of image.now)) →
-        (IsTrue judged.now.complete → NeverTurns (file_of image.now) (program_of image.now)) →
-        GivesText (Decided sfile sprogram image.now limit) result }
+/// The text that no run is wrong, with what is said of data races.
+fn free_answer(
+    alloc: Global,
+    image: &Image,
+    beside: &str,
+    extent: Extent,
+) -> Result<String, ToolFault>
+    ensures { (classes : Text) (sfile : FileValue) (sprogram : ProgramValue) → ¬ AreBadStates extent.limit →
+        IsExtent (file_of image.now) (program_of image.now) extent.limit extent.states extent.complete →
+        (IsTrue extent.complete → AllLike sfile sprogram (file_of image.now) (program_of image.now)) →
+        (IsTrue extent.complete → NeverStuck (file_of image.now) (program_of image.now)) →
+        (IsTrue extent.complete → NeverTurns (file_of image.now) (program_of image.now)) →
+        IsBeside classes image.now extent.limit extent.complete beside.now →
+        GivesText (Decided classes sfile sprogram image.now extent.limit) result }
 {
-    let text = print_free(alloc, extent_of(judged))?;
+    let text = print_free(alloc, beside, extent)?;
     Ok(text)
 }
 
@@ -183,26 +193,27 @@ fn doubted_answer(
     judged: &Judged,
     doubt: Doubt,
     steps: &[u8],
+    extent: Extent,
 ) -> Result<String, ToolFault>
     requires { AreReadBack image.now }
-    ensures { (sfile : FileValue) (sprogram : ProgramValue) (limit : ℕ) → ¬ AreBadStates limit →
-        IsExtent (file_of image.now) (program_of image.now) limit judged.now.states judged.now.complete →
+    ensures { (classes : Text) (sfile : FileValue) (sprogram : ProgramValue) → ¬ AreBadStates extent.limit →
+        IsExtent (file_of image.now) (program_of image.now) extent.limit extent.states extent.complete →
         IsUnjudgedRun sfile sprogram (file_of image.now) (program_of image.now) doubt steps.now →
-        (IsTrue judged.now.complete → IfNone judged.now.stuck
+        (IsTrue extent.complete → IfNone judged.now.stuck
         (NeverStuck (file_of image.now) (program_of image.now))) →
         IfSome judged.now.stuck (λ stuck. IsStuckRun (file_of image.now) (program_of image.now) stuck.items) →
-        GivesText (Decided sfile sprogram image.now limit) result }
+        GivesText (Decided classes sfile sprogram image.now extent.limit) result }
 {
     match &judged.stuck {
         Some(stuck) => stuck_and_doubtful_answer(
             alloc,
             image,
-            judged,
+            extent,
             stuck.as_slice(),
             doubt,
             steps,
         ),
-        None => doubtful_answer(alloc, image, judged, doubt, steps),
+        None => doubtful_answer(alloc, image, extent, doubt, steps),
     }
 }
 
@@ -213,22 +224,24 @@ fn wrong_answer(
     image: &Image,
     judged: &Judged,
     steps: &[u8],
+    extent: Extent,
 ) -> Result<String, ToolFault>
     requires { AreReadBack image.now }
-    ensures { (limit : ℕ) → ¬ AreBadStates limit →
-        IsExtent (file_of image.now) (program_of image.now) limit judged.now.states judged.now.complete →
+    ensures { (classes : Text) → ¬ AreBadStates extent.limit →
+        IsExtent (file_of image.now) (program_of image.now) extent.limit extent.states extent.complete →
         IfNone judged.now.doubt (IsUnlikeRun (spec_file specification.entry) (spec_program specification.entry)
         (file_of image.now) (program_of image.now) steps.now) →
         IfSome judged.now.doubt (λ d. IsUnjudgedRun (spec_file specification.entry) (spec_program specification.entry)
         (file_of image.now) (program_of image.now) d steps.now) →
-        (IsTrue judged.now.complete → IfNone judged.now.stuck
+        (IsTrue extent.complete → IfNone judged.now.stuck
         (NeverStuck (file_of image.now) (program_of image.now))) →
         IfSome judged.now.stuck (λ stuck. IsStuckRun (file_of image.now) (program_of image.now) stuck.items) →
-        GivesText (Decided (spec_file specification.entry) (spec_program specification.entry) image.now limit) result }
+        GivesText (Decided classes (spec_file specification.entry) (spec_program specification.entry)
+        image.now extent.limit) result }
 {
     match judged.doubt {
-        Some(doubt) => doubted_answer(alloc, image, judged, doubt, steps),
-        None => bad_answer(alloc, specification, image, judged, steps),
+        Some(doubt) => doubted_answer(alloc, image, judged, doubt, steps, extent),
+        None => bad_answer(alloc, specification, image, extent, steps),
     }
 }
 
@@ -236,41 +249,31 @@ fn wrong_answer(
 fn turning_answer(
     alloc: Global,
     image: &Image,
-    judged: &Judged,
+    extent: Extent,
     found: &Schedule,
 ) -> Result<String, ToolFault>
     requires { AreReadBack image.now }
-    ensures { (sfile : FileValue) (sprogram : ProgramValue) (limit : ℕ) → ¬ AreBadStates limit →
-        IsExtent (file_of image.now) (program_of image.now) limit judged.now.states judged.now.complete →
+    ensures { (classes : Text) (sfile : FileValue) (sprogram : ProgramValue) → ¬ AreBadStates extent.limit →
+        IsExtent (file_of image.now) (program_of image.now) extent.limit extent.states extent.complete →
         TurnsForEver (file_of image.now) (program_of image.now) found.now →
-        (IsTrue judged.now.complete → AllLike sfile sprogram (file_of image.now) (program_of image.now)) →
-        (IsTrue judged.now.complete → NeverStuck (file_of image.now) (program_of image.now)) →
-        GivesText (Decided sfile sprogram image.now limit) result }
+        (IsTrue extent.complete → AllLike sfile sprogram (file_of image.now) (program_of image.now)) →
+        (IsTrue extent.complete → NeverStuck (file_of image.now) (program_of image.now)) →
+        GivesText (Decided classes sfile sprogram image.now extent.limit) result }
 {
     let run = turning_run(alloc, image, found)?;
-    let text = print_turning(alloc, names_in(image), &run, extent_of(judged))?;
+    let text = print_turning(alloc, names_in(image), &run, extent)?;
     Ok(text)
 }
 
-/// Whether threads of an image's program can turn for ever. At most twice as many states are kept.
-fn turning_of(alloc: Global, image: &Image, states: usize) -> Result<Turning, AllocError>
-    ensures { IfOk result (IsTurning (file_of image.now) (program_of image.now)) }
-{
-    let file = image.checked().file();
-    let limit = states.saturating_mul(2);
-    let told = find_turning(alloc, file, image.program(), limit)?;
-    Ok(told)
-}
-
 /// The text where it isn't known whether threads can turn for ever.
-fn unsure_answer(alloc: Global, image: &Image, judged: &Judged) -> Result<String, ToolFault>
-    ensures { (sfile : FileValue) (sprogram : ProgramValue) (limit : ℕ) → ¬ AreBadStates limit →
-        IsExtent (file_of image.now) (program_of image.now) limit judged.now.states judged.now.complete →
-        (IsTrue judged.now.complete → AllLike sfile sprogram (file_of image.now) (program_of image.now)) →
-        (IsTrue judged.now.complete → NeverStuck (file_of image.now) (program_of image.now)) →
-        GivesText (Decided sfile sprogram image.now limit) result }
+fn unsure_answer(alloc: Global, image: &Image, extent: Extent) -> Result<String, ToolFault>
+    ensures { (classes : Text) (sfile : FileValue) (sprogram : ProgramValue) → ¬ AreBadStates extent.limit →
+        IsExtent (file_of image.now) (program_of image.now) extent.limit extent.states extent.complete →
+        (IsTrue extent.complete → AllLike sfile sprogram (file_of image.now) (program_of image.now)) →
+        (IsTrue extent.complete → NeverStuck (file_of image.now) (program_of image.now)) →
+        GivesText (Decided classes sfile sprogram image.now extent.limit) result }
 {
-    let text = print_unsure(alloc, extent_of(judged))?;
+    let text = print_unsure(alloc, extent)?;
     Ok(text)
 }
 
@@ -278,23 +281,24 @@ fn unsure_answer(alloc: Global, image: &Image, judged: &Judged) -> Result<String
 fn quiet_answer(
     alloc: Global,
     image: &Image,
-    judged: &Judged,
-    states: usize,
+    classes: &str,
+    extent: Extent,
 ) -> Result<String, ToolFault>
     requires { AreReadBack image.now }
-    ensures { (sfile : FileValue) (sprogram : ProgramValue) (limit : ℕ) → ¬ AreBadStates limit →
-        IsExtent (file_of image.now) (program_of image.now) limit judged.now.states judged.now.complete →
-        (IsTrue judged.now.complete → AllLike sfile sprogram (file_of image.now) (program_of image.now)) →
-        (IsTrue judged.now.complete → NeverStuck (file_of image.now) (program_of image.now)) →
-        GivesText (Decided sfile sprogram image.now limit) result }
+    ensures { (sfile : FileValue) (sprogram : ProgramValue) → ¬ AreBadStates extent.limit →
+        IsExtent (file_of image.now) (program_of image.now) extent.limit extent.states extent.complete →
+        (IsTrue extent.complete → AllLike sfile sprogram (file_of image.now) (program_of image.now)) →
+        (IsTrue extent.complete → NeverStuck (file_of image.now) (program_of image.now)) →
+        GivesText (Decided classes.now sfile sprogram image.now extent.limit) result }
 {
-    if !judged.complete {
-        return free_answer(alloc, image, judged);
+    if !extent.complete {
+        return free_answer(alloc, image, "", extent);
     }
-    match turning_of(alloc, image, states)? {
-        Turning::Never => free_answer(alloc, image, judged),
-        Turning::After(schedule) => turning_answer(alloc, image, judged, &schedule),
-        Turning::Unknown => unsure_answer(alloc, image, judged),
+    let Told { turning, beside } = told_of(alloc, image, classes, extent.limit)?;
+    match turning {
+        Turning::Never => free_answer(alloc, image, beside.as_str(), extent),
+        Turning::After(schedule) => turning_answer(alloc, image, extent, &schedule),
+        Turning::Unknown => unsure_answer(alloc, image, extent),
     }
 }
 
@@ -303,21 +307,32 @@ fn decided(
     alloc: Global,
     specification: Specification<'_>,
     image: &Image,
+    classes: &str,
     states: usize,
 ) -> Result<String, ToolFault>
     requires { AreReadBack image.now }
-    ensures { GivesText (Decided (spec_file specification.entry) (spec_program specification.entry)
+    ensures { GivesText (Decided classes.now (spec_file specification.entry) (spec_program specification.entry)
         image.now states) result }
 {
     if are_bad_states(states) {
         return Err(ToolFault::Explore(ExploreFault::BadStates));
     }
     let judged = judged_of(alloc, specification, image, states)?;
+    let extent = extent_of(&judged, states);
     match &judged.bad {
-        Some(steps) => wrong_answer(alloc, specification, image, &judged, steps.as_slice()),
+        Some(steps) => {
+            wrong_answer(
+                alloc,
+                specification,
+                image,
+                &judged,
+                steps.as_slice(),
+                extent,
+            )
+        }
         None => match &judged.stuck {
-            Some(steps) => stuck_answer(alloc, image, &judged, steps.as_slice()),
-            None => quiet_answer(alloc, image, &judged, states),
+            Some(steps) => stuck_answer(alloc, image, extent, steps.as_slice()),
+            None => quiet_answer(alloc, image, classes, extent),
         },
     }
 }
@@ -326,30 +341,32 @@ fn decided(
 fn decided_like(
     alloc: Global,
     image: &Image,
+    classes: &str,
     like: &Image,
     states: usize,
 ) -> Result<String, ToolFault>
     requires { AreReadBack image.now }
-    ensures { GivesText (Decided (file_of like.now) (program_of like.now) image.now states) result }
+    ensures { GivesText (Decided classes.now (file_of like.now) (program_of like.now) image.now states) result }
 {
     let specification = Specification::own(like.checked().file(), like.program());
-    decided(alloc, specification, image, states)
+    decided(alloc, specification, image, classes, states)
 }
 
 /// The same by a class text, which specifies the program of a text.
 fn decided_by(
     alloc: Global,
     image: &Image,
+    classes: &str,
     like: &str,
     program: &str,
     states: usize,
 ) -> Result<String, ToolFault>
     requires { AreReadBack image.now }
     ensures { GivesText (AnswersLike like.now program.now image.now
-        (λ s. Decided (file_of s) (program_of s) image.now states)) result }
+        (λ s. Decided classes.now (file_of s) (program_of s) image.now states)) result }
 {
     match specified(alloc, like, program, image.program()) {
-        Ok(specification) => decided_like(alloc, image, &specification, states),
+        Ok(specification) => decided_like(alloc, image, classes, &specification, states),
         Err(fault) => Err(ToolFault::from(fault)),
     }
 }
@@ -362,7 +379,8 @@ fn decided_by(
 /// these are all.
 ///
 /// A run after which threads turn for ever is looked for only where all states were kept, with at most twice as many
-/// states. If these don't suffice, it is said that threads may turn for ever.
+/// states. If these don't suffice, it is said that threads may turn for ever. Where there is none and all states were
+/// kept, a line says whether the program has a data race, for which at most so many states are kept too.
 ///
 /// If serial histories lack, a run that none of the others explains is printed as not judged, with the reason; before
 /// it one after which threads wait, if there is such a run.
@@ -379,7 +397,7 @@ pub fn verdict(
 {
     let image = compile(alloc, classes, program)?;
     verdicts_read_back();
-    decided_like(alloc, &image, &image, states)
+    decided_like(alloc, &image, classes, &image, states)
 }
 
 /// The same by a specification, whose class text is given. Refused also as that is with the program.
@@ -394,5 +412,5 @@ pub fn verdict_like(
 {
     let image = compile(alloc, classes, program)?;
     verdicts_read_back();
-    decided_by(alloc, &image, like, program, states)
+    decided_by(alloc, &image, classes, like, program, states)
 }

@@ -4,11 +4,11 @@ ghost use Rattle.std.specs.Prelude.{◌≡◌, ◌++◌, IfOk, OnOk, map, string
 ghost use Rattle.std.specs.Option.{option_copied};
 ghost use Rattle.ls_labels.specs.Names.{names_of};
 ghost use Rattle.ls_schedule.specs.Reading.{thread_names};
-ghost use Rattle.ls_explore_commands.specs.RaceReports.{accesses_text, kind_line};
+ghost use Rattle.ls_explore_commands.specs.RaceReports.{accesses_text, extent_text, kind_line, whole_text};
 ghost use Rattle.ls_explore_commands.specs.RaceReports.{after_fields, before_fields, field_line, head_text, kinds_text};
 ghost use Rattle.ls_explore_commands.specs.RaceReports.{none_found, none_text, races_text};
 
-use crate::reporting::{Extent, push_last, push_run};
+use crate::reporting::push_run;
 use ls_fewest_switches::SimpleRun;
 use ls_labels::names::Names;
 use ls_race_laws::access::Kind;
@@ -16,6 +16,7 @@ use ls_race_reports::{first_sure, kind_words};
 use ls_races::{Race, Races, is_unsure};
 use ls_trace::trace;
 use std::alloc::{AllocError, Global};
+use std::fmt::Write;
 
 /// What is told of races: the flags of the classes' fields, what was found, and whether the class text has a call of
 /// `tryLock`.
@@ -170,6 +171,20 @@ fn push_head(
     }
 }
 
+fn whole_words(complete: bool) -> &'static str
+    ensures { result.now ≡ whole_text complete }
+{
+    if complete { " complete\n" } else { " cut\n" }
+}
+
+/// Adds how many states were kept, and whether all variables are told on which accesses race.
+fn push_extent(out: &mut String, states: usize, complete: bool) -> Result<(), AllocError>
+    ensures { OnOk result (string_bytes out.new ≡ string_bytes out.old ++ extent_text states complete) }
+{
+    write!(out, "states {states}")?;
+    out.push_str(whole_words(complete))
+}
+
 /// The text of a program's data races. The only refusal is that memory ran out.
 pub(crate) fn print_races(
     alloc: Global,
@@ -183,10 +198,6 @@ pub(crate) fn print_races(
 {
     let races = told.found.races.as_slice();
     let complete = told.found.complete;
-    let extent = Extent {
-        states: told.found.states,
-        complete,
-    };
     let otherwise = none_words(races, complete, told.tries);
     let mut out = String::new(alloc);
     push_head(
@@ -197,6 +208,6 @@ pub(crate) fn print_races(
         otherwise,
     )?;
     push_kinds(alloc, &mut out, names, told.flags, races)?;
-    push_last(&mut out, extent)?;
+    push_extent(&mut out, told.found.states, complete)?;
     Ok(out)
 }

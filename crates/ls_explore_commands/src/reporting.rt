@@ -5,12 +5,13 @@ ghost use Rattle.ls_labels.specs.Names.{names_of};
 ghost use Rattle.ls_meaning.specs.Runs.{source_history};
 ghost use Rattle.ls_report.specs.Printing.{run_text};
 ghost use Rattle.ls_schedule.specs.Reading.{thread_names};
-ghost use Rattle.ls_explore_commands.specs.Reports.{bad_text, doubt_text, doubtful_text, end_text, free_text, last_text};
+ghost use Rattle.ls_explore_commands.specs.Reports.{bad_text, doubt_text, doubtful_text, end_text, free_text};
+ghost use Rattle.ls_explore_commands.specs.Reports.{last_text};
 ghost use Rattle.ls_explore_commands.specs.Reports.{run_report, stuck_and_doubtful_text, stuck_text};
 ghost use Rattle.ls_explore_commands.specs.Reports.{turning_text, unsure_text};
 
 use ls_events::schedule::Schedule;
-use ls_explore_reports::waiting_after;
+use ls_explore_reports::{cut_words, waiting_after};
 use ls_fewest_switches::{SimpleRun, push_switches};
 use ls_labels::names::Names;
 use ls_report::print_history;
@@ -20,9 +21,10 @@ use ls_state::scene::Scene;
 use std::alloc::{AllocError, Global};
 use std::fmt::Write;
 
-/// How many states were kept, and whether these are all.
+/// How many states may be kept, how many were, and whether these are all.
 #[derive(Copy)]
 pub(crate) struct Extent {
+    pub limit: usize,
     pub states: usize,
     pub complete: bool,
 }
@@ -33,10 +35,13 @@ impl Clone for Extent {
     }
 }
 
-fn end_words(complete: bool) -> &'static str
-    ensures { result.now ≡ end_text complete }
+fn end_words(extent: Extent) -> &'static str
+    ensures { result.now ≡ end_text extent.limit extent.states extent.complete }
 {
-    if complete { " complete\n" } else { " cut\n" }
+    if extent.complete {
+        return " complete\n";
+    }
+    cut_words(extent.limit, extent.states)
 }
 
 fn doubt_words(doubt: Doubt) -> &'static str
@@ -50,11 +55,12 @@ fn doubt_words(doubt: Doubt) -> &'static str
 
 /// Adds how many states were kept, and whether these are all.
 pub(crate) fn push_last(out: &mut String, extent: Extent) -> Result<(), AllocError>
-    ensures { OnOk result (string_bytes out.new ≡ string_bytes out.old ++ last_text extent.states extent.complete) }
+    ensures { OnOk result (string_bytes out.new ≡ string_bytes out.old ++
+        last_text extent.limit extent.states extent.complete) }
 {
     let states = extent.states;
     write!(out, "states {states}")?;
-    out.push_str(end_words(extent.complete))
+    out.push_str(end_words(extent))
 }
 
 /// The history's lines of a schedule.
@@ -98,7 +104,7 @@ pub(crate) fn print_bad(
 ) -> Result<String, AllocError>
     ensures { IfOk result (λ text. string_bytes text ≡
         bad_text run.now.fewest (names_of names.entry) (thread_names names.entry.program.now) run.now.schedule
-        extent.states extent.complete) }
+        extent.limit extent.states extent.complete) }
 {
     let mut out = String::new(alloc);
     push_run(alloc, &mut out, names, "not linearizable", run)?;
@@ -116,8 +122,9 @@ pub(crate) fn print_doubtful(
     extent: Extent,
 ) -> Result<String, AllocError>
     ensures { IfOk result (λ text. string_bytes text ≡
-        doubtful_text doubt run.now.fewest (names_of names.entry) (thread_names names.entry.program.now) run.now.schedule
-        extent.states extent.complete) }
+        doubtful_text doubt run.now.fewest (names_of names.entry) (thread_names names.entry.program.now)
+        run.now.schedule
+        extent.limit extent.states extent.complete) }
 {
     let mut out = String::new(alloc);
     push_run(alloc, &mut out, names, doubt_words(doubt), run)?;
@@ -134,7 +141,7 @@ pub(crate) fn print_stuck(
 ) -> Result<String, AllocError>
     ensures { IfOk result (λ text. string_bytes text ≡
         stuck_text run.now.fewest (names_of names.entry) (thread_names names.entry.program.now) run.now.schedule
-        extent.states extent.complete) }
+        extent.limit extent.states extent.complete) }
 {
     let waiting = waiting_after(alloc, names, &run.schedule)?;
     let mut out = String::new(alloc);
@@ -155,7 +162,8 @@ pub(crate) fn print_stuck_and_doubtful(
 ) -> Result<String, AllocError>
     ensures { IfOk result (λ text. string_bytes text ≡
         stuck_and_doubtful_text stuck.now.schedule stuck.now.fewest doubt doubtful.now.fewest (names_of names.entry)
-        (thread_names names.entry.program.now) doubtful.now.schedule extent.states extent.complete) }
+        (thread_names names.entry.program.now) doubtful.now.schedule extent.limit extent.states
+        extent.complete) }
 {
     let waiting = waiting_after(alloc, names, &stuck.schedule)?;
     let mut out = String::new(alloc);
@@ -174,7 +182,7 @@ pub(crate) fn print_turning(
 ) -> Result<String, AllocError>
     ensures { IfOk result (λ text. string_bytes text ≡
         turning_text run.now.fewest (names_of names.entry) (thread_names names.entry.program.now) run.now.schedule
-        extent.states extent.complete) }
+        extent.limit extent.states extent.complete) }
 {
     let mut out = String::new(alloc);
     push_run(alloc, &mut out, names, "threads turn for ever", run)?;
@@ -182,19 +190,21 @@ pub(crate) fn print_turning(
     Ok(out)
 }
 
-/// The text that no run is bad. The only refusal is that memory ran out.
-pub(crate) fn print_free(alloc: Global, extent: Extent) -> Result<String, AllocError>
-    ensures { IfOk result (λ text. string_bytes text ≡ free_text extent.states extent.complete) }
+/// The text that no run is bad, and what is said beside that. The only refusal is that memory ran out.
+pub(crate) fn print_free(alloc: Global, beside: &str, extent: Extent) -> Result<String, AllocError>
+    ensures { IfOk result (λ text. string_bytes text ≡
+        free_text beside.now extent.limit extent.states extent.complete) }
 {
     let mut out = String::new(alloc);
     out.push_str("none\n")?;
+    out.push_str(beside)?;
     push_last(&mut out, extent)?;
     Ok(out)
 }
 
 /// The text that no run is bad, where threads may turn for ever. The only refusal is that memory ran out.
 pub(crate) fn print_unsure(alloc: Global, extent: Extent) -> Result<String, AllocError>
-    ensures { IfOk result (λ text. string_bytes text ≡ unsure_text extent.states extent.complete) }
+    ensures { IfOk result (λ text. string_bytes text ≡ unsure_text extent.limit extent.states extent.complete) }
 {
     let mut out = String::new(alloc);
     out.push_str("none, but threads may turn for ever\n")?;

@@ -1,6 +1,7 @@
 -- From what a layer answers to what a run does.
 use Rattle.std.specs.Prelude.{IfSome, String, string_bytes, if◌then◌else◌}
-use Rattle.std.proofs.Common.{ℕ, ◌≡◌, ◌∙◌, ◌⊎◌, inl, inr, ap, sym, List, [], Bool, true, false, refl, subst, Option, Some, None}
+use Rattle.std.proofs.Common.{ℕ, ◌≡◌, ◌∙◌, ◌⊎◌, inl, inr, ap, sym, List, [], Bool, true, false, refl, subst, Option}
+use Rattle.std.proofs.Common.{Some, None}
 use Rattle.std.proofs.Common.{Result, Ok, Err, ◌==◌, ◌∷◌, arith, eqb-true, length}
 use Rattle.std.specs.Global.{Global}
 use Rattle.std.specs.Io.KnownBytes.{Appends, Keeps}
@@ -20,7 +21,8 @@ use Rattle.ls_faults.specs.declared.fault.ToolFault.TheVariants as fault
 use Rattle.ls_tool.specs.declared.refusal.Refusal.{Refusal}
 use Rattle.ls_tool.specs.declared.refusal.Refusal.TheVariants as refusal
 use Rattle.ls_faults.specs.Given.{GivesText}
-use Rattle.ls_tool.specs.Output.{Answered, AnswersText, AsAsked, Asks, BadLine, Closes, Decided, Decides, Ends, HasToldAs}
+use Rattle.ls_tool.specs.Output.{Answered, AnswersText, AsAsked, Asks, BadLine, Closes, Decided, Decides, Ends}
+use Rattle.ls_tool.specs.Output.{HasToldAs}
 use Rattle.ls_tool.specs.Output.{programs_text, progress_of, status_for}
 use Rattle.ls_tool.specs.declared.said.Said.{Said}
 use Rattle.ls_tool.specs.declared.said.Telling.{Telling}
@@ -235,7 +237,8 @@ tells words input (fault.Program f) exit out err s k t d = AsAsked (Tells (fault
 tells words input (fault.Build f) exit out err s k t d = AsAsked (Tells (fault_line (fault.Build f))) d (s, k, t)
 tells words input fault.BadCells exit out err s k t d = AsAsked (Tells (fault_line fault.BadCells)) d (s, k, t)
 tells words input (fault.Schedule f) exit out err s k t d = AsAsked (Tells (fault_line (fault.Schedule f))) d (s, k, t)
-tells words input (fault.Translation f) exit out err s k t d = AsAsked (Tells (fault_line (fault.Translation f))) d (s, k, t)
+tells words input (fault.Translation f) exit out err s k t d =
+    AsAsked (Tells (fault_line (fault.Translation f))) d (s, k, t)
 tells words input (fault.Live f) exit out err s k t d = AsAsked (Tells (fault_line (fault.Live f))) d (s, k, t)
 tells words input (fault.Turns f) exit out err s k t d = AsAsked (Tells (fault_line (fault.Turns f))) d (s, k, t)
 tells words input (fault.Batch f) exit out err s k t d = AsAsked (Tells (fault_line (fault.Batch f))) d (s, k, t)
@@ -243,7 +246,8 @@ tells words input (fault.Explore f) exit out err s k t d = AsAsked (Tells (fault
 tells words input (fault.Class f) exit out err s k t d = AsAsked (Tells (fault_line (fault.Class f))) d (s, k, t)
 tells words input fault.BadNumbers exit out err s k t d = AsAsked (Tells (fault_line fault.BadNumbers)) d (s, k, t)
 tells words input fault.BadOptions exit out err s k t d = AsAsked (Tells (fault_line fault.BadOptions)) d (s, k, t)
-tells words input (fault.BadEntry at) exit out err s k t d = AsAsked (Tells (fault_line (fault.BadEntry at))) d (s, k, t)
+tells words input (fault.BadEntry at) exit out err s k t d =
+    AsAsked (Tells (fault_line (fault.BadEntry at))) d (s, k, t)
 tells words input (fault.Specification f) exit out err s k t d =
     AsAsked (Tells (fault_line (fault.Specification f))) d (s, k, t)
 tells words input (fault.UnlikeSpecification at) exit out err s k t d =
@@ -255,7 +259,8 @@ tells words input (fault.History f) exit out err s k t d = AsAsked (Tells (fault
 tells words input (fault.Order f) exit out err s k t d = AsAsked (Tells (fault_line (fault.Order f))) d (s, k, t)
 tells words input (fault.Tally f) exit out err s k t d = AsAsked (Tells (fault_line (fault.Tally f))) d (s, k, t)
 tells words input fault.WrongParts exit out err s k t d = AsAsked (Tells (fault_line fault.WrongParts)) d (s, k, t)
-tells words input fault.TooManyTrapped exit out err s k t d = AsAsked (Tells (fault_line fault.TooManyTrapped)) d (s, k, t)
+tells words input fault.TooManyTrapped exit out err s k t d =
+    AsAsked (Tells (fault_line fault.TooManyTrapped)) d (s, k, t)
 tells words input fault.NotText exit out err s k t d = AsAsked (Tells (fault_line fault.NotText)) d (s, k, t)
 tells words input fault.WriteFailed exit out err s k t d = AsAsked (Tells (fault_line fault.WriteFailed)) d (s, k, t)
 
@@ -364,7 +369,8 @@ later_first words err between before after kept (Progressed l new a p) = Progres
     (later l.request err new before after kept p)
 
 -- after the lines of progress
-pub ends_so : (words : List Text) (input : Text) (exit : Exit) (out err : Left) (between : Option Text) (before : Bool) →
+pub ends_so : (words : List Text) (input : Text) (exit : Exit) (out err : Left) (between : Option Text)
+    (before : Bool) →
     (before ≡ true → err.has_failed ≡ true) →
     TellsFirst words err.old before between →
     Closes words input exit out (left between err.new err.has_failed) →

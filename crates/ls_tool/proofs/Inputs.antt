@@ -32,5 +32,6 @@ on_parts spec (requests.Sample seed steps switch cells) input answer other h = h
 on_parts spec (requests.Explore cells states illegal first order progress) input answer other h = h
 on_parts spec (requests.Verdict states mixed) input answer other h = h
 on_parts spec (requests.Races states mixed) input answer other h = h
+on_parts spec (requests.Ends states mixed) input answer other h = h
 on_parts spec (requests.Find seeking) input answer other h = h
 on_parts spec (requests.Merge count) input answer other h = absurd (other count refl)

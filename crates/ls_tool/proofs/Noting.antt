@@ -63,6 +63,7 @@ is_check (requests.Sample seed steps switch cells) e = absurd (cc)
 is_check (requests.Explore cells states illegal first order progress) e = absurd (cc)
 is_check (requests.Verdict states mixed) e = absurd (cc)
 is_check (requests.Races states mixed) e = absurd (cc)
+is_check (requests.Ends states mixed) e = absurd (cc)
 is_check (requests.Find seeking) e = absurd (cc)
 is_check (requests.Merge count) e = absurd (cc)
 

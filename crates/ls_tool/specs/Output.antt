@@ -27,6 +27,7 @@ use Rattle.ls_explore_commands.specs.Likeness.{ExploresLike, VerdictsLike}
 use Rattle.ls_explore_reports.specs.declared.printing.Exploring.{Exploring}
 use Rattle.ls_explore_commands.specs.Verdicts.{VerdictsTo}
 use Rattle.ls_explore_commands.specs.Races.{RacesTo}
+use Rattle.ls_explore_commands.specs.Endings.{EndsTo}
 use Rattle.ls_commands.specs.Viewed.{ViewsTo}
 use Rattle.ls_commands.specs.declared.showing.View.{View}
 use Rattle.ls_commands.specs.declared.showing.View.TheVariants as views
@@ -119,12 +120,18 @@ abbrev pub Races : Bool → ℕ → Text → Text → Result Text ToolFault → 
 Races false states classes program answer = RacesTo states classes program answer
 Races true states classes program answer = answer ≡ Err faults.BadOptions
 
+-- whether calls end alone, where no option is given that goes with the histories, with a wrong run or with a data race
+abbrev pub EndsOn : Bool → ℕ → Text → Text → Result Text ToolFault → Type 0
+EndsOn false states classes program answer = EndsTo states classes program answer
+EndsOn true states classes program answer = answer ≡ Err faults.BadOptions
+
 -- and one that goes through all schedules
 abbrev pub Explores : Request → List Text → Result Text ToolFault → Type 0
 Explores (requests.Explore cells states illegal first order progress) parts answer = OnTwo
     (ExploresTo (exploring cells states illegal first order)) parts answer
 Explores (requests.Verdict states mixed) parts answer = OnTwo (Verdicts mixed states) parts answer
 Explores (requests.Races states mixed) parts answer = OnTwo (Races mixed states) parts answer
+Explores (requests.Ends states mixed) parts answer = OnTwo (EndsOn mixed states) parts answer
 Explores other parts answer = answer ≡ Err faults.WrongParts
 
 -- what a command may answer on the parts of an input: a text or a fault
@@ -150,6 +157,7 @@ Answers (requests.Explore cells states illegal first order progress) parts answe
     (requests.Explore cells states illegal first order progress) parts answer
 Answers (requests.Verdict states mixed) parts answer = Explores (requests.Verdict states mixed) parts answer
 Answers (requests.Races states mixed) parts answer = Explores (requests.Races states mixed) parts answer
+Answers (requests.Ends states mixed) parts answer = Explores (requests.Ends states mixed) parts answer
 Answers (requests.Find seeking) parts answer = OnFind seeking parts answer
 Answers (requests.Merge count) parts answer = answer ≡ Err faults.WrongParts
 
@@ -174,8 +182,8 @@ abbrev pub VerdictsBy : Bool → ℕ → Text → Text → Text → Result Text 
 VerdictsBy false states classes program reference answer = VerdictsLike states reference classes program answer
 VerdictsBy true states classes program reference answer = answer ≡ Err faults.BadOptions
 
--- What a command may answer that a reference is given; no other takes one. None goes with data races, which are those
--- of a class text alone.
+-- What a command may answer that a reference is given; no other takes one. None goes with data races and with whether
+-- calls end: these are said of a class text alone.
 abbrev pub AnswersByReference : Request → List Text → Result Text ToolFault → Type 0
 AnswersByReference requests.Order parts answer =
     OnFour (λ classes program history reference. OrdersLike reference classes program history) parts answer
@@ -184,6 +192,7 @@ AnswersByReference (requests.Explore cells states illegal first order progress) 
     parts answer
 AnswersByReference (requests.Verdict states mixed) parts answer = OnThree (VerdictsBy mixed states) parts answer
 AnswersByReference (requests.Races states mixed) parts answer = answer ≡ Err faults.BadOptions
+AnswersByReference (requests.Ends states mixed) parts answer = answer ≡ Err faults.BadOptions
 AnswersByReference (requests.Batch seed count steps switch cells judge) parts answer = OnThree
     (BatchesLike judge cells (sampling seed count (drawing steps switch))) parts answer
 AnswersByReference (requests.Find seeking) parts answer = FindsByReference seeking parts answer

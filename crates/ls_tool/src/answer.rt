@@ -57,9 +57,10 @@ fn decide<R: Threads + Wait + Sync, W: Watch>(
         Request::Translate { to, cells } => on_translate(alloc, to, cells as usize, parts),
         Request::Live { cells, limit } => on_live(rt, alloc, cells as usize, limit as usize, parts),
         Request::Batch { .. } | Request::Sample { .. } => on_samples(rt, alloc, request, parts),
-        Request::Explore { .. } | Request::Verdict { .. } | Request::Races { .. } => {
-            on_schedules(alloc, request, parts, watch)
-        }
+        Request::Explore { .. }
+        | Request::Verdict { .. }
+        | Request::Races { .. }
+        | Request::Ends { .. } => on_schedules(alloc, request, parts, watch),
         Request::Find(seeking) => on_find(rt, alloc, seeking, parts, watch),
         Request::Merge { .. } => Err(ToolFault::WrongParts),
     }
@@ -93,6 +94,7 @@ fn decide_like<R: Threads + Wait + Sync, W: Watch>(
         }
         Request::Verdict { states, mixed } => on_verdict_like(alloc, states as usize, mixed, parts),
         Request::Races { .. } => Err(ToolFault::BadOptions),
+        Request::Ends { .. } => Err(ToolFault::BadOptions),
         Request::Batch {
             seed,
             count,
@@ -208,8 +210,8 @@ pub(crate) fn answer_line<R: Threads + Wait + Sync, W: Watch>(
     }
 }
 
-/// The whole output for the words of a command line and the bytes of an input, with its status, or why there is none. The first word
-/// is the program's own name. It is the program without its streams.
+/// The whole output for the words of a command line and the bytes of an input, with its status, or why there is none.
+/// The first word is the program's own name. It is the program without its streams.
 pub fn answer<'a, R: Threads + Wait + Sync>(
     rt: &R,
     alloc: Global,

@@ -14,7 +14,7 @@ ghost use Rattle.ls_explore.specs.Watching.{GoesOn};
 ghost use Rattle.ls_explore_commands.specs.Explored.{ExploresTo};
 ghost use Rattle.ls_faults.specs.Given.{GivesText};
 ghost use Rattle.ls_items.specs.Cutting.{plain_text};
-ghost use Rattle.ls_tool.specs.Output.{Explores, OnOrder, OnThree, OnTwo, Races, Samples, Verdicts, exploring};
+ghost use Rattle.ls_tool.specs.Output.{EndsOn, Explores, OnOrder, OnThree, OnTwo, Races, Samples, Verdicts, exploring};
 
 use ls_command_line::{Request, Side};
 use ls_commands::{
@@ -22,7 +22,7 @@ use ls_commands::{
     replay_live, sample, serial_order, show, translate,
 };
 use ls_explore::Watch;
-use ls_explore_commands::{Exploring, explore, races, verdict};
+use ls_explore_commands::{Exploring, endings, explore, races, verdict};
 use ls_faults::fault::ToolFault;
 use std::alloc::Global;
 use std::sync::Wait;
@@ -314,6 +314,22 @@ fn on_races(alloc: Global, states: usize, mixed: bool, parts: &[&str]) -> Result
     }
 }
 
+/// A class text and a program of it, if no option is given that goes with the histories, with a wrong run or with a
+/// data race.
+fn on_ends(alloc: Global, states: usize, mixed: bool, parts: &[&str]) -> Result<String, ToolFault>
+    ensures { GivesText (OnTwo (EndsOn mixed states) (map plain_text parts.now)) result }
+{
+    match parts {
+        [classes, program] => {
+            if mixed {
+                return Err(ToolFault::BadOptions);
+            }
+            endings(alloc, states, classes, program)
+        }
+        _ => Err(ToolFault::WrongParts),
+    }
+}
+
 /// What a command that goes through all schedules answers.
 pub(crate) fn on_schedules<W: Watch>(
     alloc: Global,
@@ -338,6 +354,7 @@ pub(crate) fn on_schedules<W: Watch>(
         }
         Request::Verdict { states, mixed } => on_verdict(alloc, states as usize, mixed, parts),
         Request::Races { states, mixed } => on_races(alloc, states as usize, mixed, parts),
+        Request::Ends { states, mixed } => on_ends(alloc, states as usize, mixed, parts),
         _ => Err(ToolFault::WrongParts),
     }
 }

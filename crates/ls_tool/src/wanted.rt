@@ -19,7 +19,8 @@ fn wanted_parts(request: Request) -> &'static str
         | Request::Sample { .. }
         | Request::Explore { .. }
         | Request::Verdict { .. }
-        | Request::Races { .. } => "two parts, class text and thread program",
+        | Request::Races { .. }
+        | Request::Ends { .. } => "two parts, class text and thread program",
         Request::Page(_) => {
             "two to four parts, class text, thread program, schedule and an order"
         }

@@ -11,4 +11,5 @@ returns-clause-shape c =
     let progress = c.with_option-command-4.ensures.shape _ _ order c.flag_option-progress.ensures.rule in
     let verdict = c.with_option-command-5.ensures.shape _ _ progress c.flag_option-verdict.ensures.rule in
     let races = c.with_option-command-6.ensures.shape _ _ verdict c.flag_option-races.ensures.rule in
-    c.with_reference.ensures.shape _ races
+    let ends = c.with_option-command-7.ensures.shape _ _ races c.flag_option-ends.ensures.rule in
+    c.with_reference.ensures.shape _ ends

@@ -1,4 +1,4 @@
--- Why `judge_batch_like` in src/judged_batch.rt keeps its contract.
+-- Why `judge_batch_like` in src/judged_batch.rt keeps its contract and what `judged_by` requires.
 
 use Rattle.std.proofs.Common.{ℕ}
 use Rattle.std.proofs.lemmas.Result.{err_from_is_err_and}
@@ -20,6 +20,10 @@ returns-in_err-image g c =
     rw (p.1, p.2) (not_compiled c.args.texts.classes.now c.args.texts.program.now
     (May c.args.texts.reference.now c.args.texts.program.now c.args.cells c.args.sampling) c.in_err-image.field-0.0
     c.in_err-image.ensures.refused)
+
+pub judged_by-requires-clause-readable : goal.judged_by-requires-clause-readable
+judged_by-requires-clause-readable g c = λ lifetimes outlives. c.compiled_is_readable.ensures
+    c.args.texts.classes.now c.args.texts.program.now c.in_ok-image.image c.in_ok-image.ensures.compiled
 
 pub returns : goal.returns
 returns g c =

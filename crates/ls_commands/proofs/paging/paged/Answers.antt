@@ -26,7 +26,8 @@ returns-in_err-checked c =
 
 pub run-requires : goal.run-requires
 run-requires c =
-    programs_read c.source_is_readable.ensures (placed_file c.in_ok-parsed.parsed) (elaborated_file c.in_ok-checked.checked)
+    programs_read c.source_is_readable.ensures (placed_file c.in_ok-parsed.parsed)
+    (elaborated_file c.in_ok-checked.checked)
     c.in_ok-checked.ensures.checked
 
 pub returns : goal.returns

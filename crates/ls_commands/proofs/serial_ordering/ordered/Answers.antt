@@ -18,7 +18,8 @@ use Rattle.ls_commands.proofs.serial_ordering.ordered.Goals as goal
 pub returns-in_err-history-2 : goal.returns-in_err-history-2
 returns-in_err-history-2 c =
     let p = err_from_is_err_and c.from_residual-in_err-history-2.result c.from_residual-in_err-history-2.ensures.1 in
-    rw (p.1, p.2) (history_fails (elaborated_file c.args.checked.now) (plain_program c.args.program.now) c.args.history.now
+    rw (p.1, p.2) (history_fails (elaborated_file c.args.checked.now) (plain_program c.args.program.now)
+    c.args.history.now
     c.as_str.result.now c.in_err-history-2.field-0.0 (c.as_str.ensures.value ∙ c.in_ok-history.ensures)
     c.in_err-history-2.ensures.fault)
 

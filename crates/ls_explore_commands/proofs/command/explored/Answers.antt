@@ -43,7 +43,8 @@ print_exploration-requires g c =
       so = so_here i found.setup (names_of c.names_in.result) c.as_slice-2.result.now judged c.names_in.ensures.names
           c.as_slice-2.ensures.value
           (rows_so i found.setup found.rows.items judged of_rows c.in_ok-found.ensures.found.truth verdicts);
-      whole = λ complete roomy. whole_here i (names_of c.names_in.result) found.rows.items c.as_slice-2.result.now judged
+      whole = λ complete roomy. whole_here i (names_of c.names_in.result) found.rows.items
+          c.as_slice-2.result.now judged
           c.names_in.ensures.names c.as_slice-2.ensures.value of_rows
           (c.in_ok-found.ensures.found.whole complete roomy);
     }
@@ -65,7 +66,8 @@ returns-in_err-text-clause-gives g c =
     c.in_ok-judged.ensures.below in
     let so =
     judged_so c.linearity_is_meant.ensures c.none_is_illegal.ensures.whole c.none_is_illegal.ensures.fitting
-    c.none_is_not_linearizable.ensures.whole c.none_is_not_linearizable.ensures.fitting i c.args.exploring.cells c.args.exploring.states c.args.exploring.order found.setup found.rows.items judged
+    c.none_is_not_linearizable.ensures.whole c.none_is_not_linearizable.ensures.fitting i c.args.exploring.cells
+    c.args.exploring.states c.args.exploring.order found.setup found.rows.items judged
     found.states found.complete found.roomy of_rows c.in_ok-found.ensures.found.truth c.in_ok-found.ensures.found.states
     c.in_ok-found.ensures.found.few c.in_ok-found.ensures.found.cut c.in_ok-found.ensures.found.by
     c.in_ok-found.ensures.found.whole
@@ -103,7 +105,8 @@ returns-clause-gives g c =
     found.states found.complete found.roomy e t) c.as_slice-2.ensures.value next in
     explore_tells i e found.setup judged found.states found.complete found.roomy t c.in_ok-found.ensures.found.good
     (judged_so c.linearity_is_meant.ensures c.none_is_illegal.ensures.whole c.none_is_illegal.ensures.fitting
-    c.none_is_not_linearizable.ensures.whole c.none_is_not_linearizable.ensures.fitting i e.cells e.states e.order found.setup found.rows.items judged found.states found.complete found.roomy of_rows
+    c.none_is_not_linearizable.ensures.whole c.none_is_not_linearizable.ensures.fitting i e.cells e.states e.order
+    found.setup found.rows.items judged found.states found.complete found.roomy of_rows
     c.in_ok-found.ensures.found.truth c.in_ok-found.ensures.found.states c.in_ok-found.ensures.found.few
     c.in_ok-found.ensures.found.cut
     c.in_ok-found.ensures.found.by c.in_ok-found.ensures.found.whole c.in_ok-found.ensures.found.apart

@@ -1,4 +1,4 @@
--- Why `explored_like` in src/command.rt keeps its clause `gives`.
+-- Why `explored_like` in src/command.rt keeps its clause `gives` and what `judge_rows_like` requires.
 
 use Rattle.std.proofs.Common.{◌≡◌, ◌∙◌, ◌++◌, List, Ok, ap, subst, sym}
 use Rattle.std.proofs.lemmas.Result.{err_from_is_err_and}
@@ -15,7 +15,8 @@ use Rattle.ls_specification.specs.Specification.{spec_file, spec_program}
 use Rattle.ls_translation.specs.Texts.{file_of, program_of}
 use Rattle.ls_types_checked.specs.CheckedFile.{elaborated_file}
 use Rattle.ls_explore_reports.specs.ImageNames.{names_in}
-use Rattle.ls_explore_reports.specs.Judged.{AreMeant, IsToldBelowLike, Judged}
+use Rattle.ls_explore_reports.specs.Judged.{AreEachOnce, AreMeant, IsToldBelowLike, Judged}
+use Rattle.ls_explore_reports.proofs.RowsOnce.{rows_once}
 use Rattle.ls_explore_reports.specs.Printing.{last_text, rows_text, shown}
 use Rattle.ls_explore_commands.specs.Likeness.{ExploredLike, Tells}
 use Rattle.ls_race_reports.proofs.Same.{at_same}
@@ -27,6 +28,13 @@ returns-in_err-found-clause-gives g c =
     let p = err_from_is_err_and c.from_residual.result c.from_residual.ensures.1 in
     rw (p.1, p.2) (like_fails c.args.like.now c.args.image.now c.args.exploring c.in_err-found.field-0.0
     c.in_err-found.ensures.refused)
+
+pub judge_rows_like-requires : goal.judge_rows_like-requires
+judge_rows_like-requires g c =
+    let found = c.in_ok-found.found in
+    subst AreEachOnce (sym c.as_slice.ensures.value)
+    (rows_once (file_of c.args.image.now) (program_of c.args.image.now) found.setup found.rows.items
+    c.in_ok-found.ensures.found.truth)
 
 pub returns-in_err-text-clause-gives : goal.returns-in_err-text-clause-gives
 returns-in_err-text-clause-gives g c =
@@ -80,12 +88,14 @@ returns-clause-gives g c =
     meant c.in_ok-judged.ensures.sets below in
     let t = string_bytes c.in_ok-text.text in
     let first = subst (λ (ns : Names). t ≡ rows_text ns (thread_names c.names_in.result.program.now) found.setup
-    (shown e c.as_slice-2.result.now) ++ last_text found.states c.as_slice-2.result.now found.complete found.roomy)
+    (shown e c.as_slice-2.result.now) ++
+    last_text e.states found.states c.as_slice-2.result.now found.complete found.roomy)
     c.names_in.ensures.names c.in_ok-text.ensures.text in
     let next = subst (λ (q : CodeProgram). t ≡ rows_text (names_in i) (thread_names q) found.setup
-    (shown e c.as_slice-2.result.now) ++ last_text found.states c.as_slice-2.result.now found.complete found.roomy)
+    (shown e c.as_slice-2.result.now) ++
+    last_text e.states found.states c.as_slice-2.result.now found.complete found.roomy)
     c.names_in.ensures.program first in
     let said = subst (λ (js : List Judged). t ≡ rows_text (names_in i) (thread_names (program_of_image i)) found.setup
-    (shown e js) ++ last_text found.states js found.complete found.roomy) c.as_slice-2.ensures.value next in
+    (shown e js) ++ last_text e.states found.states js found.complete found.roomy) c.as_slice-2.ensures.value next in
     subst (λ x. ExploredLike s i e (Ok x)) (sym said)
     (Tells found.setup judged found.states found.complete found.roomy told.good so)

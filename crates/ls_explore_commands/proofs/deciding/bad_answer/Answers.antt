@@ -1,6 +1,5 @@
 -- Why `bad_answer` in src/deciding.rt keeps its contract.
 
-use Rattle.std.proofs.Common.{refl}
 use Rattle.std.proofs.lemmas.Result.{err_from_is_err_and}
 use Rattle.ls_specification.specs.Specification.{spec_file, spec_program}
 use Rattle.ls_explore_commands.specs.Reports.{bad_text}
@@ -9,18 +8,19 @@ use Rattle.ls_explore_commands.proofs.Decisions.{same_text, tells, too_long}
 use Rattle.ls_explore_commands.proofs.deciding.bad_answer.Goals as goal
 
 pub returns-in_err-run : goal.returns-in_err-run
-returns-in_err-run c = λ limit good extent bad.
+returns-in_err-run c = λ classes good extent bad.
     let p = err_from_is_err_and c.from_residual.result c.from_residual.ensures.1 in
-    rw (p.1, p.2) (too_long (spec_file c.args.specification) (spec_program c.args.specification) c.args.image.now limit
-    c.args.steps.now c.in_err-run.field-0.0 c.in_err-run.ensures.only good (Bad bad))
+    rw (p.1, p.2) (too_long classes (spec_file c.args.specification)
+    (spec_program c.args.specification) c.args.image.now c.args.extent.limit c.args.steps.now c.in_err-run.field-0.0
+    c.in_err-run.ensures.only good (Bad bad))
 
 pub returns : goal.returns
-returns c = λ limit good extent bad.
+returns c = λ classes good extent bad.
     let i = c.args.image.now in
-    let j = c.args.judged.now in
+    let e = c.args.extent in
     let run = c.in_ok-run.run' in
-    let text = same_text (bad_text run.fewest) _ _ _ _ _ _ _ _ _ _ _ c.names_in.ensures.names
-    c.names_in.ensures.program refl c.extent_of.ensures.states c.extent_of.ensures.complete c.in_ok-text.ensures in
-    tells (spec_file c.args.specification) (spec_program c.args.specification) i limit _ _ text
-    (IsBad run.schedule run.fewest j.states j.complete good extent (c.in_ok-run.ensures.bad bad)
+    let text = same_text (λ names threads. bad_text run.fewest names threads run.schedule e.limit e.states e.complete)
+    _ _ _ _ _ c.names_in.ensures.names c.names_in.ensures.program c.in_ok-text.ensures in
+    tells classes (spec_file c.args.specification) (spec_program c.args.specification) i e.limit _ _ text
+    (IsBad run.schedule run.fewest e.states e.complete good extent (c.in_ok-run.ensures.bad bad)
     (c.in_ok-run.ensures.reads bad.acts) c.in_ok-run.ensures.fewest)

@@ -18,8 +18,9 @@ returns-in-Ok c =
     let s = c.in-Ok.specification in
     let is = subst (λ p. Specifies c.args.like.now c.args.program.now (plain_program p) s) c.program.ensures
     c.in-Ok.ensures.some in
-    wider (Decided (file_of s) (program_of s) i c.args.states) (AnswersLike c.args.like.now c.args.program.now i
-    (λ (s : Image). Decided (file_of s) (program_of s) i c.args.states)) c.decided_like.result
+    wider (Decided c.args.classes.now (file_of s) (program_of s) i c.args.states) (AnswersLike c.args.like.now
+    c.args.program.now i
+    (λ (s : Image). Decided c.args.classes.now (file_of s) (program_of s) i c.args.states)) c.decided_like.result
     (λ a h. OnSpecification s a is h) c.decided_like.ensures
 
 pub returns-in-Err : goal.returns-in-Err
@@ -29,5 +30,5 @@ returns-in-Err c =
     let is = subst (λ p. IsNoSpecification c.args.like.now c.args.program.now (plain_program p) f) c.program.ensures
     c.in-Err.ensures.none in
     let May = AnswersLike c.args.like.now c.args.program.now i
-    (λ (s : Image). Decided (file_of s) (program_of s) i c.args.states) in
+    (λ (s : Image). Decided c.args.classes.now (file_of s) (program_of s) i c.args.states) in
     subst (λ (t : ToolFault). GivesText May (Failed t)) (sym c.from.ensures) (fails May _ (NotSpecified f is))

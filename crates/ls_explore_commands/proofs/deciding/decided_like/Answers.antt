@@ -22,5 +22,6 @@ returns c =
     in
     let program : spec_program c.own-specification.result ≡ program_of s =
     c.own-specification.ensures.program ∙ ap plain_program c.program.ensures in
-    at_same (λ (f : File) (p : Program). GivesText (Decided f p c.args.image.now c.args.states) c.decided.result)
+    at_same (λ (f : File) (p : Program). GivesText (Decided c.args.classes.now f p c.args.image.now c.args.states)
+    c.decided.result)
     file program c.decided.ensures

@@ -1,6 +1,5 @@
 -- Why `doubtful_answer` in src/deciding.rt keeps its contract.
 
-use Rattle.std.proofs.Common.{refl}
 use Rattle.std.proofs.lemmas.Result.{err_from_is_err_and}
 use Rattle.ls_explore_commands.specs.Reports.{doubtful_text}
 use Rattle.ls_explore_commands.specs.Verdicts.{IsDoubtful, Unjudged}
@@ -8,20 +7,20 @@ use Rattle.ls_explore_commands.proofs.Decisions.{same_text, tells, too_long}
 use Rattle.ls_explore_commands.proofs.deciding.doubtful_answer.Goals as goal
 
 pub returns-in_err-run : goal.returns-in_err-run
-returns-in_err-run c = λ sfile sprogram limit good extent unjudged free.
+returns-in_err-run c = λ classes sfile sprogram good extent unjudged free.
     let p = err_from_is_err_and c.from_residual.result c.from_residual.ensures.1 in
-    rw (p.1, p.2) (too_long sfile sprogram c.args.image.now limit c.args.steps.now c.in_err-run.field-0.0
-    c.in_err-run.ensures.only good
+    rw (p.1, p.2) (too_long classes sfile sprogram c.args.image.now c.args.extent.limit c.args.steps.now
+    c.in_err-run.field-0.0 c.in_err-run.ensures.only good
     (Unjudged c.args.doubt unjudged))
 
 pub returns : goal.returns
-returns c = λ sfile sprogram limit good extent unjudged free.
-    let j = c.args.judged.now in
+returns c = λ classes sfile sprogram good extent unjudged free.
+    let e = c.args.extent in
     let run = c.in_ok-run.run' in
-    let text = same_text (doubtful_text c.args.doubt run.fewest) _ _ _ _ _ _ _ _ _ _ _ c.names_in.ensures.names
-    c.names_in.ensures.program refl c.extent_of.ensures.states c.extent_of.ensures.complete
-    c.in_ok-text.ensures in
-    tells sfile sprogram c.args.image.now limit _ _ text
-    (IsDoubtful c.args.doubt run.schedule run.fewest j.states j.complete good extent
+    let text = same_text (λ names threads.
+    doubtful_text c.args.doubt run.fewest names threads run.schedule e.limit e.states e.complete)
+    _ _ _ _ _ c.names_in.ensures.names c.names_in.ensures.program c.in_ok-text.ensures in
+    tells classes sfile sprogram c.args.image.now e.limit _ _ text
+    (IsDoubtful c.args.doubt run.schedule run.fewest e.states e.complete good extent
     (c.in_ok-run.ensures.unjudged c.args.doubt sfile sprogram unjudged) (c.in_ok-run.ensures.reads unjudged.acts) free
     c.in_ok-run.ensures.fewest)

@@ -1,6 +1,5 @@
 -- Why `stuck_answer` in src/deciding.rt keeps its contract.
 
-use Rattle.std.proofs.Common.{refl}
 use Rattle.std.proofs.lemmas.Result.{err_from_is_err_and}
 use Rattle.ls_explore_commands.specs.Reports.{stuck_text}
 use Rattle.ls_explore_commands.specs.Verdicts.{IsStuck, Stuck}
@@ -8,19 +7,18 @@ use Rattle.ls_explore_commands.proofs.Decisions.{same_text, tells, too_long}
 use Rattle.ls_explore_commands.proofs.deciding.stuck_answer.Goals as goal
 
 pub returns-in_err-run : goal.returns-in_err-run
-returns-in_err-run c = λ sfile sprogram limit good extent stuck linear.
+returns-in_err-run c = λ classes sfile sprogram good extent stuck linear.
     let p = err_from_is_err_and c.from_residual.result c.from_residual.ensures.1 in
-    rw (p.1, p.2) (too_long sfile sprogram c.args.image.now limit c.args.steps.now c.in_err-run.field-0.0
-    c.in_err-run.ensures.only good
+    rw (p.1, p.2) (too_long classes sfile sprogram c.args.image.now c.args.extent.limit c.args.steps.now
+    c.in_err-run.field-0.0 c.in_err-run.ensures.only good
     (Stuck stuck))
 
 pub returns : goal.returns
-returns c = λ sfile sprogram limit good extent stuck linear.
-    let j = c.args.judged.now in
+returns c = λ classes sfile sprogram good extent stuck linear.
+    let e = c.args.extent in
     let run = c.in_ok-run.run' in
-    let text = same_text (stuck_text run.fewest) _ _ _ _ _ run.schedule run.schedule _ _ _ _
-    c.names_in.ensures.names c.names_in.ensures.program refl c.extent_of.ensures.states
-    c.extent_of.ensures.complete c.in_ok-text.ensures in
-    tells sfile sprogram c.args.image.now limit _ _ text
-    (IsStuck run.schedule run.fewest j.states j.complete good extent (c.in_ok-run.ensures.stuck stuck)
+    let text = same_text (λ names threads. stuck_text run.fewest names threads run.schedule e.limit e.states e.complete)
+    _ _ _ _ _ c.names_in.ensures.names c.names_in.ensures.program c.in_ok-text.ensures in
+    tells classes sfile sprogram c.args.image.now e.limit _ _ text
+    (IsStuck run.schedule run.fewest e.states e.complete good extent (c.in_ok-run.ensures.stuck stuck)
     (c.in_ok-run.ensures.reads stuck.acts) c.in_ok-run.ensures.fewest linear)

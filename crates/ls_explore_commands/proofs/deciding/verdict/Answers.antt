@@ -11,18 +11,20 @@ use Rattle.ls_commands.proofs.Answering.{not_compiled, on_image}
 use Rattle.ls_explore_commands.specs.Verdicts.{Decided}
 use Rattle.ls_explore_commands.proofs.deciding.verdict.Goals as goal
 
-abbrev May : ℕ → Image → Result Text ToolFault → Type 0
-May states i = Decided (file_of i) (program_of i) i states
+abbrev May : Text → ℕ → Image → Result Text ToolFault → Type 0
+May classes states i = Decided classes (file_of i) (program_of i) i states
 
 pub returns-in_err-image : goal.returns-in_err-image
 returns-in_err-image c =
     let p = err_from_is_err_and c.from_residual.result c.from_residual.ensures.1 in
-    rw (p.1, p.2) (not_compiled c.args.classes.now c.args.program.now (May c.args.states) c.in_err-image.field-0.0
+    rw (p.1, p.2) (not_compiled c.args.classes.now c.args.program.now (May c.args.classes.now c.args.states)
+    c.in_err-image.field-0.0
     c.in_err-image.ensures.refused)
 
 pub returns : goal.returns
 returns c =
-    on_image c.args.classes.now c.args.program.now (May c.args.states) c.in_ok-image.image c.decided_like.result
+    on_image c.args.classes.now c.args.program.now (May c.args.classes.now c.args.states) c.in_ok-image.image
+    c.decided_like.result
     c.in_ok-image.ensures.compiled c.in_ok-image.ensures.within c.decided_like.ensures
 
 pub decided_like-requires : goal.decided_like-requires

@@ -12,18 +12,21 @@ use Rattle.ls_commands.specs.Likeness.{AnswersLike}
 use Rattle.ls_explore_commands.specs.Verdicts.{Decided}
 use Rattle.ls_explore_commands.proofs.deciding.verdict_like.Goals as goal
 
-abbrev May : ℕ → Text → Text → Image → Result Text ToolFault → Type 0
-May states like program i = AnswersLike like program i (λ s. Decided (file_of s) (program_of s) i states)
+abbrev May : Text → ℕ → Text → Text → Image → Result Text ToolFault → Type 0
+May classes states like program i =
+    AnswersLike like program i (λ s. Decided classes (file_of s) (program_of s) i states)
 
 pub returns-in_err-image : goal.returns-in_err-image
 returns-in_err-image c =
     let p = err_from_is_err_and c.from_residual.result c.from_residual.ensures.1 in
     rw (p.1, p.2) (not_compiled c.args.classes.now c.args.program.now
-    (May c.args.states c.args.like.now c.args.program.now) c.in_err-image.field-0.0 c.in_err-image.ensures.refused)
+    (May c.args.classes.now c.args.states c.args.like.now c.args.program.now) c.in_err-image.field-0.0
+    c.in_err-image.ensures.refused)
 
 pub returns : goal.returns
 returns c =
-    on_image c.args.classes.now c.args.program.now (May c.args.states c.args.like.now c.args.program.now)
+    on_image c.args.classes.now c.args.program.now (May c.args.classes.now c.args.states c.args.like.now
+    c.args.program.now)
     c.in_ok-image.image c.decided_by.result c.in_ok-image.ensures.compiled c.in_ok-image.ensures.within
     c.decided_by.ensures
 

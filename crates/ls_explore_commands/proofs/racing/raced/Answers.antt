@@ -5,7 +5,7 @@ use Rattle.ls_explore.specs.Faults.{AreBadStates}
 use Rattle.ls_races.specs.Volatile.{volatile_by}
 use Rattle.ls_explore_commands.specs.Races.{NoStates, Tells}
 use Rattle.ls_explore_commands.proofs.Decisions.{not_both}
-use Rattle.ls_explore_commands.proofs.RacesLemmas.{all_read, same_flags, same_races, tells}
+use Rattle.ls_explore_commands.proofs.RacesLemmas.{all_read, same_flags, same_races, some_kept, tells}
 use Rattle.ls_explore_commands.proofs.racing.raced.Goals as goal
 
 pub returns-then-are_bad_states : goal.returns-then-are_bad_states
@@ -24,5 +24,10 @@ returns c =
     (Tells flags found.races.items found.states found.complete c.has_try_lock.result good
     (same_flags c.args.classes.now _ _ c.as_slice-flags.ensures.value c.in_ok-declared.ensures)
     c.has_try_lock.ensures
-    c.in_ok-found.ensures.races c.in_ok-found.ensures.none
+    c.in_ok-found.ensures.races c.in_ok-found.ensures.none c.in_ok-found.ensures.extent
     (all_read (volatile_by flags) [] i found.races.items c.requires c.in_ok-found.ensures.races))
+
+pub races_of-requires : goal.races_of-requires
+races_of-requires c = record {
+  room = some_kept c.args.states (λ bad. not_both (c.are_bad_states.ensures.1 bad) c.if-are_bad_states.false);
+}

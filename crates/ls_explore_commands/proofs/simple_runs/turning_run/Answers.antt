@@ -9,7 +9,6 @@ use Rattle.ls_types_checked.specs.CheckedFile.{elaborated_file}
 use Rattle.ls_search_laws.specs.Stepping.{ActAll}
 use Rattle.ls_spinning.specs.Turning.{TurnsForEver}
 use Rattle.ls_translation.specs.Texts.{file_of, program_of}
-use Rattle.ls_explore_commands.specs.Readable.{IsReadBack}
 use Rattle.ls_race_reports.proofs.Same.{at_same}
 use Rattle.ls_explore_commands.proofs.SimpleRuns.{turns_too}
 use Rattle.ls_explore_commands.proofs.simple_runs.turning_run.Goals as goal

@@ -15,4 +15,5 @@ returns-in_err-line g c =
 
 pub returns : goal.returns
 returns g c = c.answer_line.ensures.decides (map string_bytes c.args.words.now)
-    (subst (λ ws. AsksFor ws (Some c.in_ok-line.line)) c.asking.ensures c.in_ok-line.ensures) (sym c.file_names_in.ensures)
+    (subst (λ ws. AsksFor ws (Some c.in_ok-line.line)) c.asking.ensures c.in_ok-line.ensures)
+    (sym c.file_names_in.ensures)

@@ -18,5 +18,6 @@ returns-in-Err-clause-decides g c =
     c.refusal_of.ensures)
 
 pub returns-in-Err-clause-taken : goal.returns-in-Err-clause-taken
-returns-in-Err-clause-taken g c = takes (names_of c.args.names) c.args.line c.in-Err.fault c.args.input.now c.refusal_of.result
+returns-in-Err-clause-taken g c = takes (names_of c.args.names) c.args.line c.in-Err.fault c.args.input.now
+    c.refusal_of.result
     c.refusal_of.ensures

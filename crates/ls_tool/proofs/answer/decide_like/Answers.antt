@@ -9,4 +9,4 @@ pub returns-in_default-clause-gives : goal.returns-in_default-clause-gives
 returns-in_default-clause-gives g c =
     as_ever c.args.request (map plain_text c.args.parts.now) c.decide.result c.in_default.not-Find c.in_default.not-Page
     c.in_default.not-Order c.in_default.not-Explore c.in_default.not-Verdict c.in_default.not-Races
-    c.in_default.not-Batch c.decide.ensures.gives
+    c.in_default.not-Ends c.in_default.not-Batch c.decide.ensures.gives

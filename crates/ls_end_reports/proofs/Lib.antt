@@ -1,0 +1,3 @@
+pub mod Playing
+pub mod Oks
+pub mod Pushed

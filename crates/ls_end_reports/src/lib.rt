@@ -1,0 +1,9 @@
+//! The text of whether a program's calls end.
+#![tactic(auto)]
+
+mod lassos;
+mod words;
+mod writing;
+
+pub use words::print_calls;
+pub use writing::{CallText, FairText, FreeText, written_calls};

@@ -1,0 +1,30 @@
+-- What `explore --verdict` says of data races beside `none`.
+use Rattle.std.specs.Prelude.{◌≡◌, ◌↔◌, ℕ, Bool, true, false, List, [], codes}
+use Rattle.std.specs.Str.Iter.{HasSubslice}
+use Rattle.ls_image.specs.declared.image.Image.{Image}
+use Rattle.ls_translation.specs.Texts.{file_of, program_of}
+use Rattle.ls_report.specs.Events.{Text}
+use Rattle.ls_labels.specs.Names.{Names}
+use Rattle.ls_explore_reports.specs.ImageNames.{names_in}
+use Rattle.ls_race_reports.specs.Beside.{free_line, raced_line}
+use Rattle.ls_race_reports.specs.ClassFlags.{AreFlags}
+use Rattle.ls_race_reports.specs.Verdicts.{IsRaceVerdict}
+use Rattle.ls_race_reports.specs.Words.{kind_text}
+use Rattle.ls_race_reports.specs.declared.verdict.RaceVerdict.{RaceVerdict}
+use Rattle.ls_race_reports.specs.declared.verdict.RaceVerdict.TheVariants as verdicts
+
+-- whether the program has a data race, by the flags of its classes' fields, and whether these have a call of `tryLock`
+abbrev pub beside_text : Names → List (List Bool) → Bool → RaceVerdict → Text
+beside_text names flags tries verdicts.Free = free_line true tries
+beside_text names flags tries (verdicts.Raced race) = raced_line (kind_text names flags race.on) []
+beside_text names flags tries verdicts.Unknown = free_line false tries
+
+-- Where all states were kept it is said so of the image's program by the class text, whatever specifies the program;
+-- else nothing.
+pub data IsBeside (classes : Text) (i : Image) (limit : ℕ) : Bool → Text → Type 0 where
+  Silent : IsBeside classes i limit false []
+  Says : (flags : List (List Bool)) (tries : Bool) (verdict : RaceVerdict) →
+      AreFlags classes flags →
+      (tries ≡ true) ↔ HasSubslice classes (codes "tryLock") →
+      IsRaceVerdict limit flags (file_of i) (program_of i) verdict →
+      IsBeside classes i limit true (beside_text (names_in i) flags tries verdict)

@@ -1,0 +1,73 @@
+// Lassos: a way to a state where a call is pending, and a cycle from there to there.
+
+ghost use Rattle.std.specs.Prelude.{◌≡◌, ◌≤◌, ◌+◌, ◌*◌, IfOk, IfSome, false, length};
+ghost use Rattle.ls_events.specs.Limits.{most_steps};
+ghost use Rattle.ls_graph.specs.Found.{IsGrown};
+ghost use Rattle.ls_graph.specs.Walks.{actors_of};
+ghost use Rattle.ls_progress.specs.Cycles.{IsLed};
+ghost use Rattle.ls_progress.specs.Ends.{IsShort};
+ghost use Rattle.ls_progress.specs.Kinds.{kind_of};
+
+use crate::cycles::{Round, cycle_along};
+use crate::ranks::{Wanted, is_in_call};
+use ls_events::schedule::MOST_STEPS;
+use ls_graph::closing::{Edge, Graph};
+use ls_graph::walks::edges_to;
+use ls_search::space::Kept;
+use std::alloc::{AllocError, Global};
+
+/// The way from before the first step to a state, and a cycle of steps that lead from there to the same state, but for
+/// names of objects.
+#[derive(Drop)]
+pub struct Lasso {
+    pub way: Vec<u8>,
+    pub cycle: Vec<u8>,
+}
+
+/// The threads whose steps these edges are.
+fn steps_of(alloc: Global, path: &[Edge]) -> Result<Vec<u8>, AllocError>
+    ensures { IfOk result (λ v. v.items ≡ actors_of path.now) }
+{
+    let mut steps = Vec::new(alloc);
+    for edge in path {
+        steps.push(edge.actor)?;
+    }
+    Ok(steps)
+}
+
+/// Whether ten rounds after the way are longer than a schedule may be. False only where they aren't.
+fn is_long(way: &[u8], cycle: &[u8]) -> bool
+    ensures { result ≡ false → length way.now + 10 * length cycle.now ≤ most_steps }
+{
+    let most = MOST_STEPS / 20;
+    way.len() > most || cycle.len() > most
+}
+
+/// The lasso with this cycle, if it is one, and ten rounds of it are no longer than a schedule may be.
+pub(crate) fn lasso_of(
+    alloc: Global,
+    graph: &Graph<Kept>,
+    labels: &[Option<u32>],
+    wanted: Wanted,
+    round: &Round,
+) -> Result<Option<Lasso>, AllocError>
+    requires { IsGrown graph.now }
+    ensures led { IfOk result (λ o. IfSome o (IsLed (kind_of wanted.kind wanted.thread) graph.now.edges.items
+        labels.now wanted.call round.now.at)) }
+    ensures short { IfOk result (λ o. IfSome o IsShort) }
+{
+    if round.at >= graph.found.nodes.len() || !is_in_call(labels, round.at, wanted.call) {
+        return Ok(None);
+    }
+    match cycle_along(alloc, &graph.edges, round.at, &round.places, wanted)? {
+        None => Ok(None),
+        Some(cycle) => {
+            let path = edges_to(alloc, graph, round.at)?;
+            let way = steps_of(alloc, &path)?;
+            if is_long(&way, &cycle) {
+                return Ok(None);
+            }
+            Ok(Some(Lasso { way, cycle }))
+        }
+    }
+}

@@ -1,0 +1,19 @@
+//! Progress: which calls of a program end whatever other threads do, and which may never end.
+#![tactic(auto)]
+
+mod arrays;
+mod components;
+mod cycles;
+mod judging;
+mod kinds;
+mod labels;
+mod lassos;
+mod ranking;
+mod ranks;
+mod sorts;
+mod space;
+mod states;
+
+pub use judging::{CallEnds, Ends, Fair, Free, ends_of};
+pub use lassos::Lasso;
+pub use states::Scope;

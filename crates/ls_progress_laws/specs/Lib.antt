@@ -1,0 +1,4 @@
+pub mod Progress
+pub mod Strides
+pub mod Laws
+pub mod Rows
