@@ -106,7 +106,7 @@ fn bounds_command<'a>(alloc: Global) -> Result<Command<'a>, AllocError>
         "find",
         "Finds the first small program of a class that isn't linearizable, or whose threads wait or turn for ever",
         "Standard input is a class text. As a second part, after a line %%, it may have a menu in place of the class's \
-         methods. A line of it has calls that stand together, as lock(#);
+         methods. A line of it has calls that stand together, as lock(#); \
          unlock(#), where # is the thread's number:\n  \
          printf 'class C { int n; int next() { n = n + 1; return n; } }' | listset find",
     );

@@ -25,8 +25,8 @@ pub struct SerialTable {
 /// A table has at most so many states.
 const MOST_STATES: usize = 32_000;
 
-/// A program has at most so many threads, the setup with them. Of calls that are pending at once each set may have taken
-/// effect, so more threads would lead to too many pairs.
+/// A program has at most so many threads, the setup with them. Of calls that are pending at once each set may have
+/// taken effect, so more threads would lead to too many pairs.
 const MOST_THREADS: usize = 9;
 
 /// A table in which states that do the same are one, as far as they are found. The only refusal is that memory ran out.
