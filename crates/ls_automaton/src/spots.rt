@@ -98,12 +98,14 @@ fn numbered<'a>(
     Ok(number)
 }
 
-/// What the call did with which these steps end, and the state after it. The only refusal is that memory ran out.
+/// What the call did with which these steps end, and the state after it. The run has made them. The only refusal is
+/// that memory ran out.
 pub(crate) fn reached<'a>(
     alloc: Global,
     task: &Task<'a>,
     spots: &mut Vec<Spot<'a>>,
     steps: Vec<u8>,
+    run: Playing<'a>,
 ) -> Result<Outcome, AllocError>
     requires spots { AreSpots (plain_file task.now.file.now) (plain_program task.now.program.now) spots.old.items }
     requires serial { IsSerial (source_history (plain_file task.now.file.now) (plain_program task.now.program.now)
@@ -111,12 +113,13 @@ pub(crate) fn reached<'a>(
     requires acts { ActAll (plain_file task.now.file.now) (plain_program task.now.program.now) steps.items }
     requires some { 0 < length (source_history (plain_file task.now.file.now) (plain_program task.now.program.now)
         steps.items) }
+    requires run { StandsFor run (progress_at (plain_file task.now.file.now) (plain_program task.now.program.now)
+        steps.items) }
     ensures after { IfOk result (λ o. IsNumbered (plain_file task.now.file.now) (plain_program task.now.program.now)
         spots.old.items spots.new.items steps.items o.after) }
     ensures end { IfOk result (λ o. IsLastOf (source_history (plain_file task.now.file.now)
         (plain_program task.now.program.now) steps.items) o.end) }
 {
-    let run = played_along(alloc, task.file, task.program, steps.as_slice())?;
     let after = numbered(alloc, task, spots, steps, &run)?;
     let history = run.into_history();
     let end = last_of(history.as_slice());

@@ -7,6 +7,8 @@ ghost use Rattle.ls_meaning.specs.Runs.{source_history};
 ghost use Rattle.ls_search_laws.specs.Stepping.{ActAll};
 ghost use Rattle.ls_serial.specs.Serial.{IsSerial};
 ghost use Rattle.ls_serial_search.specs.Open.{HasLongCall};
+ghost use Rattle.ls_serial_search.specs.Orders.{progress_at};
+ghost use Rattle.ls_source.specs.Stands.{StandsFor};
 ghost use Rattle.ls_automaton.specs.Spots.{AreSpots, IsAsked, IsFound, schedules_of};
 ghost use Rattle.ls_automaton.specs.Tables.{AreOutcomes};
 
@@ -14,7 +16,9 @@ use crate::outcome::Outcome;
 use crate::spots::{Spot, first_spot, reached};
 use ls_checked::program::Program;
 use ls_checked::tree::File;
-use ls_serial_search::following::{Followed, Task, follow_after};
+use ls_serial_search::following::{Followed, Further, Task, follow_from};
+use ls_serial_search::playing::played_along;
+use ls_source::playing::Playing;
 use std::alloc::{AllocError, Global};
 
 /// What calls do in each state, by its number. The first state is that in which nothing has run.
@@ -50,32 +54,51 @@ fn more_steps(alloc: Global, steps: &[u8], thread: u8, count: usize) -> Result<V
     Ok(longer)
 }
 
+/// Steps that lead to a state, and the run after them.
+#[derive(Drop)]
+struct Stand<'s, 'a> {
+    steps: &'s [u8],
+    run: Playing<'a>,
+}
+
 /// Adds the outcome of a thread's next call, if it ends. Whether it goes on beyond the bound. The only refusal is that
 /// memory ran out.
 fn ask_thread<'a>(
     alloc: Global,
     task: &Task<'a>,
     spots: &mut Vec<Spot<'a>>,
-    steps: &[u8],
+    stand: &Stand<'_, 'a>,
     thread: u8,
     row: &mut Vec<Outcome>,
 ) -> Result<bool, AllocError>
+    requires run { StandsFor stand.now.run (progress_at (plain_file task.now.file.now)
+        (plain_program task.now.program.now) stand.now.steps.now) }
     requires spots { AreSpots (plain_file task.now.file.now) (plain_program task.now.program.now) spots.old.items }
     requires serial { IsSerial (source_history (plain_file task.now.file.now) (plain_program task.now.program.now)
-        steps.now) }
-    requires acts { ActAll (plain_file task.now.file.now) (plain_program task.now.program.now) steps.now }
+        stand.now.steps.now) }
+    requires acts { ActAll (plain_file task.now.file.now) (plain_program task.now.program.now) stand.now.steps.now }
     ensures asked { IfOk result (λ goes_on. IsAsked (plain_file task.now.file.now) (plain_program task.now.program.now)
-        task.now.most_steps goes_on steps.now thread spots.old.items spots.new.items row.old.items row.new.items) }
+        task.now.most_steps goes_on stand.now.steps.now thread spots.old.items spots.new.items row.old.items
+        row.new.items) }
     ensures long { IfOk result (λ goes_on. goes_on ≡ true →
         HasLongCall (plain_file task.now.file.now) (plain_program task.now.program.now) task.now.most_steps) }
 {
-    match follow_after(alloc, task, steps, thread, task.most_steps)? {
+    let steps = stand.steps;
+    let Further { followed, run } = follow_from(
+        alloc,
+        task,
+        steps,
+        &stand.run,
+        thread,
+        task.most_steps,
+    )?;
+    match followed {
         Followed::Stays => Ok(false),
         Followed::Never(_) => Ok(false),
         Followed::GoesOn => Ok(true),
         Followed::Ends(count) => {
             let longer = more_steps(alloc, steps, thread, count)?;
-            let outcome = reached(alloc, task, spots, longer)?;
+            let outcome = reached(alloc, task, spots, longer, run)?;
             row.push(outcome)?;
             Ok(false)
         }
@@ -98,10 +121,12 @@ fn row_of<'a>(
     ensures long { IfOk result (λ r. r.goes_on ≡ true →
         HasLongCall (plain_file task.now.file.now) (plain_program task.now.program.now) task.now.most_steps) }
 {
+    let run = played_along(alloc, task.file, task.program, steps)?;
+    let stand = Stand { steps, run };
     let mut outcomes = Vec::new(alloc);
     let mut goes_on = false;
     for thread in 0..task.program.threads.len() {
-        let one = ask_thread(alloc, task, spots, steps, thread as u8, &mut outcomes)?;
+        let one = ask_thread(alloc, task, spots, &stand, thread as u8, &mut outcomes)?;
         goes_on = either(goes_on, one);
     }
     Ok(Row { outcomes, goes_on })

@@ -11,6 +11,7 @@ pub mod Doubts
 pub mod Open
 pub mod Apart
 pub mod Along
+pub mod Parked
 pub mod Gone
 pub mod Collected
 pub mod Kept

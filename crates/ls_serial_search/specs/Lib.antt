@@ -10,3 +10,4 @@ pub mod Found
 pub mod Told
 pub mod Histories
 pub mod Endless
+pub mod Parked

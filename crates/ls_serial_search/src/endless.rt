@@ -9,17 +9,21 @@ ghost use Rattle.ls_search_laws.specs.Stepping.{ActAll};
 ghost use Rattle.ls_serial.specs.Serial.{IsSerial};
 ghost use Rattle.ls_serial_search.specs.Following.{called};
 ghost use Rattle.ls_serial_search.specs.Histories.{lists_of};
+ghost use Rattle.ls_serial_search.specs.Orders.{progress_at};
+ghost use Rattle.ls_source.specs.Stands.{StandsFor};
 ghost use Rattle.ls_serial_search.specs.Open.{HasLongCall, HasManyOrders};
 ghost use Rattle.ls_serial_search.specs.Endless.{AreEndlessRuns, HasTried, HaveTried, TellEndlessRuns};
 
 use crate::following::{Followed, Task, follow};
 use crate::playing::played;
 use crate::searching::{both, search};
+use crate::standing::standing;
 use crate::telling::Bounds;
 use ls_checked::program::Program;
 use ls_checked::tree::File;
 use ls_events::event::{Event, Happening};
 use ls_events::schedule::Schedule;
+use ls_source::playing::Playing;
 use std::alloc::{AllocError, Global};
 
 /// The history of a schedule, and then the beginning of a thread's call. The only refusal is that memory ran out.
@@ -49,9 +53,12 @@ fn try_thread(
     alloc: Global,
     task: &Task,
     schedule: &Schedule,
+    run: &Playing<'_>,
     thread: u8,
     runs: &mut Vec<Vec<Event>>,
 ) -> Result<bool, AllocError>
+    requires { StandsFor run.now
+        (progress_at (plain_file task.now.file.now) (plain_program task.now.program.now) schedule.now) }
     ensures endless { OnOk result (
         IsSerial (source_history (plain_file task.now.file.now) (plain_program task.now.program.now) schedule.now) →
         AreEndlessRuns (plain_file task.now.file.now) (plain_program task.now.program.now) (lists_of runs.old.items) →
@@ -67,10 +74,11 @@ fn try_thread(
         ActAll (plain_file task.now.file.now) (plain_program task.now.program.now) schedule.now →
         HasLongCall (plain_file task.now.file.now) (plain_program task.now.program.now) task.now.most_steps) }
 {
-    match follow(alloc, task, schedule, thread, task.most_steps)? {
+    let further = follow(alloc, task, schedule, run, thread, task.most_steps)?;
+    match further.followed {
         Followed::Never(call) => {
-            let run = begun_history(alloc, task, schedule, thread, call)?;
-            runs.push(run)?;
+            let begun = begun_history(alloc, task, schedule, thread, call)?;
+            runs.push(begun)?;
             Ok(true)
         }
         Followed::Stays => Ok(true),
@@ -84,8 +92,11 @@ fn try_threads(
     alloc: Global,
     task: &Task,
     schedule: &Schedule,
+    run: &Playing<'_>,
     runs: &mut Vec<Vec<Event>>,
 ) -> Result<bool, AllocError>
+    requires { StandsFor run.now
+        (progress_at (plain_file task.now.file.now) (plain_program task.now.program.now) schedule.now) }
     ensures endless { OnOk result (
         IsSerial (source_history (plain_file task.now.file.now) (plain_program task.now.program.now) schedule.now) →
         AreEndlessRuns (plain_file task.now.file.now) (plain_program task.now.program.now) (lists_of runs.old.items) →
@@ -103,7 +114,7 @@ fn try_threads(
 {
     let mut all = true;
     for thread in 0..task.program.threads.len() {
-        let known = try_thread(alloc, task, schedule, thread as u8, runs)?;
+        let known = try_thread(alloc, task, schedule, run, thread as u8, runs)?;
         all = both(all, known);
     }
     Ok(all)
@@ -143,8 +154,10 @@ pub fn endless_runs(
     let known = search(alloc, &task, bounds.orders)?;
     let mut runs = Vec::new(alloc);
     let mut complete = known.complete;
-    for at in 0..known.schedules.len() {
-        let tried = try_threads(alloc, &task, &known.schedules[at], &mut runs)?;
+    for at in 0..known.orders.schedules.len() {
+        let schedule = &known.orders.schedules[at];
+        let run = standing(alloc, &task, schedule, &known.orders.runs[at])?;
+        let tried = try_threads(alloc, &task, schedule, &run, &mut runs)?;
         complete = both(complete, tried);
     }
     Ok(EndlessRuns { runs, complete })

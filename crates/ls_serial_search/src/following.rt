@@ -9,9 +9,10 @@ ghost use Rattle.ls_serial_search.specs.Following.{called, events_in, events_of}
 ghost use Rattle.ls_serial_search.specs.Happened.{EventsSay, HasFollowed, HasHappened};
 ghost use Rattle.ls_serial_search.specs.Marks.{IsMarkOf};
 ghost use Rattle.ls_serial_search.specs.Orders.{progress_at};
+ghost use Rattle.ls_serial_search.specs.Parked.{StandsBehind};
 
 use crate::marks::Mark;
-use crate::playing::played_along;
+use crate::standing::copied;
 use ls_checked::program::Program;
 use ls_checked::tree::File;
 use ls_events::action::Action;
@@ -106,8 +107,10 @@ fn follow_on<'a>(
     requires run { StandsFor run.old (progress_at (plain_file next.now.task.now.file.now)
         (plain_program next.now.task.now.program.now) (next.now.schedule.now ++ replicate 1 next.now.thread)) }
     requires mark { IsMarkOf mark.old run.old }
-    ensures { IfOk result (λ f. HasFollowed (plain_file next.now.task.now.file.now)
+    ensures followed { IfOk result (λ f. HasFollowed (plain_file next.now.task.now.file.now)
         (plain_program next.now.task.now.program.now) next.now.schedule.now next.now.thread next.now.most f) }
+    ensures stands { IfOk result (λ f. StandsBehind (plain_file next.now.task.now.file.now)
+        (plain_program next.now.task.now.program.now) next.now.schedule.now next.now.thread f run.new) }
 {
     let thread = next.thread as usize;
     let most = next.most;
@@ -139,8 +142,10 @@ fn follow_on<'a>(
 fn follow_run(alloc: Global, next: &NextCall, run: &mut Playing<'_>) -> Result<Followed, AllocError>
     requires { StandsFor run.old (progress_at (plain_file next.now.task.now.file.now)
         (plain_program next.now.task.now.program.now) next.now.schedule.now) }
-    ensures { IfOk result (λ f. HasFollowed (plain_file next.now.task.now.file.now)
+    ensures followed { IfOk result (λ f. HasFollowed (plain_file next.now.task.now.file.now)
         (plain_program next.now.task.now.program.now) next.now.schedule.now next.now.thread next.now.most f) }
+    ensures stands { IfOk result (λ f. StandsBehind (plain_file next.now.task.now.file.now)
+        (plain_program next.now.task.now.program.now) next.now.schedule.now next.now.thread f run.new) }
 {
     let thread = next.thread as usize;
     let first = run.step(alloc, thread)?;
@@ -155,19 +160,33 @@ fn follow_run(alloc: Global, next: &NextCall, run: &mut Playing<'_>) -> Result<F
     }
 }
 
-/// Follows a thread's next call after these steps, for at most so many steps. The only refusal is that memory ran out.
+/// What comes of a call, and the run that followed it.
+#[derive(Drop)]
+pub struct Further<'a> {
+    pub followed: Followed,
+    /// If the call ends, the run stands behind its last step.
+    pub run: Playing<'a>,
+}
+
+/// Follows a thread's next call after these steps, for at most so many steps. A run that stands there is given, and
+/// stays there. The only refusal is that memory ran out.
 ///
 /// It is marked where the run stands after the first step, and after each power of two from 64 on. If the run comes
 /// back there, the call never ends, since no other thread goes on.
-pub fn follow_after(
+pub fn follow_from<'a>(
     alloc: Global,
     task: &Task,
     schedule: &[u8],
+    run: &Playing<'a>,
     thread: u8,
     most: usize,
-) -> Result<Followed, AllocError>
-    ensures { IfOk result (λ f. HasFollowed (plain_file task.now.file.now) (plain_program task.now.program.now)
-        schedule.now thread most f) }
+) -> Result<Further<'a>, AllocError>
+    requires { StandsFor run.now (progress_at (plain_file task.now.file.now) (plain_program task.now.program.now)
+        schedule.now) }
+    ensures followed { IfOk result (λ f. HasFollowed (plain_file task.now.file.now)
+        (plain_program task.now.program.now) schedule.now thread most f.followed) }
+    ensures stands { IfOk result (λ f. StandsBehind (plain_file task.now.file.now)
+        (plain_program task.now.program.now) schedule.now thread f.followed f.run) }
 {
     let next = NextCall {
         task,
@@ -175,20 +194,26 @@ pub fn follow_after(
         thread,
         most,
     };
-    let mut run = played_along(alloc, next.task.file, next.task.program, next.schedule)?;
-    follow_run(alloc, &next, &mut run)
+    let mut run = copied(alloc, run)?;
+    let followed = follow_run(alloc, &next, &mut run)?;
+    Ok(Further { followed, run })
 }
 
-/// Follows a thread's next call after a schedule, for at most so many steps. The only refusal is that memory ran out.
-pub(crate) fn follow(
+/// The same after a schedule.
+pub(crate) fn follow<'a>(
     alloc: Global,
     task: &Task,
     schedule: &Schedule,
+    run: &Playing<'a>,
     thread: u8,
     most: usize,
-) -> Result<Followed, AllocError>
-    ensures { IfOk result (λ f. HasFollowed (plain_file task.now.file.now) (plain_program task.now.program.now)
-        schedule.now thread most f) }
+) -> Result<Further<'a>, AllocError>
+    requires { StandsFor run.now (progress_at (plain_file task.now.file.now) (plain_program task.now.program.now)
+        schedule.now) }
+    ensures followed { IfOk result (λ f. HasFollowed (plain_file task.now.file.now)
+        (plain_program task.now.program.now) schedule.now thread most f.followed) }
+    ensures stands { IfOk result (λ f. StandsBehind (plain_file task.now.file.now)
+        (plain_program task.now.program.now) schedule.now thread f.followed f.run) }
 {
-    follow_after(alloc, task, schedule.steps(), thread, most)
+    follow_from(alloc, task, schedule.steps(), run, thread, most)
 }

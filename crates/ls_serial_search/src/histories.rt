@@ -9,18 +9,20 @@ ghost use Rattle.ls_serial.specs.Serial.{HaveBeginning};
 ghost use Rattle.ls_linearizable.specs.Linearizable.{AreTrue, TellSerial};
 ghost use Rattle.ls_serial_search.specs.Found.{AreFound};
 ghost use Rattle.ls_serial_search.specs.Histories.{AreSerialRuns, IsKept, lists_of};
+ghost use Rattle.ls_serial_search.specs.Parked.{IsParked};
 ghost use Rattle.ls_serial_search.specs.Told.{IsDoubt};
 ghost use Rattle.ls_serial_search.specs.declared.telling.Doubt.TheVariants.{LongCall, ManyOrders};
 
 use crate::following::Task;
-use crate::playing::played;
 use crate::searching::{Known, search};
+use crate::standing::history_after;
 use crate::telling::{Bounds, Doubt};
 use ls_checked::program::Program;
 use ls_checked::tree::File;
 use ls_events::event::Event;
 use ls_events::same::are_same_events;
 use ls_events::schedule::Schedule;
+use ls_source::playing::Playing;
 use std::alloc::{AllocError, Global};
 
 /// Serial histories of a program.
@@ -55,18 +57,18 @@ fn has_beginning(histories: &[Vec<Event>], first: &[Event]) -> bool
 }
 
 /// Adds the history of a schedule, if none of the others begins with it. The only refusal is that memory ran out.
-fn keep(
+fn keep<'a>(
     alloc: Global,
-    file: &File,
-    program: &Program,
+    task: &Task<'a>,
     schedule: &Schedule,
+    parked: &Option<Playing<'a>>,
     histories: &mut Vec<Vec<Event>>,
 ) -> Result<(), AllocError>
+    requires { IsParked (plain_file task.now.file.now) (plain_program task.now.program.now) schedule.now parked.now }
     ensures { OnOk result (IsKept (lists_of histories.old.items) (lists_of histories.new.items)
-        (source_history (plain_file file.now) (plain_program program.now) schedule.now)) }
+        (source_history (plain_file task.now.file.now) (plain_program task.now.program.now) schedule.now)) }
 {
-    let run = played(alloc, file, program, schedule)?;
-    let history = run.into_history();
+    let history = history_after(alloc, task, schedule, parked)?;
     if has_beginning(histories.as_slice(), history.as_slice()) {
         return Ok(());
     }
@@ -75,7 +77,7 @@ fn keep(
 }
 
 /// Why schedules of calls that run one at a time may not be all.
-fn doubt_of(known: &Known) -> Option<Doubt>
+fn doubt_of(known: &Known<'_>) -> Option<Doubt>
     ensures none { IfNone result (known.now.complete ≡ true) }
     ensures long { result ≡ Some LongCall → (known.now.complete ≡ false) × (known.now.many ≡ false) }
     ensures many { result ≡ Some ManyOrders → known.now.many ≡ true }
@@ -115,11 +117,12 @@ pub fn serial_histories(
     };
     let known = search(alloc, &task, bounds.orders)?;
     let mut histories = Vec::new(alloc);
-    let schedules = known.schedules.as_slice();
+    let schedules = known.orders.schedules.as_slice();
     let mut at = schedules.len();
     while at > 0 {
         at -= 1;
-        keep(alloc, file, program, &schedules[at], &mut histories)?;
+        let parked = &known.orders.runs[at];
+        keep(alloc, &task, &schedules[at], parked, &mut histories)?;
     }
     Ok(SerialHistories {
         histories,

@@ -9,4 +9,5 @@ pub mod laws;
 pub mod marks;
 pub mod playing;
 mod searching;
+mod standing;
 pub mod telling;

@@ -35,7 +35,10 @@ fn fill<'a>(
 }
 
 /// Threads that still have to do the same. The only refusal is that memory ran out.
-fn copy_threads<'a>(alloc: Global, threads: &[Thread<'a>]) -> Result<Vec<Thread<'a>>, AllocError>
+pub(crate) fn copy_threads<'a>(
+    alloc: Global,
+    threads: &[Thread<'a>],
+) -> Result<Vec<Thread<'a>>, AllocError>
     ensures { IfOk result (λ v. map thread_of v.items ≡ map thread_of threads.now) }
 {
     let mut copies = Vec::new(alloc);

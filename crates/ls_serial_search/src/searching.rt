@@ -1,31 +1,95 @@
 // The search: after each order of calls, what comes of each thread's next call.
 
-ghost use Rattle.std.specs.Prelude.{◌≡◌, ◌+◌, ◌<◌, ◌≤◌, ◌⊎◌, ℕ, true, false, Contains, IfOk, OnOk, Some, length};
-ghost use Rattle.std.specs.Prelude.{slice_get};
+ghost use Rattle.std.specs.Prelude.{◌≡◌, ◌+◌, ◌++◌, ◌<◌, ◌≤◌, ◌⊎◌, ◌∷◌, [], ℕ, true, false, Contains, IfOk, List, OnOk};
+ghost use Rattle.std.specs.Prelude.{Some, length, slice_get};
+ghost use Rattle.ls_checked.specs.CheckedProgram.{Program as ProgramValue};
+ghost use Rattle.ls_checked.specs.CheckedTree.{File as FileValue};
 ghost use Rattle.ls_checked.specs.Plain.{plain_file};
 ghost use Rattle.ls_checked.specs.PlainProgram.{plain_program};
 ghost use Rattle.ls_meaning.specs.Runs.{source_history};
 ghost use Rattle.ls_search_laws.specs.Stepping.{ActAll};
 ghost use Rattle.ls_serial.specs.Serial.{IsSerial};
+ghost use Rattle.ls_source.specs.Stands.{StandsFor};
 ghost use Rattle.ls_serial_search.specs.Following.{IsFollowed};
 ghost use Rattle.ls_serial_search.specs.Found.{IsSearchedWithin};
 ghost use Rattle.ls_serial_search.specs.Open.{HasLongCall, IsLongAfter};
+ghost use Rattle.ls_serial_search.specs.Orders.{progress_at};
 ghost use Rattle.ls_serial_search.specs.Searched.{AreActing, AreSerial, IsSearched};
+ghost use Rattle.ls_serial_search.specs.Parked.{AreParked, IsParked};
 ghost use Rattle.ls_serial_search.specs.Told.{AreMore};
 ghost use Rattle.ls_serial_search.specs.Tree.{AreApart, IsTree};
 
-use crate::following::{Followed, Task, follow};
-use crate::playing::with_steps;
+use crate::following::{Followed, Further, Task, follow};
+use crate::playing::{played, with_steps};
+use crate::standing::standing;
 use ls_events::schedule::{MOST_STEPS, Schedule};
+use ls_source::playing::Playing;
 use std::alloc::{AllocError, Global};
 
-/// Schedules of calls that run one at a time. Whether the next call of each thread was followed after each of them.
+/// Schedules of calls that run one at a time.
 #[derive(Drop)]
-pub(crate) struct Known {
+pub(crate) struct Orders<'a> {
     pub(crate) schedules: Vec<Schedule>,
+    /// The run after each of them, where it is kept.
+    pub(crate) runs: Vec<Option<Playing<'a>>>,
+    /// How many objects the runs have, and one each.
+    objects: usize,
+}
+
+/// Such schedules, and whether the next call of each thread was followed after each of them.
+#[derive(Drop)]
+pub(crate) struct Known<'a> {
+    pub(crate) orders: Orders<'a>,
     pub(crate) complete: bool,
     /// Whether there were too many of them.
     pub(crate) many: bool,
+}
+
+/// The most objects that kept runs have together, but for those of the last of them: some 30 MB.
+const MOST_PARKED: usize = 100_000;
+
+/// The run, if those that are kept have few objects.
+fn kept<'a>(objects: usize, run: Playing<'a>) -> Option<Playing<'a>>
+    ensures { (file : FileValue) (program : ProgramValue) (schedule : List ℕ) →
+        StandsFor run.entry (progress_at file program schedule) → IsParked file program schedule result }
+{
+    if objects < MOST_PARKED {
+        return Some(run);
+    }
+    None
+}
+
+/// Adds a schedule and the run after it. The run is kept while those that were added have few objects. The only refusal
+/// is that memory ran out.
+fn add<'a>(orders: &mut Orders<'a>, schedule: Schedule, run: Playing<'a>) -> Result<(), AllocError>
+    ensures schedules { OnOk result (orders.new.schedules.items ≡ orders.old.schedules.items ++ schedule ∷ []) }
+    ensures parked { OnOk result ((file : FileValue) (program : ProgramValue) →
+        StandsFor run.entry (progress_at file program schedule) →
+        AreParked file program orders.old.schedules.items orders.old.runs.items →
+        AreParked file program orders.new.schedules.items orders.new.runs.items) }
+{
+    let objects = run.store_and_events.store.things.len();
+    orders.runs.push(kept(orders.objects, run))?;
+    orders.objects = orders.objects.saturating_add(objects).saturating_add(1);
+    orders.schedules.push(schedule)?;
+    Ok(())
+}
+
+/// The empty schedule, and the run before any step. The only refusal is that memory ran out.
+fn first<'a>(alloc: Global, task: &Task<'a>) -> Result<Orders<'a>, AllocError>
+    ensures schedules { IfOk result (λ o. o.schedules.items ≡ [] ∷ []) }
+    ensures parked { IfOk result (λ o. AreParked (plain_file task.now.file.now) (plain_program task.now.program.now)
+        o.schedules.items o.runs.items) }
+{
+    let mut orders = Orders {
+        schedules: Vec::new(alloc),
+        runs: Vec::new(alloc),
+        objects: 0,
+    };
+    let schedule = Schedule::new(alloc);
+    let run = played(alloc, task.file, task.program, &schedule)?;
+    add(&mut orders, schedule, run)?;
+    Ok(orders)
 }
 
 /// Whether both hold.
@@ -45,72 +109,96 @@ fn least(one: usize, other: usize) -> usize
 
 /// Follows a thread's next call after a schedule, and adds the schedule with this call if it ends. Whether it was
 /// followed to where it ends. The only refusal is that memory ran out.
-fn follow_thread(
+fn follow_thread<'a>(
     alloc: Global,
-    task: &Task,
-    known: &mut Vec<Schedule>,
+    task: &Task<'a>,
+    known: &mut Orders<'a>,
     schedule: &Schedule,
+    run: &Playing<'a>,
     thread: u8,
 ) -> Result<bool, AllocError>
-    ensures more { OnOk result (Contains known.old.items schedule.now →
-        AreMore (plain_file task.now.file.now) (plain_program task.now.program.now) known.old.items known.new.items) }
+    requires { StandsFor run.now
+        (progress_at (plain_file task.now.file.now) (plain_program task.now.program.now) schedule.now) }
+    ensures more { OnOk result (Contains known.old.schedules.items schedule.now →
+        AreMore (plain_file task.now.file.now) (plain_program task.now.program.now) known.old.schedules.items
+        known.new.schedules.items) }
     ensures followed { IfOk result (λ b. b ≡ true →
-        IsFollowed (plain_file task.now.file.now) (plain_program task.now.program.now) known.new.items schedule.now
+        IsFollowed (plain_file task.now.file.now) (plain_program task.now.program.now) known.new.schedules.items
+        schedule.now
         thread) }
     ensures long { IfOk result (λ b. b ≡ false →
         IsSerial (source_history (plain_file task.now.file.now) (plain_program task.now.program.now) schedule.now) →
         ActAll (plain_file task.now.file.now) (plain_program task.now.program.now) schedule.now →
         IsLongAfter (plain_file task.now.file.now) (plain_program task.now.program.now) task.now.most_steps
         schedule.now thread) }
-    ensures tree { OnOk result ((place : ℕ) → slice_get known.old.items place ≡ Some schedule.now →
-        IsTree (plain_file task.now.file.now) (plain_program task.now.program.now) known.old.items place thread →
-        IsTree (plain_file task.now.file.now) (plain_program task.now.program.now) known.new.items place
+    ensures tree { OnOk result ((place : ℕ) → slice_get known.old.schedules.items place ≡ Some schedule.now →
+        IsTree (plain_file task.now.file.now) (plain_program task.now.program.now) known.old.schedules.items place
+        thread →
+        IsTree (plain_file task.now.file.now) (plain_program task.now.program.now) known.new.schedules.items place
         (thread + 1)) }
+    ensures parked { OnOk result (
+        AreParked (plain_file task.now.file.now) (plain_program task.now.program.now) known.old.schedules.items
+        known.old.runs.items →
+        AreParked (plain_file task.now.file.now) (plain_program task.now.program.now) known.new.schedules.items
+        known.new.runs.items) }
 {
     schedule.fits();
     let most = least(task.most_steps, MOST_STEPS - schedule.len());
-    let steps = match follow(alloc, task, schedule, thread, most)? {
+    let Further { followed, run } = follow(alloc, task, schedule, run, thread, most)?;
+    let steps = match followed {
         Followed::Stays => return Ok(true),
         Followed::Never(_) => return Ok(true),
         Followed::Ends(steps) => steps,
         Followed::GoesOn => return Ok(false),
     };
     let longer = with_steps(alloc, schedule, thread, steps)?;
-    known.push(longer)?;
+    add(known, longer, run)?;
     Ok(true)
 }
 
 /// Follows each thread's next call after a schedule. Whether all were followed to where they end. The only refusal is
 /// that memory ran out.
-fn follow_threads(
+fn follow_threads<'a>(
     alloc: Global,
-    task: &Task,
-    known: &mut Vec<Schedule>,
+    task: &Task<'a>,
+    known: &mut Orders<'a>,
     schedule: &Schedule,
+    run: &Playing<'a>,
 ) -> Result<bool, AllocError>
-    ensures more { OnOk result (Contains known.old.items schedule.now →
-        AreMore (plain_file task.now.file.now) (plain_program task.now.program.now) known.old.items known.new.items) }
-    ensures followed { IfOk result (λ b. b ≡ true → Contains known.old.items schedule.now →
+    requires { StandsFor run.now
+        (progress_at (plain_file task.now.file.now) (plain_program task.now.program.now) schedule.now) }
+    ensures more { OnOk result (Contains known.old.schedules.items schedule.now →
+        AreMore (plain_file task.now.file.now) (plain_program task.now.program.now) known.old.schedules.items
+        known.new.schedules.items) }
+    ensures followed { IfOk result (λ b. b ≡ true → Contains known.old.schedules.items schedule.now →
         (t : ℕ) → t < length task.now.program.now.threads.items →
-        IsFollowed (plain_file task.now.file.now) (plain_program task.now.program.now) known.new.items schedule.now t) }
-    ensures tried { OnOk result (Contains known.old.items schedule.now →
+        IsFollowed (plain_file task.now.file.now) (plain_program task.now.program.now) known.new.schedules.items
+        schedule.now t) }
+    ensures tried { OnOk result (Contains known.old.schedules.items schedule.now →
         IsSerial (source_history (plain_file task.now.file.now) (plain_program task.now.program.now) schedule.now) →
         ActAll (plain_file task.now.file.now) (plain_program task.now.program.now) schedule.now →
         (t : ℕ) → t < length task.now.program.now.threads.items →
-        IsFollowed (plain_file task.now.file.now) (plain_program task.now.program.now) known.new.items schedule.now t
+        IsFollowed (plain_file task.now.file.now) (plain_program task.now.program.now) known.new.schedules.items
+        schedule.now t
         ⊎ IsLongAfter (plain_file task.now.file.now) (plain_program task.now.program.now) task.now.most_steps
         schedule.now t) }
     ensures long { IfOk result (λ b. b ≡ false →
         IsSerial (source_history (plain_file task.now.file.now) (plain_program task.now.program.now) schedule.now) →
         ActAll (plain_file task.now.file.now) (plain_program task.now.program.now) schedule.now →
         HasLongCall (plain_file task.now.file.now) (plain_program task.now.program.now) task.now.most_steps) }
-    ensures tree { OnOk result ((place : ℕ) → slice_get known.old.items place ≡ Some schedule.now →
-        IsTree (plain_file task.now.file.now) (plain_program task.now.program.now) known.old.items place 0 →
-        IsTree (plain_file task.now.file.now) (plain_program task.now.program.now) known.new.items (place + 1) 0) }
+    ensures tree { OnOk result ((place : ℕ) → slice_get known.old.schedules.items place ≡ Some schedule.now →
+        IsTree (plain_file task.now.file.now) (plain_program task.now.program.now) known.old.schedules.items place 0 →
+        IsTree (plain_file task.now.file.now) (plain_program task.now.program.now) known.new.schedules.items
+        (place + 1) 0) }
+    ensures parked { OnOk result (
+        AreParked (plain_file task.now.file.now) (plain_program task.now.program.now) known.old.schedules.items
+        known.old.runs.items →
+        AreParked (plain_file task.now.file.now) (plain_program task.now.program.now) known.new.schedules.items
+        known.new.runs.items) }
 {
     let mut all = true;
     for thread in 0..task.program.threads.len() {
-        let followed = follow_thread(alloc, task, known, schedule, thread as u8)?;
+        let followed = follow_thread(alloc, task, known, schedule, run, thread as u8)?;
         all = both(all, followed);
     }
     Ok(all)
@@ -118,40 +206,46 @@ fn follow_threads(
 
 /// Searches the orders of a program's calls, until there are more than so many. The only refusal is that memory ran
 /// out.
-pub(crate) fn search(alloc: Global, task: &Task, most_orders: usize) -> Result<Known, AllocError>
+pub(crate) fn search<'a>(
+    alloc: Global,
+    task: &Task<'a>,
+    most_orders: usize,
+) -> Result<Known<'a>, AllocError>
     ensures serial { IfOk result (λ s. AreSerial (plain_file task.now.file.now)
-        (plain_program task.now.program.now) s.schedules.items) }
+        (plain_program task.now.program.now) s.orders.schedules.items) }
     ensures acts { IfOk result (λ s. AreActing (plain_file task.now.file.now)
-        (plain_program task.now.program.now) s.schedules.items) }
+        (plain_program task.now.program.now) s.orders.schedules.items) }
     ensures complete { IfOk result (λ s. s.complete ≡ true →
-        IsSearched (plain_file task.now.file.now) (plain_program task.now.program.now) s.schedules.items) }
+        IsSearched (plain_file task.now.file.now) (plain_program task.now.program.now) s.orders.schedules.items) }
     ensures within { IfOk result (λ s. s.many ≡ false → IsSearchedWithin (plain_file task.now.file.now)
-        (plain_program task.now.program.now) task.now.most_steps s.schedules.items) }
+        (plain_program task.now.program.now) task.now.most_steps s.orders.schedules.items) }
     ensures long { IfOk result (λ s. s.complete ≡ false → s.many ≡ false →
         HasLongCall (plain_file task.now.file.now) (plain_program task.now.program.now) task.now.most_steps) }
-    ensures many { IfOk result (λ s. s.many ≡ true → most_orders < length s.schedules.items) }
+    ensures many { IfOk result (λ s. s.many ≡ true → most_orders < length s.orders.schedules.items) }
     ensures apart { IfOk result (λ s. AreApart (plain_file task.now.file.now) (plain_program task.now.program.now)
-        s.schedules.items) }
+        s.orders.schedules.items) }
+    ensures parked { IfOk result (λ s. AreParked (plain_file task.now.file.now) (plain_program task.now.program.now)
+        s.orders.schedules.items s.orders.runs.items) }
 {
-    let mut schedules = Vec::new(alloc);
-    schedules.push(Schedule::new(alloc))?;
+    let mut orders = first(alloc, task)?;
     let mut complete = true;
     let mut at = 0;
-    while at < schedules.len() {
-        if schedules.len() > most_orders {
+    while at < orders.schedules.len() {
+        if orders.schedules.len() > most_orders {
             return Ok(Known {
-                schedules,
+                orders,
                 complete: false,
                 many: true,
             });
         }
-        let schedule = schedules[at].copied(alloc)?;
-        let followed = follow_threads(alloc, task, &mut schedules, &schedule)?;
+        let schedule = orders.schedules[at].copied(alloc)?;
+        let run = standing(alloc, task, &schedule, &orders.runs[at])?;
+        let followed = follow_threads(alloc, task, &mut orders, &schedule, &run)?;
         complete = both(complete, followed);
         at += 1;
     }
     Ok(Known {
-        schedules,
+        orders,
         complete,
         many: false,
     })

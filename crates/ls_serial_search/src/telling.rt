@@ -6,14 +6,14 @@ ghost use Rattle.ls_checked.specs.Plain.{plain_file};
 ghost use Rattle.ls_checked.specs.PlainProgram.{plain_program};
 ghost use Rattle.ls_serial.specs.Serial.{HaveBeginning, IsSerial};
 ghost use Rattle.ls_serial_search.specs.Found.{AreRunsOf};
+ghost use Rattle.ls_serial_search.specs.Parked.{AreParked};
 ghost use Rattle.ls_serial_search.specs.Told.{Tells, usual};
 
 use crate::following::Task;
-use crate::playing::played;
-use crate::searching::search;
+use crate::searching::{Orders, search};
+use crate::standing::history_after;
 use ls_checked::program::Program;
 use ls_checked::tree::File;
-use ls_events::schedule::Schedule;
 use ls_linearizable::laws::beginnings_are_histories;
 use ls_serial::SerialRuns;
 use std::alloc::{AllocError, Global};
@@ -77,22 +77,25 @@ impl SerialSearch {
     }
 }
 
-/// The serial runs of these schedules of a program of a file. The last is added first: a run with which one of those
-/// begins isn't kept. The only refusal is that memory ran out.
-fn runs_of(
+/// The serial runs of schedules of a task. The last is added first: a run with which one of those begins isn't
+/// kept. The only refusal is that memory ran out.
+fn runs_of<'a>(
     alloc: Global,
-    file: &File,
-    program: &Program,
-    schedules: &[Schedule],
+    task: &Task<'a>,
+    orders: &Orders<'a>,
 ) -> Result<SerialRuns, AllocError>
-    ensures { IfOk result
-        (λ runs. AreRunsOf (plain_file file.now) (plain_program program.now) schedules.now runs) }
+    requires { AreParked (plain_file task.now.file.now) (plain_program task.now.program.now)
+        orders.now.schedules.items orders.now.runs.items }
+    ensures { IfOk result (λ runs. AreRunsOf (plain_file task.now.file.now) (plain_program task.now.program.now)
+        orders.now.schedules.items runs) }
 {
+    let schedules = orders.schedules.as_slice();
     let mut runs = SerialRuns::new(alloc);
     let mut at = schedules.len();
     while at > 0 {
         at -= 1;
-        let history = played(alloc, file, program, &schedules[at])?.into_history();
+        let parked = &orders.runs[at];
+        let history = history_after(alloc, task, &schedules[at], parked)?;
         runs.add(alloc, history.as_slice())?;
     }
     Ok(runs)
@@ -117,7 +120,7 @@ pub fn serial_runs(
     };
     beginnings_are_histories();
     let known = search(alloc, &task, bounds.orders)?;
-    let runs = runs_of(alloc, file, program, known.schedules.as_slice())?;
+    let runs = runs_of(alloc, &task, &known.orders)?;
     Ok(SerialSearch {
         runs,
         complete: known.complete,

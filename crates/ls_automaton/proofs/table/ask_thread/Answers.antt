@@ -16,54 +16,55 @@ reached-requires-clause-acts c =
     let file : File = plain_file c.args.task.now.file.now in
     let program : Program = plain_program c.args.task.now.program.now in
     let followed =
-    subst (HasFollowed file program c.args.steps.now c.args.thread c.args.task.now.most_steps) c.in-Ends.is
-    c.in_ok-follow_after.ensures in
+    subst (HasFollowed file program c.args.stand.now.steps.now c.args.thread c.args.task.now.most_steps) c.in-Ends.is
+    c.in_ok-followed.ensures.followed in
     subst (ActAll file program) (sym c.in_ok-longer-in-Ends.ensures)
-    (acts_times file program c.args.steps.now c.args.thread c.in-Ends.count c.requires.acts followed.0.acts)
+    (acts_times file program c.args.stand.now.steps.now c.args.thread c.in-Ends.count c.requires.acts followed.0.acts)
 
 pub returns-in-Stays-clause-asked : goal.returns-in-Stays-clause-asked
 returns-in-Stays-clause-asked c =
     let file : File = plain_file c.args.task.now.file.now in
     let program : Program = plain_program c.args.task.now.program.now in
-    still_asked file program c.args.task.now.most_steps c.args.steps.now c.args.thread c.args.spots.now.items
+    still_asked file program c.args.task.now.most_steps c.args.stand.now.steps.now c.args.thread c.args.spots.now.items
     c.args.row.now.items c.requires.spots
-    (subst (HasFollowed file program c.args.steps.now c.args.thread c.args.task.now.most_steps) c.in-Stays.is
-    c.in_ok-follow_after.ensures)
+    (subst (HasFollowed file program c.args.stand.now.steps.now c.args.thread c.args.task.now.most_steps) c.in-Stays.is
+    c.in_ok-followed.ensures.followed)
 
 pub returns-in-Never-clause-asked : goal.returns-in-Never-clause-asked
 returns-in-Never-clause-asked c =
     let file : File = plain_file c.args.task.now.file.now in
     let program : Program = plain_program c.args.task.now.program.now in
-    never_asked file program c.args.task.now.most_steps c.args.steps.now c.args.thread c.args.spots.now.items
+    never_asked file program c.args.task.now.most_steps c.args.stand.now.steps.now c.args.thread c.args.spots.now.items
     c.args.row.now.items c.requires.spots c.in-Never.field-0
-    (subst (HasFollowed file program c.args.steps.now c.args.thread c.args.task.now.most_steps) c.in-Never.is
-    c.in_ok-follow_after.ensures)
+    (subst (HasFollowed file program c.args.stand.now.steps.now c.args.thread c.args.task.now.most_steps) c.in-Never.is
+    c.in_ok-followed.ensures.followed)
 
 pub returns-in-GoesOn-clause-asked : goal.returns-in-GoesOn-clause-asked
 returns-in-GoesOn-clause-asked c =
     let file : File = plain_file c.args.task.now.file.now in
     let program : Program = plain_program c.args.task.now.program.now in
-    open_asked file program c.args.task.now.most_steps c.args.steps.now c.args.thread c.args.spots.now.items
+    open_asked file program c.args.task.now.most_steps c.args.stand.now.steps.now c.args.thread c.args.spots.now.items
     c.args.row.now.items c.requires.spots
-    (subst (HasFollowed file program c.args.steps.now c.args.thread c.args.task.now.most_steps) c.in-GoesOn.is
-    c.in_ok-follow_after.ensures c.requires.serial).0
+    (subst (HasFollowed file program c.args.stand.now.steps.now c.args.thread c.args.task.now.most_steps) c.in-GoesOn.is
+    c.in_ok-followed.ensures.followed c.requires.serial).0
 
 pub returns-in-GoesOn-clause-long : goal.returns-in-GoesOn-clause-long
 returns-in-GoesOn-clause-long c = λ goes_on.
     let file : File = plain_file c.args.task.now.file.now in
     let program : Program = plain_program c.args.task.now.program.now in
-    open_long file program c.args.task.now.most_steps c.args.steps.now c.args.thread c.requires.serial c.requires.acts
-    (subst (HasFollowed file program c.args.steps.now c.args.thread c.args.task.now.most_steps) c.in-GoesOn.is
-    c.in_ok-follow_after.ensures c.requires.serial)
+    open_long file program c.args.task.now.most_steps c.args.stand.now.steps.now c.args.thread c.requires.serial
+    c.requires.acts
+    (subst (HasFollowed file program c.args.stand.now.steps.now c.args.thread c.args.task.now.most_steps) c.in-GoesOn.is
+    c.in_ok-followed.ensures.followed c.requires.serial)
 
 pub returns-in_ok-push-in-Ends-clause-asked : goal.returns-in_ok-push-in-Ends-clause-asked
 returns-in_ok-push-in-Ends-clause-asked c =
     let file : File = plain_file c.args.task.now.file.now in
     let program : Program = plain_program c.args.task.now.program.now in
     let followed =
-    subst (HasFollowed file program c.args.steps.now c.args.thread c.args.task.now.most_steps) c.in-Ends.is
-    c.in_ok-follow_after.ensures in
-    ended_asked file program c.args.task.now.most_steps c.args.steps.now c.in_ok-longer-in-Ends.longer.items
+    subst (HasFollowed file program c.args.stand.now.steps.now c.args.thread c.args.task.now.most_steps) c.in-Ends.is
+    c.in_ok-followed.ensures.followed in
+    ended_asked file program c.args.task.now.most_steps c.args.stand.now.steps.now c.in_ok-longer-in-Ends.longer.items
     c.args.thread c.in-Ends.count c.args.spots.now.items c.reached.new.spots.items c.args.row.now.items
     c.push.new.self.items c.in_ok-outcome-in-Ends.outcome followed.2 c.in_ok-longer-in-Ends.ensures
     c.in_ok-outcome-in-Ends.ensures.after c.in_ok-outcome-in-Ends.ensures.end c.in_ok-push-in-Ends.ensures.items

@@ -17,5 +17,6 @@ invariant-loop-at l = record {
       HasManyOrders (plain_file l.file) (plain_program l.program) l.bounds.orders
       ⊎ HasLongCall (plain_file l.file) (plain_program l.program) l.bounds.steps;
   tried : l.complete ≡ true →
-      AreTried (plain_file l.file) (plain_program l.program) l.known.schedules.items (lists_of l.runs.items) l.at;
+      AreTried (plain_file l.file) (plain_program l.program) l.known.orders.schedules.items (lists_of l.runs.items)
+      l.at;
 }

@@ -18,40 +18,40 @@ use Rattle.ls_serial_search.proofs.NeverEnding.{endless_pushed, tried_ended, tri
 use Rattle.ls_serial_search.proofs.Open.{is_long, is_long_call}
 use Rattle.ls_serial_search.proofs.endless.try_thread.Goals as goal
 
-pub returns-in_ok-push-in-Never-clause-endless : goal.returns-in_ok-push-in-Never-clause-endless
-returns-in_ok-push-in-Never-clause-endless c =
+pub returns-in-Never-clause-endless : goal.returns-in-Never-clause-endless
+returns-in-Never-clause-endless c =
     let file : File = plain_file c.args.task.now.file.now in
     let program : Program = plain_program c.args.task.now.program.now in
     let never = subst (HasFollowed file program c.args.schedule.now c.args.thread c.args.task.now.most_steps)
-    c.in-Never.is c.in_ok-call.ensures in
+    c.in-Never.is c.in_ok-further.ensures.followed in
     let new = ap lists_of c.in_ok-push-in-Never.ensures.items ∙
-    lists_pushed c.args.runs.now.items c.in_ok-run-in-Never.run'
+    lists_pushed c.args.runs.now.items c.in_ok-begun-in-Never.begun
     (source_history file program c.args.schedule.now ++ called c.args.thread c.in-Never.call ∷ [])
-    c.in_ok-run-in-Never.ensures in
+    c.in_ok-begun-in-Never.ensures in
     λ serial are. subst (AreEndlessRuns file program) (sym new)
     (endless_pushed file program c.args.schedule.now c.args.thread c.in-Never.call (lists_of c.args.runs.now.items)
     never serial are)
 
-pub returns-in_ok-push-in-Never-clause-kept : goal.returns-in_ok-push-in-Never-clause-kept
-returns-in_ok-push-in-Never-clause-kept c =
+pub returns-in-Never-clause-kept : goal.returns-in-Never-clause-kept
+returns-in-Never-clause-kept c =
     let file : File = plain_file c.args.task.now.file.now in
     let program : Program = plain_program c.args.task.now.program.now in
     let begun = source_history file program c.args.schedule.now ++ called c.args.thread c.in-Never.call ∷ [] in
     let new = ap lists_of c.in_ok-push-in-Never.ensures.items ∙
-    lists_pushed c.args.runs.now.items c.in_ok-run-in-Never.run' begun c.in_ok-run-in-Never.ensures in
+    lists_pushed c.args.runs.now.items c.in_ok-begun-in-Never.begun begun c.in_ok-begun-in-Never.ensures in
     λ run there. subst (λ (l : List (List Event)). Contains l run) (sym new)
     (Contains-append_left (lists_of c.args.runs.now.items) (begun ∷ []) run there)
 
-pub returns-in_ok-push-in-Never-clause-tried : goal.returns-in_ok-push-in-Never-clause-tried
-returns-in_ok-push-in-Never-clause-tried c =
+pub returns-in-Never-clause-tried : goal.returns-in-Never-clause-tried
+returns-in-Never-clause-tried c =
     let file : File = plain_file c.args.task.now.file.now in
     let program : Program = plain_program c.args.task.now.program.now in
     let never = subst (HasFollowed file program c.args.schedule.now c.args.thread c.args.task.now.most_steps)
-    c.in-Never.is c.in_ok-call.ensures in
+    c.in-Never.is c.in_ok-further.ensures.followed in
     let new = ap lists_of c.in_ok-push-in-Never.ensures.items ∙
-    lists_pushed c.args.runs.now.items c.in_ok-run-in-Never.run'
+    lists_pushed c.args.runs.now.items c.in_ok-begun-in-Never.begun
     (source_history file program c.args.schedule.now ++ called c.args.thread c.in-Never.call ∷ [])
-    c.in_ok-run-in-Never.ensures in
+    c.in_ok-begun-in-Never.ensures in
     λ up. subst (λ (l : List (List Event)). HasTried file program l c.args.schedule.now c.args.thread) (sym new)
     (tried_pushed file program c.args.schedule.now c.args.thread c.in-Never.call (lists_of c.args.runs.now.items) never)
 
@@ -61,7 +61,7 @@ returns-in-Stays-clause-tried c =
     let program : Program = plain_program c.args.task.now.program.now in
     λ up. tried_idle file program c.args.schedule.now c.args.thread (lists_of c.args.runs.now.items)
     (subst (HasFollowed file program c.args.schedule.now c.args.thread c.args.task.now.most_steps)
-    c.in-Stays.is c.in_ok-call.ensures)
+    c.in-Stays.is c.in_ok-further.ensures.followed)
 
 pub returns-in-Ends-clause-tried : goal.returns-in-Ends-clause-tried
 returns-in-Ends-clause-tried c =
@@ -70,15 +70,16 @@ returns-in-Ends-clause-tried c =
     λ up. tried_ended file program c.args.schedule.now c.args.thread c.in-Ends.field-0
     (lists_of c.args.runs.now.items)
     (subst (HasFollowed file program c.args.schedule.now c.args.thread c.args.task.now.most_steps)
-    c.in-Ends.is c.in_ok-call.ensures).2
+    c.in-Ends.is c.in_ok-further.ensures.followed).2
 
-pub returns-in-GoesOn-clause-why : goal.returns-in-GoesOn-clause-why
-returns-in-GoesOn-clause-why c = λ unknown serial acts.
+pub returns-clause-why : goal.returns-clause-why
+returns-clause-why c = λ unknown serial acts.
     let file : File = plain_file c.args.task.now.file.now in
     let program : Program = plain_program c.args.task.now.program.now in
     let most : ℕ = c.args.task.now.most_steps in
     is_long_call file program c.args.schedule.now c.args.thread most serial
     (is_long file program c.args.schedule.now c.args.thread most (most_steps - length c.args.schedule.now) most refl
     (inl refl) acts
-    (subst (HasFollowed file program c.args.schedule.now c.args.thread most) c.in-GoesOn.is c.in_ok-call.ensures
+    (subst (HasFollowed file program c.args.schedule.now c.args.thread most) c.in-GoesOn.is
+    c.in_ok-further.ensures.followed
     serial))

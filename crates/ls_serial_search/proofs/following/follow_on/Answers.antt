@@ -1,4 +1,4 @@
--- Why `follow_on` in src/following.rt keeps its contract and its loop `steps`.
+-- Why `follow_on` in src/following.rt keeps its clauses and its loop `steps`.
 
 use Rattle.std.proofs.Common.{◌≡◌, ℕ, List, [], ◌++◌, ◌+◌, ap, append-nil, arith, replicate, subst, sym, ◌∙◌}
 use Rattle.ls_checked.specs.CheckedTree.{File}
@@ -43,8 +43,8 @@ loop-steps-init c =
           c.requires.run;
     }
 
-pub returns-then-ended-call : goal.returns-then-ended-call
-returns-then-ended-call c =
+pub returns-then-ended-call-clause-followed : goal.returns-then-ended-call-clause-followed
+returns-then-ended-call-clause-followed c =
     let file : File = plain_file c.args.next.now.task.now.file.now in
     let program : Program = plain_program c.args.next.now.task.now.program.now in
     let schedule : List ℕ = c.args.next.now.schedule.now in
@@ -62,8 +62,8 @@ returns-then-ended-call c =
           c.in_ok-did.did c.loop-steps.steps at c.loop-steps.auto.steps c.loop-steps.invariant.begun last,
     )
 
-pub returns-in-Stays : goal.returns-in-Stays
-returns-in-Stays c =
+pub returns-in-Stays-clause-followed : goal.returns-in-Stays-clause-followed
+returns-in-Stays-clause-followed c =
     let file : File = plain_file c.args.next.now.task.now.file.now in
     let program : Program = plain_program c.args.next.now.task.now.program.now in
     let schedule : List ℕ = c.args.next.now.schedule.now in
@@ -73,8 +73,8 @@ returns-in-Stays c =
     still_never file program schedule t c.args.call c.loop-steps.steps c.loop-steps.invariant.begun
     c.loop-steps.auto.steps (subst IsStill at c.in-Stays.ensures)
 
-pub returns-in-Begins : goal.returns-in-Begins
-returns-in-Begins c = λ serial.
+pub returns-in-Begins-clause-followed : goal.returns-in-Begins-clause-followed
+returns-in-Begins-clause-followed c = λ serial.
     let file : File = plain_file c.args.next.now.task.now.file.now in
     let program : Program = plain_program c.args.next.now.task.now.program.now in
     let schedule : List ℕ = c.args.next.now.schedule.now in
@@ -84,8 +84,8 @@ returns-in-Begins c = λ serial.
     absurd (not_end t c.in-Begins.field-0 (end_inside file program schedule t c.args.call c.in_ok-did.did
     c.loop-steps.steps at c.loop-steps.invariant.inside (called t c.in-Begins.field-0) c.in-Begins.ensures).ends)
 
-pub returns-in-Ends : goal.returns-in-Ends
-returns-in-Ends c = λ serial.
+pub returns-in-Ends-clause-followed : goal.returns-in-Ends-clause-followed
+returns-in-Ends-clause-followed c = λ serial.
     let file : File = plain_file c.args.next.now.task.now.file.now in
     let program : Program = plain_program c.args.next.now.task.now.program.now in
     let schedule : List ℕ = c.args.next.now.schedule.now in
@@ -97,8 +97,8 @@ returns-in-Ends c = λ serial.
     c.loop-steps.invariant.inside last.end last.is in
     absurd (c.if-ended-call.false (sym last.ends.call ∙ own.call))
 
-pub returns : goal.returns
-returns c = λ serial.
+pub returns-clause-followed : goal.returns-clause-followed
+returns-clause-followed c = λ serial.
     let file : File = plain_file c.args.next.now.task.now.file.now in
     let program : Program = plain_program c.args.next.now.task.now.program.now in
     let schedule : List ℕ = c.args.next.now.schedule.now in
@@ -107,8 +107,8 @@ returns c = λ serial.
     c.args.next.now.most c.loop-steps.steps c.loop-steps-test.false c.loop-steps.invariant.begun
     c.loop-steps.invariant.acts
 
-pub returns-then-is_at : goal.returns-then-is_at
-returns-then-is_at c =
+pub returns-then-is_at-clause-followed : goal.returns-then-is_at-clause-followed
+returns-then-is_at-clause-followed c =
     let file : File = plain_file c.args.next.now.task.now.file.now in
     let program : Program = plain_program c.args.next.now.task.now.program.now in
     let schedule : List ℕ = c.args.next.now.schedule.now in
@@ -149,3 +149,10 @@ loop-steps-preserved c =
             c.loop-steps.steps c.loop-steps.invariant.marked)
       ];
     }
+
+pub returns-then-ended-call-clause-stands : goal.returns-then-ended-call-clause-stands
+returns-then-ended-call-clause-stands c =
+    let file : File = plain_file c.args.next.now.task.now.file.now in
+    let program : Program = plain_program c.args.next.now.task.now.program.now in
+    go_on_more file program c.args.next.now.schedule.now c.args.next.now.thread c.loop-steps.steps _ _
+    c.loop-steps.invariant.at c.in_ok-did.ensures.run

@@ -1,4 +1,4 @@
--- Why `follow_run` in src/following.rt keeps its contract.
+-- Why `follow_run` in src/following.rt keeps its clauses.
 
 use Rattle.std.proofs.Common.{◌≡◌, ℕ, List, [], ◌∷◌, subst}
 use Rattle.ls_checked.specs.CheckedTree.{File}
@@ -11,15 +11,15 @@ use Rattle.ls_serial_search.proofs.Along.{at_none, did_at, did_first, go_on_more
 use Rattle.ls_serial_search.proofs.Open.{ends_first, silent_first}
 use Rattle.ls_serial_search.proofs.following.follow_run.Goals as goal
 
-pub returns-in-Stays : goal.returns-in-Stays
-returns-in-Stays c =
+pub returns-in-Stays-clause-followed : goal.returns-in-Stays-clause-followed
+returns-in-Stays-clause-followed c =
     let file : File = plain_file c.args.next.now.task.now.file.now in
     let program : Program = plain_program c.args.next.now.task.now.program.now in
     subst IsStill (did_at file program c.args.next.now.schedule.now c.args.next.now.thread _ c.in_ok-first.first
     c.requires c.in_ok-first.ensures.did) c.in-Stays.ensures
 
-pub returns-in-GoesOn : goal.returns-in-GoesOn
-returns-in-GoesOn c = λ serial.
+pub returns-in-GoesOn-clause-followed : goal.returns-in-GoesOn-clause-followed
+returns-in-GoesOn-clause-followed c = λ serial.
     let file : File = plain_file c.args.next.now.task.now.file.now in
     let program : Program = plain_program c.args.next.now.task.now.program.now in
     let schedule : List ℕ = c.args.next.now.schedule.now in
@@ -28,8 +28,8 @@ returns-in-GoesOn c = λ serial.
     (did_first file program schedule t _ c.in_ok-first.first c.requires c.in_ok-first.ensures.did)
     c.in-GoesOn.ensures.0 c.in-GoesOn.ensures.1 serial)
 
-pub returns-in-Ends : goal.returns-in-Ends
-returns-in-Ends c = λ serial.
+pub returns-in-Ends-clause-followed : goal.returns-in-Ends-clause-followed
+returns-in-Ends-clause-followed c = λ serial.
     let file : File = plain_file c.args.next.now.task.now.file.now in
     let program : Program = plain_program c.args.next.now.task.now.program.now in
     let schedule : List ℕ = c.args.next.now.schedule.now in

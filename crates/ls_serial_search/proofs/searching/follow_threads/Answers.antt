@@ -19,13 +19,14 @@ loop-thread-preserved c =
     let program : Program = plain_program c.args.task.now.program.now in
     let schedule : List ℕ = c.args.schedule.now in
     let bound : ℕ = c.args.task.now.most_steps in
-    let old : List (List ℕ) = c.loop-thread.known.items in
-    let new : List (List ℕ) = c.follow_thread.new.known.items in
-    let more : Contains c.args.known.now.items schedule → AreMore file program old new = λ there.
-    c.in_ok-followed.ensures.more (there_more file program c.args.known.now.items old schedule
+    let old : List (List ℕ) = c.loop-thread.known.schedules.items in
+    let new : List (List ℕ) = c.follow_thread.new.known.schedules.items in
+    let more : Contains c.args.known.now.schedules.items schedule → AreMore file program old new = λ there.
+    c.in_ok-followed.ensures.more (there_more file program c.args.known.now.schedules.items old schedule
     (c.loop-thread.invariant.more there) there) in
     record {
-      more = λ there. more_again file program c.args.known.now.items old new (c.loop-thread.invariant.more there)
+      more = λ there. more_again file program c.args.known.now.schedules.items old new
+          (c.loop-thread.invariant.more there)
           (more there);
       followed = λ all there. threads_more file program old new schedule c.loop-thread.thread (more there)
           (c.loop-thread.invariant.followed (c.both-all.ensures.hold all).0 there)
@@ -45,11 +46,12 @@ loop-thread-preserved c =
             c.in_ok-followed.ensures.tree place kept.1 kept.0,
             still_there file program old new place schedule c.in_ok-followed.ensures.more kept.1,
           );
+      parked = λ are. c.in_ok-followed.ensures.parked (c.loop-thread.invariant.parked are);
     }
 
 pub returns-clause-tree : goal.returns-clause-tree
 returns-clause-tree c = λ place at tree. tree_next (plain_file c.args.task.now.file.now)
-    (plain_program c.args.task.now.program.now) c.loop-thread.known.items place c.loop-thread.thread
+    (plain_program c.args.task.now.program.now) c.loop-thread.known.schedules.items place c.loop-thread.thread
     (c.loop-thread.invariant.tree place at tree).0
 
 pub returns-clause-tried : goal.returns-clause-tried

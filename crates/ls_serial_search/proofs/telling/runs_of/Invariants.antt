@@ -9,7 +9,7 @@ use Rattle.ls_serial_search.proofs.telling.runs_of.Given as goal
 abbrev pub invariant-loop-at : goal.invariant-loop-at
 invariant-loop-at l = record {
   within : l.at ≤ length l.schedules;
-  are : AreRunsOf (plain_file l.file) (plain_program l.program) (drop l.at l.schedules) l.runs;
+  are : AreRunsOf (plain_file l.task.file.now) (plain_program l.task.program.now) (drop l.at l.schedules) l.runs;
 }
 
 abbrev pub decreases-loop-at : goal.decreases-loop-at
