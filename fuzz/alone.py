@@ -4,7 +4,8 @@
 Each case is a small class of `races.py`. Of it all programs with two threads of one call, and at most a call in the setup, are gone
 through. Their orders of whole calls are run by `trace`, one call after another, so no search is asked for them. Where `find` says `none`,
 the lines below it must count the programs in which a call ends by an exception, and those in which one never ends. They must name the
-first number of these, and a call that is so in its program. Ends with status 1 if something is wrong."""
+first number of these, and a call that is so in its program. Where `explore --verdict` says `none` and `complete` of such a program, its
+lines must name such a call, or there is none. Ends with status 1 if something is wrong."""
 import argparse
 import collections
 import random
@@ -17,6 +18,7 @@ from tool import PROGRAM, joined, keep, run
 ALONE = 400
 BOUNDS = ["--calls", "1", "--setup", "1"]
 TRACED = re.compile(r"\d+ (\w+)\.(\d+) (call|return|trap)\b ?(.*)")
+ALONE_LINE = re.compile(r"// a call (throws|never ends) when calls run one at a time: (.*)")
 LINE = re.compile(r"// in (at least )?(\d+) a call (throws|never ends) when calls run one at a time: number (\d+), (.*)")
 
 
@@ -30,6 +32,18 @@ def ran(program, text, schedule):
         elif event:
             calls[event[1], event[2]][2:] = event[3], event[4]
     return list(calls.values())
+
+
+def verdict_wrong(program, text, known):
+    """What is wrong with the lines of `explore --verdict`, or None."""
+    lines = run(program, ["explore", "--verdict"], text, seconds=120).out.decode().split("\n")
+    if lines[0] != "none" or not lines[-2].endswith(" complete"):
+        return None
+    said = {it[1]: it[2] for it in map(ALONE_LINE.fullmatch, lines) if it}
+    for kind, calls in known.items():
+        if said.get(kind) not in (calls or {None}):
+            return f"explore --verdict says {lines}, and a call {kind}: {sorted(calls)}"
+    return None
 
 
 def faults(program, text):
@@ -58,6 +72,10 @@ def tried(program, case):
         return None, "not known"
     programs = [run(program, ["find", "--print", str(n), *BOUNDS], classes).out for n in range(1, count + 1)]
     all_faults = [faults(program, joined(classes, it)) for it in programs]
+    for text, known in zip(programs, all_faults):
+        wrong = verdict_wrong(program, joined(classes, text), known)
+        if wrong:
+            return wrong, ""
     for kind in ("throws", "never ends"):
         numbers = [n for n, it in enumerate(all_faults, 1) if it[kind]]
         line = said.get(kind)

@@ -11,7 +11,7 @@ use Rattle.ls_serial_search.specs.Endless.{IsEndlessRun}
 use Rattle.ls_serial_search.specs.Following.{called}
 use Rattle.ls_serial_search.specs.Open.{HasLongCall, HasManyOrders}
 use Rattle.ls_serial_search.specs.Told.{usual}
-use Rattle.ls_alone.specs.Words.{endless_text, thrown_text}
+use Rattle.ls_alone.specs.Words.{endless_text, fault_line, thrown_text}
 use Rattle.ls_alone.specs.declared.telling.Fault.{Fault}
 use Rattle.ls_alone.specs.declared.telling.Fault.TheVariants as faults
 use Rattle.ls_alone.specs.declared.telling.Told.{Told}
@@ -59,3 +59,11 @@ abbrev pub Tells : Fault → File → Program → Told → Type 0
 Tells fault file program told.Never = NoneHas fault file program
 Tells fault file program (told.So text) = Says fault file program (string_bytes text)
 Tells fault file program told.Unknown = MeetsBound file program
+
+-- what is said of a program's calls: a line for each fault that one is told to have
+pub record AreSaid (file : File) (program : Program) (text : List ℕ) : Type 0 where
+  pub throws : Told
+  pub endless : Told
+  pub tells_throws : Tells faults.Throws file program throws
+  pub tells_endless : Tells faults.NeverEnds file program endless
+  pub is : text ≡ fault_line faults.Throws throws ++ fault_line faults.NeverEnds endless

@@ -2,8 +2,10 @@
 #![tactic(auto)]
 
 mod endless;
+mod lines;
 mod telling;
 mod throwing;
 mod words;
 
+pub use lines::{fault_lines, fault_words};
 pub use telling::{Fault, Told, tell};

@@ -1,6 +1,7 @@
--- What `explore --verdict` says of data races beside `none`.
-use Rattle.std.specs.Prelude.{◌≡◌, ◌↔◌, ℕ, Bool, true, false, List, [], codes}
+-- What `explore --verdict` says beside `none`: of calls that run one at a time, and of data races.
+use Rattle.std.specs.Prelude.{◌≡◌, ◌↔◌, ◌++◌, ℕ, Bool, true, false, List, [], codes}
 use Rattle.std.specs.Str.Iter.{HasSubslice}
+use Rattle.ls_alone.specs.Alone.{AreSaid}
 use Rattle.ls_image.specs.declared.image.Image.{Image}
 use Rattle.ls_translation.specs.Texts.{file_of, program_of}
 use Rattle.ls_report.specs.Events.{Text}
@@ -19,12 +20,13 @@ beside_text names flags tries verdicts.Free = free_line true tries
 beside_text names flags tries (verdicts.Raced race) = raced_line (kind_text names flags race.on) []
 beside_text names flags tries verdicts.Unknown = free_line false tries
 
--- Where all states were kept it is said so of the image's program by the class text, whatever specifies the program;
--- else nothing.
+-- Where all states were kept it is said so of the image's program by the class text, whatever specifies the program:
+-- what calls that run one at a time do, and then whether there is a race. Else nothing is said.
 pub data IsBeside (classes : Text) (i : Image) (limit : ℕ) : Bool → Text → Type 0 where
   Silent : IsBeside classes i limit false []
-  Says : (flags : List (List Bool)) (tries : Bool) (verdict : RaceVerdict) →
+  Says : (alone : Text) (flags : List (List Bool)) (tries : Bool) (verdict : RaceVerdict) →
+      AreSaid (file_of i) (program_of i) alone →
       AreFlags classes flags →
       (tries ≡ true) ↔ HasSubslice classes (codes "tryLock") →
       IsRaceVerdict limit flags (file_of i) (program_of i) verdict →
-      IsBeside classes i limit true (beside_text (names_in i) flags tries verdict)
+      IsBeside classes i limit true (alone ++ beside_text (names_in i) flags tries verdict)

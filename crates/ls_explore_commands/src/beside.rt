@@ -1,6 +1,8 @@
-// What `explore --verdict` says of threads that turn for ever, and of data races beside `none`.
+// What `explore --verdict` says of threads that turn for ever, and beside `none` of calls that run one at a time and of
+// data races.
 
 ghost use Rattle.std.specs.Prelude.{◌≡◌, IfOk, IsTrue, map, string_bytes, true};
+ghost use Rattle.ls_alone.specs.Alone.{AreSaid};
 ghost use Rattle.ls_explore_commands.specs.Beside.{IsBeside, beside_text};
 ghost use Rattle.ls_labels.specs.Names.{names_of};
 ghost use Rattle.ls_race_laws.specs.Meeting.{NeverMeets};
@@ -10,6 +12,7 @@ ghost use Rattle.ls_spinning.specs.Told.{IsTurning};
 ghost use Rattle.ls_spinning.specs.declared.finding.Turning.TheVariants.{Never};
 ghost use Rattle.ls_translation.specs.Texts.{file_of, program_of};
 
+use ls_alone::fault_lines;
 use ls_explore_reports::names_in;
 use ls_image::image::Image;
 use ls_labels::names::Names;
@@ -39,6 +42,13 @@ fn beside_words(
             raced_words(alloc, on.as_str(), "")
         }
     }
+}
+
+/// What is said of the calls of an image's program where they run one at a time.
+fn alone_lines(alloc: Global, image: &Image) -> Result<String, AllocError>
+    ensures { IfOk result (λ text. AreSaid (file_of image.now) (program_of image.now) (string_bytes text)) }
+{
+    fault_lines(alloc, image.checked().file(), image.program())
 }
 
 /// What the graph of an image's program tells of threads that turn for ever and of data races, by the flags of its
@@ -86,13 +96,13 @@ fn verdict_of(
 #[derive(Drop)]
 pub(crate) struct Told {
     pub turning: Turning,
-    /// A line on data races, where threads never turn for ever.
+    /// Lines on calls that run one at a time and on data races, where threads never turn for ever.
     pub beside: String,
 }
 
-/// Whether threads of an image's program turn for ever, and if they never do, whether it has a data race by its class
-/// text. For races at most so many states are kept, and for turning twice as many. If no accesses meet, one graph tells
-/// both. The refusals are those of `find_turning` and of `find_races`.
+/// Whether threads of an image's program turn for ever, and if they never do, what calls that run one at a time do, and
+/// whether it has a data race by its class text. For races at most so many states are kept, and for turning twice as
+/// many. If no accesses meet, one graph tells both. The refusals are those of `find_turning` and of `find_races`.
 pub(crate) fn told_of(
     alloc: Global,
     image: &Image,
@@ -110,7 +120,9 @@ pub(crate) fn told_of(
         Turning::Never => {
             let verdict = verdict_of(alloc, image, flags, states, race_free)?;
             let tries = has_try_lock(classes);
-            let beside = beside_words(alloc, names_in(image), flags, tries, &verdict)?;
+            let race_line = beside_words(alloc, names_in(image), flags, tries, &verdict)?;
+            let mut beside = alone_lines(alloc, image)?;
+            beside.push_str(race_line.as_str())?;
             Ok(Told {
                 turning: Turning::Never,
                 beside,

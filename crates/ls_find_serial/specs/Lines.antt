@@ -2,6 +2,7 @@
 use Rattle.std.specs.Prelude.{◌≡◌, ◌+◌, ℕ, zero, suc, Bool, true, false, List, [], ◌++◌, Option, Some, None, codes}
 use Rattle.std.specs.Prelude.{count_by, position, slice_get, string_bytes}
 use Rattle.std.specs.Fmt.{decimal}
+use Rattle.ls_alone.specs.Words.{fault_words}
 use Rattle.ls_alone.specs.declared.telling.Fault.{Fault}
 use Rattle.ls_alone.specs.declared.telling.Fault.TheVariants as faults
 use Rattle.ls_alone.specs.declared.telling.Told.{Told}
@@ -27,11 +28,6 @@ words_of told.Unknown = []
 abbrev pub words_in : Option Told → Text
 words_in None = []
 words_in (Some t) = words_of t
-
--- what a call does that has the fault
-abbrev pub fault_words : Fault → Text
-fault_words faults.Throws = codes "a call throws when calls run one at a time"
-fault_words faults.NeverEnds = codes "a call never ends when calls run one at a time"
 
 -- so many aren't known
 abbrev pub at_least : ℕ → Text

@@ -1,11 +1,11 @@
 // What is said of all programs of a family.
 
 ghost use Rattle.std.specs.Prelude.{◌≡◌, ◌<◌, IfOk, IfSome, count_by, length, position, slice_get, string_bytes};
-ghost use Rattle.ls_find_serial.specs.Lines.{AreLines, IsLine, at_least, fault_line, fault_words, is_so, is_unknown};
+ghost use Rattle.ls_find_serial.specs.Lines.{AreLines, IsLine, at_least, fault_line, is_so, is_unknown};
 ghost use Rattle.ls_find_serial.specs.Lines.{words_in, words_of};
 
 use crate::programs::told_all;
-use ls_alone::{Fault, Told};
+use ls_alone::{Fault, Told, fault_words};
 use ls_family_search::Programs;
 use std::alloc::{AllocError, Global};
 use std::fmt::Write;
@@ -67,16 +67,6 @@ fn words_at(told: &[Told], at: usize) -> &str
     match told.get(at) {
         Some(one) => words_of(one),
         None => "",
-    }
-}
-
-/// What a call does that has the fault.
-fn fault_words(fault: Fault) -> &'static str
-    ensures { result.now ≡ fault_words fault }
-{
-    match fault {
-        Fault::Throws => "a call throws when calls run one at a time",
-        Fault::NeverEnds => "a call never ends when calls run one at a time",
     }
 }
 

@@ -1,6 +1,7 @@
 -- Why `told_of` in src/beside.rt keeps its clause `beside`.
 
-use Rattle.std.proofs.Common.{◌∙◌, ap, map, subst, sym, true}
+use Rattle.std.proofs.Common.{◌∙◌, ◌++◌, ap, map, subst, sym, true}
+use Rattle.std.specs.Prelude.{string_bytes}
 use Rattle.ls_labels.specs.Names.{Names}
 use Rattle.ls_explore_commands.specs.Beside.{IsBeside, Says, beside_text}
 use Rattle.ls_explore_commands.proofs.RacesLemmas.{same_flags}
@@ -13,9 +14,11 @@ returns-in-Never-clause-beside c = λ never.
     let flags = map (λ v. v.items) c.as_slice-flags.result.now in
     let verdict = c.in_ok-verdict-in-Never.verdict in
     let tries = c.has_try_lock-tries.result in
-    let is = Says flags tries verdict
+    let alone = string_bytes c.in_ok-beside-in-Never.beside in
+    let is = Says alone flags tries verdict c.in_ok-beside-in-Never.ensures
     (same_flags classes _ _ c.as_slice-flags.ensures.value c.in_ok-declared.ensures) c.has_try_lock-tries.ensures
     c.in_ok-verdict-in-Never.ensures in
     subst (IsBeside classes i c.args.states true)
-    (sym (c.in_ok-beside-in-Never.ensures
-    ∙ ap (λ (n : Names). beside_text n flags tries verdict) c.names_in.ensures.names)) is
+    (sym (c.in_ok-push_str-in-Never.ensures.bytes
+    ∙ ap (λ t. alone ++ t) (c.as_str.ensures.value ∙ c.in_ok-race_line-in-Never.ensures
+    ∙ ap (λ (n : Names). beside_text n flags tries verdict) c.names_in.ensures.names))) is
