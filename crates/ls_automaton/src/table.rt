@@ -94,7 +94,8 @@ fn ask_thread<'a>(
     )?;
     match followed {
         Followed::Stays => Ok(false),
-        Followed::Never(_) => Ok(false),
+        Followed::Waits(_, _) => Ok(false),
+        Followed::Turns(_) => Ok(false),
         Followed::GoesOn => Ok(true),
         Followed::Ends(count) => {
             let longer = more_steps(alloc, steps, thread, count)?;

@@ -1,12 +1,13 @@
 -- A thread that comes back to where it was within a call: the call never ends.
-use Rattle.std.proofs.Common.{◌≡◌, ◌⊎◌, inl, inr, ℕ, zero, suc, ◌+◌, ◌<◌, ◌≤◌, List, [], ◌∷◌, ◌++◌, map}
-use Rattle.std.proofs.Common.{replicate, sym, ap, ◌∙◌, arith, append-nil, slice_get}
+use Rattle.std.proofs.Common.{◌≡◌, ◌⊎◌, inl, inr, ℕ, zero, suc, ◌+◌, ◌-◌, ◌<◌, ◌≤◌, List, [], ◌∷◌, ◌++◌, map}
+use Rattle.std.proofs.Common.{replicate, subst, sym, ap, ◌∙◌, arith, append-nil, slice_get}
 use Rattle.std.proofs.lemmas.Bool.{cases_lt}
 use Rattle.ls_events.specs.declared.event.Event.{Event}
 use Rattle.ls_checked.specs.CheckedTree.{File}
 use Rattle.ls_checked.specs.CheckedProgram.{Program}
 use Rattle.ls_meaning.specs.Course.{Answers}
-use Rattle.ls_meaning.specs.Runs.{answers_of, source_history, source_run}
+use Rattle.ls_meaning.specs.Runs.{answers_of, source_history, source_run, step}
+use Rattle.ls_meaning.specs.Still.{IsActing}
 use Rattle.ls_meaning.specs.Threads.{next}
 use Rattle.ls_search_laws.specs.Configuration.{Configuration, configuration_of, stride}
 use Rattle.ls_search_laws.proofs.Renamed.{step_stride}
@@ -20,6 +21,7 @@ use Rattle.ls_source.specs.SeenThread.{thread_of}
 use Rattle.ls_source.specs.Stands.{StandsFor}
 use Rattle.ls_serial_search.specs.declared.marks.Mark.{Mark}
 use Rattle.ls_serial_search.specs.Following.{IsBegun, NeverEnds, called, events_of}
+use Rattle.ls_serial_search.specs.Happened.{ActsFor, TurnsOn}
 use Rattle.ls_serial_search.specs.Marks.{IsMarkOf}
 use Rattle.ls_serial_search.specs.Orders.{progress_at}
 use Rattle.ls_serial_search.proofs.Stalls.{begun_at, history_next, never_by, state_next}
@@ -104,8 +106,24 @@ module _ (file : File) (program : Program) (schedule : List ℕ) (t : ℕ) where
         ∙ append-nil (source_history file program (after (n + i))) ∙ stays n
 
     -- so the call never ends
-    pub turns_never : NeverEnds file program schedule t call
+    turns_never : NeverEnds file program schedule t call
     turns_never = never_by file program schedule t call i (begun_by i (omega (arith, less))) stays
+
+    did_is : (n : ℕ) → (step file program (source_run file program (after n)) t).did ≡ (stride file (place n) t).did
+    did_is n = (step_stride file program (source_run file program (after n)) (long_of_all file program (after n)) t).0
+
+    -- and each step acts
+    pub turns_on : ActsFor file program schedule t j → TurnsOn file program schedule t call
+    turns_on acts = record { never = turns_never; acts = λ n. by_place n (cases_lt n j) }
+      where
+        by_place : (n : ℕ) → (n < j) ⊎ (j ≤ n) →
+            IsActing (step file program (source_run file program (after n)) t).did
+        by_place n (inl lt) = acts n lt
+        by_place n (inr past) =
+            let r = comes_back (n - i) in
+            let e : (n - i) + i ≡ n = omega (arith, past, less) in
+            subst IsActing (did_is r.0 ∙ ap (λ c. (stride file c t).did) (sym r.3 ∙ ap place e) ∙ sym (did_is n))
+            (acts r.0 r.2)
 
 -- ---- marks
 
@@ -159,7 +177,8 @@ module _ (file : File) (program : Program) (schedule : List ℕ) (t : ℕ) where
       IsMarkOf m r →
       StandsFor r (progress_at file program (schedule ++ replicate (steps + 1) t)) →
       IsBegun file program schedule t call (steps + 1) →
-      NeverEnds file program schedule t call
+      ActsFor file program schedule t (steps + 1) →
+      TurnsOn file program schedule t call
   back_at_mark call m r steps h is at begun =
-      turns_never file program schedule t call h.at (steps + 1) h.some (omega (arith, h.before))
+      turns_on file program schedule t call h.at (steps + 1) h.some (omega (arith, h.before))
       (sym h.is ∙ marked_place file program (schedule ++ replicate (steps + 1) t) m r is at) begun

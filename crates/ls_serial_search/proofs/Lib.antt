@@ -18,3 +18,4 @@ pub mod Kept
 pub mod Stalls
 pub mod ComingBack
 pub mod NeverEnding
+pub mod FirstFaults

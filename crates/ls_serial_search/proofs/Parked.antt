@@ -1,4 +1,4 @@
--- Runs that are kept after schedules.
+-- Runs that are parked after schedules.
 use Rattle.std.proofs.Common.{◌≡◌, ◌<◌, ℕ, zero, suc, List, [], ◌∷◌, ◌++◌, Option, ap, arith, length, refl}
 use Rattle.std.proofs.Common.{slice_index_or, subst, sym}
 use Rattle.ls_checked.specs.CheckedProgram.{Program}

@@ -12,6 +12,7 @@ use Rattle.ls_meaning.specs.Still.{IsActing, IsStill}
 use Rattle.ls_meaning.specs.Runs.{source_history, source_run, step}
 use Rattle.ls_serial_search.specs.Endless.{IsEndlessAfter}
 use Rattle.ls_serial_search.specs.Following.{IsBegun, NeverEnds, called, events_of}
+use Rattle.ls_serial_search.specs.Happened.{WaitsWithin}
 use Rattle.ls_serial_search.specs.Open.{HasEnded}
 use Rattle.ls_serial_search.proofs.Stepping.{acts_within, history_more, state_more, steps_more, still_stays}
 
@@ -109,6 +110,10 @@ module _ (file : File) (program : Program) (schedule : List ℕ) (t : ℕ) where
   pub still_never : (call j : ℕ) → IsBegun file program schedule t call j → 1 ≤ j → StillAt j →
       NeverEnds file program schedule t call
   still_never call j b le still = never_by call j b (λ k. history_kept j k still ∙ begun_at call j b le)
+
+  -- a call whose thread waits
+  pub waiting_never : (call j : ℕ) → WaitsWithin file program schedule t call j → NeverEnds file program schedule t call
+  waiting_never call j w = still_never call j w.begun w.some w.waits
 
   -- ---- a call that never ends
 

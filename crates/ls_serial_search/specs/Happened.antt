@@ -48,11 +48,28 @@ pub record EndsIn (file : File) (program : Program) (schedule : List ℕ) (threa
   pub serial : IsSerial (source_history file program schedule) →
       IsSerial (source_history file program (schedule ++ replicate steps thread))
 
+-- The thread's next call has begun with these steps, each of which acts. With the next one the thread waits.
+pub record WaitsWithin (file : File) (program : Program) (schedule : List ℕ) (thread call steps : ℕ) : Type 0 where
+  pub some : 1 ≤ steps
+  pub begun : IsBegun file program schedule thread call steps
+  pub acts : ActsFor file program schedule thread steps
+  pub waits : IsStill
+      (step file program (source_run file program (schedule ++ replicate steps thread)) thread).did
+
+-- Each step of the thread acts. But nothing more comes than that its next call begins.
+pub record TurnsOn (file : File) (program : Program) (schedule : List ℕ) (thread call : ℕ) : Type 0 where
+  pub never : NeverEnds file program schedule thread call
+  pub acts : (n : ℕ) →
+      IsActing (step file program (source_run file program (schedule ++ replicate n thread)) thread).did
+
 -- what comes of the call within so many steps
 abbrev pub HasFollowed : File → Program → List ℕ → ℕ → ℕ → Followed → Type 0
 HasFollowed file program schedule thread most followed.Stays =
     IsStill (step file program (source_run file program schedule) thread).did
-HasFollowed file program schedule thread most (followed.Never call) = NeverEnds file program schedule thread call
+HasFollowed file program schedule thread most (followed.Waits call steps) =
+    WaitsWithin file program schedule thread call steps × (steps ≤ most)
+HasFollowed file program schedule thread most (followed.Turns call) =
+    TurnsOn file program schedule thread call × (1 ≤ most)
 HasFollowed file program schedule thread most (followed.Ends steps) =
     EndsIn file program schedule thread steps × (steps ≤ most) × HasEnded file program schedule thread steps
 HasFollowed file program schedule thread most followed.GoesOn =

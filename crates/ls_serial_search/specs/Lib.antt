@@ -10,4 +10,6 @@ pub mod Found
 pub mod Told
 pub mod Histories
 pub mod Endless
+pub mod Faults
+pub mod Noted
 pub mod Parked

@@ -16,7 +16,7 @@ module _ (file : File) (program : Program) where
       StandsFor r (progress_at file program (schedule ++ replicate steps thread))
   StandsBehind schedule thread _ r = Unit {0}
 
-  -- the run after a schedule, where it is kept
+  -- the run after a schedule, where it is parked
   abbrev pub IsParked : List ℕ → Option Playing → Type 0
   IsParked schedule None = Unit {0}
   IsParked schedule (Some r) = StandsFor r (progress_at file program schedule)

@@ -47,6 +47,24 @@ fn begun_history(
     Ok(history)
 }
 
+/// Adds that history.
+fn push_begun(
+    alloc: Global,
+    task: &Task,
+    schedule: &Schedule,
+    thread: u8,
+    call: usize,
+    runs: &mut Vec<Vec<Event>>,
+) -> Result<(), AllocError>
+    ensures { OnOk result (lists_of runs.new.items ≡ lists_of runs.old.items ++
+        (source_history (plain_file task.now.file.now) (plain_program task.now.program.now) schedule.now ++
+        called thread call ∷ []) ∷ []) }
+{
+    let begun = begun_history(alloc, task, schedule, thread, call)?;
+    runs.push(begun)?;
+    Ok(())
+}
+
 /// Adds the history up to a thread's next call after a schedule, if the call never ends. Whether it is known whether it
 /// ends. The only refusal is that memory ran out.
 fn try_thread(
@@ -76,9 +94,12 @@ fn try_thread(
 {
     let further = follow(alloc, task, schedule, run, thread, task.most_steps)?;
     match further.followed {
-        Followed::Never(call) => {
-            let begun = begun_history(alloc, task, schedule, thread, call)?;
-            runs.push(begun)?;
+        Followed::Waits(call, _) => {
+            push_begun(alloc, task, schedule, thread, call, runs)?;
+            Ok(true)
+        }
+        Followed::Turns(call) => {
+            push_begun(alloc, task, schedule, thread, call, runs)?;
             Ok(true)
         }
         Followed::Stays => Ok(true),

@@ -38,8 +38,10 @@ pub(crate) enum Happened {
 pub enum Followed {
     /// There is none.
     Stays,
-    /// This one never ends: its thread waits, or it comes back to where it was.
-    Never(usize),
+    /// This one never ends: after so many steps of it its thread waits.
+    Waits(usize, usize),
+    /// This one never ends: its thread comes back to where it was.
+    Turns(usize),
     /// It ends with the last of so many steps.
     Ends(usize),
     /// It doesn't end within the bound.
@@ -119,13 +121,13 @@ fn follow_on<'a>(
         match what_happened(thread, &did) {
             Happened::GoesOn => {
                 if mark.is_at(run) {
-                    return Ok(Followed::Never(call));
+                    return Ok(Followed::Turns(call));
                 }
                 if is_marked(steps) {
                     assign(mark, Mark::of(alloc, run)?);
                 }
             }
-            Happened::Stays => return Ok(Followed::Never(call)),
+            Happened::Stays => return Ok(Followed::Waits(call, steps)),
             Happened::Begins(_) => return Ok(Followed::GoesOn),
             Happened::Ends(ended) => {
                 if ended == call {

@@ -2,6 +2,7 @@
 #![tactic(auto)]
 
 pub mod endless;
+pub mod faults;
 pub mod following;
 pub mod histories;
 pub mod judging;

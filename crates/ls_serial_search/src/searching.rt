@@ -24,16 +24,17 @@ use crate::playing::{played, with_steps};
 use crate::standing::standing;
 use ls_events::schedule::{MOST_STEPS, Schedule};
 use ls_source::playing::Playing;
+use ls_source_store::thing::Thing;
 use std::alloc::{AllocError, Global};
 
 /// Schedules of calls that run one at a time.
 #[derive(Drop)]
 pub(crate) struct Orders<'a> {
     pub(crate) schedules: Vec<Schedule>,
-    /// The run after each of them, where it is kept.
+    /// The run after each of them, where it is parked.
     pub(crate) runs: Vec<Option<Playing<'a>>>,
-    /// How many objects the runs have, and one each.
-    objects: usize,
+    /// How many values the stores of the runs have.
+    values: usize,
 }
 
 /// Such schedules, and whether the next call of each thread was followed after each of them.
@@ -45,22 +46,41 @@ pub(crate) struct Known<'a> {
     pub(crate) many: bool,
 }
 
-/// The most objects that kept runs have together, but for those of the last of them: some 30 MB.
-const MOST_PARKED: usize = 100_000;
+/// The most values that the stores of parked runs have together, but for those of the last of them: some 30 MB.
+const MOST_PARKED: usize = 400_000;
 
-/// The run, if those that are kept have few objects.
-fn kept<'a>(objects: usize, run: Playing<'a>) -> Option<Playing<'a>>
+/// How many values a thing has, and one for itself.
+fn values_of(thing: &Thing) -> usize {
+    let values = match thing {
+        Thing::Object { monitor: _, fields } => fields.len(),
+        Thing::Lock(_) | Thing::Markable(_) => 0,
+        Thing::Array { size: _, items } => items.len(),
+    };
+    values.saturating_add(1)
+}
+
+/// How many values the store of a run has, and one for the run.
+fn values_in(run: &Playing<'_>) -> usize {
+    let mut values: usize = 1;
+    for thing in run.store_and_events.store.things.iter() {
+        values = values.saturating_add(values_of(thing));
+    }
+    values
+}
+
+/// The run, if the stores of those that are parked have few values.
+fn parked_within<'a>(values: usize, run: Playing<'a>) -> Option<Playing<'a>>
     ensures { (file : FileValue) (program : ProgramValue) (schedule : List ℕ) →
         StandsFor run.entry (progress_at file program schedule) → IsParked file program schedule result }
 {
-    if objects < MOST_PARKED {
+    if values < MOST_PARKED {
         return Some(run);
     }
     None
 }
 
-/// Adds a schedule and the run after it. The run is kept while those that were added have few objects. The only refusal
-/// is that memory ran out.
+/// Adds a schedule and the run after it. The run is parked while those that were added have few values. The only
+/// refusal is that memory ran out.
 fn add<'a>(orders: &mut Orders<'a>, schedule: Schedule, run: Playing<'a>) -> Result<(), AllocError>
     ensures schedules { OnOk result (orders.new.schedules.items ≡ orders.old.schedules.items ++ schedule ∷ []) }
     ensures parked { OnOk result ((file : FileValue) (program : ProgramValue) →
@@ -68,9 +88,9 @@ fn add<'a>(orders: &mut Orders<'a>, schedule: Schedule, run: Playing<'a>) -> Res
         AreParked file program orders.old.schedules.items orders.old.runs.items →
         AreParked file program orders.new.schedules.items orders.new.runs.items) }
 {
-    let objects = run.store_and_events.store.things.len();
-    orders.runs.push(kept(orders.objects, run))?;
-    orders.objects = orders.objects.saturating_add(objects).saturating_add(1);
+    let values = values_in(&run);
+    orders.runs.push(parked_within(orders.values, run))?;
+    orders.values = orders.values.saturating_add(values);
     orders.schedules.push(schedule)?;
     Ok(())
 }
@@ -84,7 +104,7 @@ fn first<'a>(alloc: Global, task: &Task<'a>) -> Result<Orders<'a>, AllocError>
     let mut orders = Orders {
         schedules: Vec::new(alloc),
         runs: Vec::new(alloc),
-        objects: 0,
+        values: 0,
     };
     let schedule = Schedule::new(alloc);
     let run = played(alloc, task.file, task.program, &schedule)?;
@@ -101,7 +121,7 @@ pub(crate) fn both(one: bool, other: bool) -> bool
 }
 
 /// The least of two numbers.
-fn least(one: usize, other: usize) -> usize
+pub(crate) fn least(one: usize, other: usize) -> usize
     ensures { (result ≤ one) × (result ≤ other) × ((result ≡ one) ⊎ (result ≡ other)) }
 {
     if one < other { one } else { other }
@@ -147,7 +167,8 @@ fn follow_thread<'a>(
     let Further { followed, run } = follow(alloc, task, schedule, run, thread, most)?;
     let steps = match followed {
         Followed::Stays => return Ok(true),
-        Followed::Never(_) => return Ok(true),
+        Followed::Waits(_, _) => return Ok(true),
+        Followed::Turns(_) => return Ok(true),
         Followed::Ends(steps) => steps,
         Followed::GoesOn => return Ok(false),
     };

@@ -43,7 +43,7 @@ pub(crate) fn copied<'a>(alloc: Global, run: &Playing<'a>) -> Result<Playing<'a>
     })
 }
 
-/// The run after a schedule of a task: a copy of the one that is kept, if one is. The only refusal is that memory ran
+/// The run after a schedule of a task: a copy of the one that is parked, if one is. The only refusal is that memory ran
 /// out.
 pub(crate) fn standing<'a>(
     alloc: Global,
@@ -61,7 +61,7 @@ pub(crate) fn standing<'a>(
     }
 }
 
-/// The history of a schedule of a task: that of the run that is kept, if one is. The only refusal is that memory ran
+/// The history of a schedule of a task: that of the parked run, if one is. The only refusal is that memory ran
 /// out.
 pub(crate) fn history_after<'a>(
     alloc: Global,

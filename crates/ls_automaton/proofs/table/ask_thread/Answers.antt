@@ -8,6 +8,7 @@ use Rattle.ls_checked.specs.PlainProgram.{plain_program}
 use Rattle.ls_search_laws.specs.Stepping.{ActAll}
 use Rattle.ls_search_laws.proofs.Acting.{acts_times}
 use Rattle.ls_serial_search.specs.Happened.{HasFollowed}
+use Rattle.ls_serial_search.proofs.Stalls.{waiting_never}
 use Rattle.ls_automaton.proofs.Reaching.{ended_asked, never_asked, open_asked, open_long, still_asked}
 use Rattle.ls_automaton.proofs.table.ask_thread.Goals as goal
 
@@ -30,14 +31,26 @@ returns-in-Stays-clause-asked c =
     (subst (HasFollowed file program c.args.stand.now.steps.now c.args.thread c.args.task.now.most_steps) c.in-Stays.is
     c.in_ok-followed.ensures.followed)
 
-pub returns-in-Never-clause-asked : goal.returns-in-Never-clause-asked
-returns-in-Never-clause-asked c =
+pub returns-in-Waits-clause-asked : goal.returns-in-Waits-clause-asked
+returns-in-Waits-clause-asked c =
     let file : File = plain_file c.args.task.now.file.now in
     let program : Program = plain_program c.args.task.now.program.now in
-    never_asked file program c.args.task.now.most_steps c.args.stand.now.steps.now c.args.thread c.args.spots.now.items
-    c.args.row.now.items c.requires.spots c.in-Never.field-0
-    (subst (HasFollowed file program c.args.stand.now.steps.now c.args.thread c.args.task.now.most_steps) c.in-Never.is
-    c.in_ok-followed.ensures.followed)
+    let schedule = c.args.stand.now.steps.now in
+    never_asked file program c.args.task.now.most_steps schedule c.args.thread c.args.spots.now.items
+    c.args.row.now.items c.requires.spots c.in-Waits.field-0
+    (waiting_never file program schedule c.args.thread c.in-Waits.field-0 c.in-Waits.field-1
+    (subst (HasFollowed file program schedule c.args.thread c.args.task.now.most_steps) c.in-Waits.is
+    c.in_ok-followed.ensures.followed).0)
+
+pub returns-in-Turns-clause-asked : goal.returns-in-Turns-clause-asked
+returns-in-Turns-clause-asked c =
+    let file : File = plain_file c.args.task.now.file.now in
+    let program : Program = plain_program c.args.task.now.program.now in
+    let schedule = c.args.stand.now.steps.now in
+    never_asked file program c.args.task.now.most_steps schedule c.args.thread c.args.spots.now.items
+    c.args.row.now.items c.requires.spots c.in-Turns.field-0
+    (subst (HasFollowed file program schedule c.args.thread c.args.task.now.most_steps) c.in-Turns.is
+    c.in_ok-followed.ensures.followed).0.never
 
 pub returns-in-GoesOn-clause-asked : goal.returns-in-GoesOn-clause-asked
 returns-in-GoesOn-clause-asked c =

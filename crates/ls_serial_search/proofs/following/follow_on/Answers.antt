@@ -13,7 +13,6 @@ use Rattle.ls_serial_search.specs.Happened.{IsLast}
 use Rattle.ls_serial_search.proofs.Along.{did_at, ends_in, first_begun, go_on_more, more_begun}
 use Rattle.ls_serial_search.proofs.Open.{acts_by, acts_first, acts_next, ends_own, not_end, past_bound}
 use Rattle.ls_serial_search.proofs.Within.{end_inside, first_inside, next_inside}
-use Rattle.ls_serial_search.proofs.Stalls.{still_never}
 use Rattle.ls_serial_search.specs.declared.marks.Mark.{Mark}
 use Rattle.ls_serial_search.proofs.ComingBack.{IsMarked, back_at_mark, mark_here, mark_stays}
 use Rattle.ls_serial_search.proofs.following.follow_on.Goals.{else-is_marked, then-is_marked+in_ok-of-in-GoesOn}
@@ -69,9 +68,15 @@ returns-in-Stays-clause-followed c =
     let schedule : List ℕ = c.args.next.now.schedule.now in
     let t : ℕ = c.args.next.now.thread in
     let at = did_at file program (schedule ++ replicate c.loop-steps.steps t) t _ c.in_ok-did.did
-    c.loop-steps.invariant.at c.in_ok-did.ensures.did in
-    still_never file program schedule t c.args.call c.loop-steps.steps c.loop-steps.invariant.begun
-    c.loop-steps.auto.steps (subst IsStill at c.in-Stays.ensures)
+    c.loop-steps.invariant.at c.in_ok-did.ensures.did in (
+      record {
+        some = c.loop-steps.auto.steps;
+        begun = c.loop-steps.invariant.begun;
+        acts = c.loop-steps.invariant.acts;
+        waits = subst IsStill at c.in-Stays.ensures;
+      },
+      omega (arith, c.loop-steps-test.true),
+    )
 
 pub returns-in-Begins-clause-followed : goal.returns-in-Begins-clause-followed
 returns-in-Begins-clause-followed c = λ serial.
@@ -114,12 +119,17 @@ returns-then-is_at-clause-followed c =
     let schedule : List ℕ = c.args.next.now.schedule.now in
     let t : ℕ = c.args.next.now.thread in
     let did = did_at file program (schedule ++ replicate c.loop-steps.steps t) t _ c.in_ok-did.did
-    c.loop-steps.invariant.at c.in_ok-did.ensures.did in
-    back_at_mark file program schedule t c.args.call c.loop-steps.mark _ c.loop-steps.steps
-    c.loop-steps.invariant.marked (c.is_at.ensures c.if-is_at.true)
-    (go_on_more file program schedule t c.loop-steps.steps _ _ c.loop-steps.invariant.at c.in_ok-did.ensures.run)
-    (more_begun file program schedule t c.args.call c.in_ok-did.did c.loop-steps.steps did c.loop-steps.auto.steps
-    c.loop-steps.invariant.begun c.in-GoesOn.ensures.1)
+    c.loop-steps.invariant.at c.in_ok-did.ensures.did in (
+      back_at_mark file program schedule t c.args.call c.loop-steps.mark _ c.loop-steps.steps
+          c.loop-steps.invariant.marked (c.is_at.ensures c.if-is_at.true)
+          (go_on_more file program schedule t c.loop-steps.steps _ _ c.loop-steps.invariant.at
+          c.in_ok-did.ensures.run)
+          (more_begun file program schedule t c.args.call c.in_ok-did.did c.loop-steps.steps did
+          c.loop-steps.auto.steps c.loop-steps.invariant.begun c.in-GoesOn.ensures.1)
+          (acts_next file program schedule t c.loop-steps.steps c.loop-steps.invariant.acts
+          (subst IsActing did c.in-GoesOn.ensures.0)),
+      omega (arith, c.loop-steps-test.true),
+    )
 
 pub loop-steps-preserved : goal.loop-steps-preserved
 loop-steps-preserved c =

@@ -10,4 +10,4 @@ returns-clause-parked c = λ file program stands are.
     subst (λ ss. AreParked file program ss c.push.new.self.items) (sym c.in_ok-push-2.ensures.items)
     (subst (AreParked file program _) (sym c.in_ok-push.ensures.items)
     (parked_push file program c.args.orders.now.schedules.items c.args.orders.now.runs.items c.args.schedule
-    c.kept.result are (c.kept.ensures file program c.args.schedule stands)))
+    c.parked_within.result are (c.parked_within.ensures file program c.args.schedule stands)))

@@ -1,6 +1,6 @@
--- Why `follow_thread` in src/searching.rt keeps its clauses `more`, `long`, `tree` and `parked`.
+-- Why `follow_thread` in src/searching.rt keeps its clauses `more`, `followed`, `long`, `tree` and `parked`.
 
-use Rattle.std.proofs.Common.{arith, subst, sym}
+use Rattle.std.proofs.Common.{arith, inl, inr, subst, sym}
 use Rattle.ls_checked.specs.Plain.{plain_file}
 use Rattle.ls_checked.specs.PlainProgram.{plain_program}
 use Rattle.ls_source.specs.Stands.{StandsFor}
@@ -8,8 +8,9 @@ use Rattle.ls_serial_search.specs.Happened.{HasFollowed}
 use Rattle.ls_serial_search.specs.Orders.{progress_at}
 use Rattle.ls_serial_search.specs.Parked.{StandsBehind}
 use Rattle.ls_serial_search.proofs.Apart.{tree_more, tree_same}
-use Rattle.ls_serial_search.proofs.Gone.{ends_more}
+use Rattle.ls_serial_search.proofs.Gone.{ends_followed, ends_more}
 use Rattle.ls_serial_search.proofs.Open.{is_long}
+use Rattle.ls_serial_search.proofs.Stalls.{waiting_never}
 use Rattle.ls_serial_search.proofs.searching.follow_thread.Goals as goal
 
 pub returns-clause-more : goal.returns-clause-more
@@ -33,9 +34,36 @@ pub returns-in-GoesOn-clause-tree : goal.returns-in-GoesOn-clause-tree
 returns-in-GoesOn-clause-tree c = λ place at tree. tree_same (plain_file c.args.task.now.file.now)
     (plain_program c.args.task.now.program.now) c.args.known.now.schedules.items place c.args.thread tree
 
-pub returns-in-Never-clause-tree : goal.returns-in-Never-clause-tree
-returns-in-Never-clause-tree c = λ place at tree. tree_same (plain_file c.args.task.now.file.now)
+pub returns-in-Waits-clause-tree : goal.returns-in-Waits-clause-tree
+returns-in-Waits-clause-tree c = λ place at tree. tree_same (plain_file c.args.task.now.file.now)
     (plain_program c.args.task.now.program.now) c.args.known.now.schedules.items place c.args.thread tree
+
+pub returns-in-Turns-clause-tree : goal.returns-in-Turns-clause-tree
+returns-in-Turns-clause-tree c = λ place at tree. tree_same (plain_file c.args.task.now.file.now)
+    (plain_program c.args.task.now.program.now) c.args.known.now.schedules.items place c.args.thread tree
+
+pub returns-in-Waits-clause-followed : goal.returns-in-Waits-clause-followed
+returns-in-Waits-clause-followed c = λ up.
+    let file = plain_file c.args.task.now.file.now in
+    let program = plain_program c.args.task.now.program.now in
+    let schedule = c.args.schedule.now in
+    inr (inl (
+      c.in-Waits.field-0,
+      waiting_never file program schedule c.args.thread c.in-Waits.field-0 c.in-Waits.field-1
+          (subst (HasFollowed file program schedule c.args.thread c.least-most.result) c.in-Waits.is
+          c.in_ok-followed.ensures.followed).0,
+    ))
+
+pub returns-clause-followed : goal.returns-clause-followed
+returns-clause-followed c = λ up.
+    let file = plain_file c.args.task.now.file.now in
+    let program = plain_program c.args.task.now.program.now in
+    let schedule = c.args.schedule.now in
+    ends_followed file program c.args.known.now.schedules.items c.add.new.orders.schedules.items schedule
+    c.in_ok-longer.longer c.args.thread c.in-Ends.steps
+    (subst (HasFollowed file program schedule c.args.thread c.least-most.result) c.in-Ends.is
+    c.in_ok-followed.ensures.followed).0
+    c.in_ok-longer.ensures c.in_ok-add.ensures.schedules
 
 pub returns-in-Stays-clause-tree : goal.returns-in-Stays-clause-tree
 returns-in-Stays-clause-tree c = λ place at tree. tree_same (plain_file c.args.task.now.file.now)
