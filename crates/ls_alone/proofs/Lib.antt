@@ -1,2 +1,1 @@
-pub mod ThrownCalls
-pub mod Ending
+mod Unfound

@@ -1,69 +1,113 @@
--- Calls that throw, and calls that never end, where calls run one at a time.
-use Rattle.std.specs.Prelude.{◌≡◌, ◌⊎◌, ℕ, List, [], ◌∷◌, ◌++◌, string_bytes}
-use Rattle.ls_checked.specs.CheckedProgram.{Program}
-use Rattle.ls_checked.specs.CheckedTree.{File}
-use Rattle.ls_events.specs.declared.event.Event.{Event}
-use Rattle.ls_events.specs.declared.event.Happening.TheVariants.{Trapped}
+-- What is told of calls that run one at a time: that one throws, waits for ever, or turns for ever.
+use Rattle.std.specs.Prelude.{◌≡◌, ℕ, Bool, true, false, List, ◌++◌, Option, Some, None, string_bytes}
 use Rattle.ls_events.specs.declared.kind.Kind.{Kind}
-use Rattle.ls_meaning.specs.Runs.{source_history}
-use Rattle.ls_serial.specs.Serial.{IsSerial}
-use Rattle.ls_serial_search.specs.Endless.{IsEndlessRun}
-use Rattle.ls_serial_search.specs.Following.{called}
-use Rattle.ls_serial_search.specs.Open.{HasLongCall, HasManyOrders}
+use Rattle.ls_labels.specs.Names.{Names}
+use Rattle.ls_schedule.specs.Printing.{schedule_text}
+use Rattle.ls_search_laws.specs.Stepping.{ActAll}
+use Rattle.ls_serial_search.specs.Faults.{MeetsBound, NoneThrows, NoneTurns, NoneWaits, ThrowsAlone, TurnsAlone}
+use Rattle.ls_serial_search.specs.Faults.{WaitsAlone}
 use Rattle.ls_serial_search.specs.Told.{usual}
-use Rattle.ls_alone.specs.Words.{endless_text, fault_line, thrown_text}
+use Rattle.ls_alone.specs.Words.{Text, pending_text, fault_line, thrown_text, waits_text}
 use Rattle.ls_alone.specs.declared.telling.Fault.{Fault}
 use Rattle.ls_alone.specs.declared.telling.Fault.TheVariants as faults
+use Rattle.ls_alone.specs.declared.telling.Faulty.{Faulty}
+use Rattle.ls_alone.specs.declared.telling.Tellings.{Tellings}
 use Rattle.ls_alone.specs.declared.telling.Told.{Told}
 use Rattle.ls_alone.specs.declared.telling.Told.TheVariants as told
 
--- the end of a call by an exception
-abbrev pub trapped : ℕ → ℕ → Kind → Event
-trapped thread n kind = record { thread = thread; call = n; happening = Trapped kind }
+-- what is told of one, in these words, and after this schedule of threads of these names
+pub record IsFaulty (words : Text) (threads : List Text) (steps : List ℕ) (t : Told) : Type 0 where
+  pub faulty : Faulty
+  pub is : t ≡ told.So faulty
+  pub words_are : string_bytes faulty.words ≡ words
+  pub schedule_is : string_bytes faulty.schedule ≡ schedule_text threads steps
 
--- Calls run one at a time, and the last of them ends by this exception: the call of this number of this thread.
-pub record ThrowsAlone (file : File) (program : Program) (thread call : ℕ) (kind : Kind) : Type 0 where
-  pub schedule : List ℕ
-  pub before : List Event
-  pub serial : IsSerial (source_history file program schedule)
-  pub is : source_history file program schedule ≡ before ++ called thread call ∷ trapped thread call kind ∷ []
+-- the names of a program, and of its threads
+module _ (names : Names) (threads : List Text) where
+  -- Each step of the schedule acts, and after it the call in these words has ended by an exception.
+  pub record SaysThrown (f : Faulty) : Type 0 where
+    pub steps : List ℕ
+    pub thread : ℕ
+    pub call : ℕ
+    pub kind : Kind
+    pub throws : ThrowsAlone names.file names.program steps thread call kind
+    pub acts : ActAll names.file names.program steps
+    pub is : string_bytes f.words ≡ thrown_text names.program thread call kind
+    pub schedule_is : string_bytes f.schedule ≡ schedule_text threads steps
 
--- the fault that a call has, in words
-pub record SaysThrown (file : File) (program : Program) (text : List ℕ) : Type 0 where
-  pub thread : ℕ
-  pub call : ℕ
-  pub kind : Kind
-  pub throws : ThrowsAlone file program thread call kind
-  pub is : text ≡ thrown_text program thread call kind
+  -- or its thread waits for ever
+  pub record SaysWaits (f : Faulty) : Type 0 where
+    pub steps : List ℕ
+    pub thread : ℕ
+    pub call : ℕ
+    pub waits : WaitsAlone names.file names.program steps thread call
+    pub acts : ActAll names.file names.program steps
+    pub is : string_bytes f.words ≡ waits_text names steps thread call
+    pub schedule_is : string_bytes f.schedule ≡ schedule_text threads steps
 
-pub record SaysEndless (file : File) (program : Program) (text : List ℕ) : Type 0 where
-  pub run : List Event
-  pub endless : IsEndlessRun file program run
-  pub is : text ≡ endless_text program endless.call
+  -- or its thread turns for ever
+  pub record SaysTurns (f : Faulty) : Type 0 where
+    pub steps : List ℕ
+    pub thread : ℕ
+    pub call : ℕ
+    pub turns : TurnsAlone names.file names.program steps thread call
+    pub acts : ActAll names.file names.program steps
+    pub is : string_bytes f.words ≡ pending_text names.program thread call
+    pub schedule_is : string_bytes f.schedule ≡ schedule_text threads steps
 
-abbrev pub Says : Fault → File → Program → List ℕ → Type 0
-Says faults.Throws file program text = SaysThrown file program text
-Says faults.NeverEnds file program text = SaysEndless file program text
+  abbrev pub Says : Fault → Faulty → Type 0
+  Says faults.Throws f = SaysThrown f
+  Says faults.Waits f = SaysWaits f
+  Says faults.Turns f = SaysTurns f
 
--- no call has it, in any run
-abbrev pub NoneHas : Fault → File → Program → Type 0
-NoneHas faults.Throws file program = (thread call : ℕ) (kind : Kind) → ThrowsAlone file program thread call kind → ⊥
-NoneHas faults.NeverEnds file program = (run : List Event) → IsEndlessRun file program run → ⊥
+  -- no call has it, after any schedule
+  abbrev pub NoneHas : Fault → Type 0
+  NoneHas faults.Throws = NoneThrows names.file names.program
+  NoneHas faults.Waits = NoneWaits names.file names.program
+  NoneHas faults.Turns = NoneTurns names.file names.program
 
--- a bound was met: there are too many orders of calls, or a call alone goes on for too long
-abbrev pub MeetsBound : File → Program → Type 0
-MeetsBound file program = HasManyOrders file program usual.orders ⊎ HasLongCall file program usual.steps
+  -- what is told is so; if it isn't known, a bound was met
+  abbrev pub Tells : Fault → Told → Type 0
+  Tells fault told.Never = NoneHas fault
+  Tells fault (told.So f) = Says fault f
+  Tells fault told.Unknown = MeetsBound names.file names.program usual
 
--- what is told is so
-abbrev pub Tells : Fault → File → Program → Told → Type 0
-Tells fault file program told.Never = NoneHas fault file program
-Tells fault file program (told.So text) = Says fault file program (string_bytes text)
-Tells fault file program told.Unknown = MeetsBound file program
+  pub record AreTold (t : Tellings) : Type 0 where
+    pub throws : Tells faults.Throws t.throws
+    pub waits : Tells faults.Waits t.waits
+    pub turns : Tells faults.Turns t.turns
 
--- what is said of a program's calls: a line for each fault that one is told to have
-pub record AreSaid (file : File) (program : Program) (text : List ℕ) : Type 0 where
-  pub throws : Told
-  pub endless : Told
-  pub tells_throws : Tells faults.Throws file program throws
-  pub tells_endless : Tells faults.NeverEnds file program endless
-  pub is : text ≡ fault_line faults.Throws throws ++ fault_line faults.NeverEnds endless
+-- what is told of a fault
+abbrev pub told_by : Fault → Tellings → Told
+told_by faults.Throws t = t.throws
+told_by faults.Waits t = t.waits
+told_by faults.Turns t = t.turns
+
+-- ---- the first fault that a call has, and that call
+
+abbrev pub so_of : Fault → Told → Option (Fault × Faulty)
+so_of fault told.Never = None
+so_of fault (told.So f) = Some (fault, f)
+so_of fault told.Unknown = None
+
+abbrev pub first_of : Option (Fault × Faulty) → Option (Fault × Faulty) → Option (Fault × Faulty)
+first_of None second = second
+first_of (Some first) second = Some first
+
+abbrev pub first_fault : Tellings → Option (Fault × Faulty)
+first_fault t = first_of (so_of faults.Throws t.throws)
+    (first_of (so_of faults.Waits t.waits) (so_of faults.Turns t.turns))
+
+-- ---- faults that were found of no call
+
+-- of one that was found of no call, where no bound was met, or where one was
+abbrev pub unfound : Bool → Told
+unfound true = told.Never
+unfound false = told.Unknown
+
+-- what is said of a program's calls: a line for each fault, unless no call has it
+pub record AreSaid (names : Names) (threads : List Text) (text : Text) : Type 0 where
+  pub tellings : Tellings
+  pub told : AreTold names threads tellings
+  pub is : text ≡ fault_line faults.Throws tellings.throws ++
+      (fault_line faults.Waits tellings.waits ++ fault_line faults.Turns tellings.turns)

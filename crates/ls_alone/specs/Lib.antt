@@ -1,4 +1,2 @@
 pub mod Alone
 pub mod Words
-pub mod Thrown
-pub mod Ends

@@ -1,11 +1,9 @@
-//! Calls that run one at a time: whether one throws, and whether one never ends.
+//! Calls that run one at a time: whether one throws, waits for ever or turns for ever.
 #![tactic(auto)]
 
-mod endless;
 mod lines;
 mod telling;
-mod throwing;
 mod words;
 
 pub use lines::{fault_lines, fault_words};
-pub use telling::{Fault, Told, tell};
+pub use telling::{Fault, Faulty, Tellings, Told, tell};

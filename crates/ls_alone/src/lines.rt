@@ -3,12 +3,11 @@
 ghost use Rattle.std.specs.Prelude.{◌≡◌, IfOk, string_bytes};
 ghost use Rattle.ls_alone.specs.Alone.{AreSaid};
 ghost use Rattle.ls_alone.specs.Words.{fault_line, fault_words};
-ghost use Rattle.ls_checked.specs.Plain.{plain_file};
-ghost use Rattle.ls_checked.specs.PlainProgram.{plain_program};
+ghost use Rattle.ls_labels.specs.Names.{names_of};
+ghost use Rattle.ls_schedule.specs.Reading.{thread_names};
 
 use crate::telling::{Fault, Told, tell};
-use ls_checked::program::Program;
-use ls_checked::tree::File;
+use ls_labels::names::Names;
 use std::alloc::{AllocError, Global};
 use std::fmt::Write;
 
@@ -18,34 +17,41 @@ pub fn fault_words(fault: Fault) -> &'static str
 {
     match fault {
         Fault::Throws => "a call throws when calls run one at a time",
-        Fault::NeverEnds => "a call never ends when calls run one at a time",
+        Fault::Waits => "a call waits for ever when calls run one at a time",
+        Fault::Turns => "a call never ends when calls run one at a time",
     }
 }
 
-/// The line on a fault, or nothing where no call is told to have it.
+/// The line on a fault, or nothing if no call has it.
 fn fault_line(alloc: Global, fault: Fault, told: &Told) -> Result<String, AllocError>
     ensures { IfOk result (λ text. string_bytes text ≡ fault_line fault told.now) }
 {
+    let does = fault_words(fault);
     let mut text = String::new(alloc);
     match told {
-        Told::So(words) => {
-            let does = fault_words(fault);
+        Told::So(faulty) => {
+            let words = faulty.words.as_str();
             write!(text, "// {does}: {words}\n")?;
-            Ok(text)
         }
-        Told::Never | Told::Unknown => Ok(text),
+        Told::Never => {}
+        Told::Unknown => {
+            write!(text, "// it isn't known whether {does}\n")?;
+        }
     }
+    Ok(text)
 }
 
-/// What is said of a program's calls where they run one at a time: a line for each fault that one is told to have. The
-/// only refusal is that memory ran out.
-pub fn fault_lines(alloc: Global, file: &File, program: &Program) -> Result<String, AllocError>
-    ensures { IfOk result (λ text. AreSaid (plain_file file.now) (plain_program program.now) (string_bytes text)) }
+/// What is said of a program's calls where they run one at a time: a line for each fault that one has, or of which it
+/// isn't known. The only refusal is that memory ran out.
+pub fn fault_lines(alloc: Global, names: Names<'_>) -> Result<String, AllocError>
+    ensures { IfOk result (λ text. AreSaid (names_of names.entry)
+        (thread_names names.entry.program.now) (string_bytes text)) }
 {
-    let throws = tell(alloc, Fault::Throws, file, program)?;
-    let endless = tell(alloc, Fault::NeverEnds, file, program)?;
-    let mut text = fault_line(alloc, Fault::Throws, &throws)?;
-    let behind = fault_line(alloc, Fault::NeverEnds, &endless)?;
-    text.push_str(behind.as_str())?;
+    let told = tell(alloc, names)?;
+    let mut text = fault_line(alloc, Fault::Throws, &told.throws)?;
+    let waits = fault_line(alloc, Fault::Waits, &told.waits)?;
+    text.push_str(waits.as_str())?;
+    let turns = fault_line(alloc, Fault::Turns, &told.turns)?;
+    text.push_str(turns.as_str())?;
     Ok(text)
 }

@@ -2,7 +2,9 @@
 use Rattle.std.specs.Prelude.{◌≡◌, ◌↔◌, ◌++◌, ℕ, Bool, true, false, List, [], codes}
 use Rattle.std.specs.Str.Iter.{HasSubslice}
 use Rattle.ls_alone.specs.Alone.{AreSaid}
+use Rattle.ls_image.specs.Images.{program_of_image}
 use Rattle.ls_image.specs.declared.image.Image.{Image}
+use Rattle.ls_schedule.specs.Reading.{thread_names}
 use Rattle.ls_translation.specs.Texts.{file_of, program_of}
 use Rattle.ls_report.specs.Events.{Text}
 use Rattle.ls_labels.specs.Names.{Names}
@@ -25,7 +27,7 @@ beside_text names flags tries verdicts.Unknown = free_line false tries
 pub data IsBeside (classes : Text) (i : Image) (limit : ℕ) : Bool → Text → Type 0 where
   Silent : IsBeside classes i limit false []
   Says : (alone : Text) (flags : List (List Bool)) (tries : Bool) (verdict : RaceVerdict) →
-      AreSaid (file_of i) (program_of i) alone →
+      AreSaid (names_in i) (thread_names (program_of_image i)) alone →
       AreFlags classes flags →
       (tries ≡ true) ↔ HasSubslice classes (codes "tryLock") →
       IsRaceVerdict limit flags (file_of i) (program_of i) verdict →

@@ -4,10 +4,13 @@
 ghost use Rattle.std.specs.Prelude.{◌≡◌, IfOk, IsTrue, map, string_bytes, true};
 ghost use Rattle.ls_alone.specs.Alone.{AreSaid};
 ghost use Rattle.ls_explore_commands.specs.Beside.{IsBeside, beside_text};
+ghost use Rattle.ls_explore_reports.specs.ImageNames.{names_in as image_names};
+ghost use Rattle.ls_image.specs.Images.{program_of_image};
 ghost use Rattle.ls_labels.specs.Names.{names_of};
 ghost use Rattle.ls_race_laws.specs.Meeting.{NeverMeets};
 ghost use Rattle.ls_race_reports.specs.Verdicts.{IsRaceVerdict};
 ghost use Rattle.ls_races.specs.Volatile.{volatile_by};
+ghost use Rattle.ls_schedule.specs.Reading.{thread_names};
 ghost use Rattle.ls_spinning.specs.Told.{IsTurning};
 ghost use Rattle.ls_spinning.specs.declared.finding.Turning.TheVariants.{Never};
 ghost use Rattle.ls_translation.specs.Texts.{file_of, program_of};
@@ -46,9 +49,10 @@ fn beside_words(
 
 /// What is said of the calls of an image's program where they run one at a time.
 fn alone_lines(alloc: Global, image: &Image) -> Result<String, AllocError>
-    ensures { IfOk result (λ text. AreSaid (file_of image.now) (program_of image.now) (string_bytes text)) }
+    ensures { IfOk result (λ text. AreSaid (image_names image.now)
+        (thread_names (program_of_image image.now)) (string_bytes text)) }
 {
-    fault_lines(alloc, image.checked().file(), image.program())
+    fault_lines(alloc, names_in(image))
 }
 
 /// What the graph of an image's program tells of threads that turn for ever and of data races, by the flags of its

@@ -1,5 +1,5 @@
 pub mod BelowRows
-pub mod Waiting
+pub mod WaitingThreads
 pub mod Undoubted
 pub mod Others
 pub mod Known

@@ -1,18 +1,15 @@
 // The text of an exploration.
 
 ghost use Rattle.ls_events.specs.Limits.{most_steps};
-ghost use Rattle.std.specs.Prelude.{◌≡◌, ◌<◌, ◌≤◌, ◌⊎◌, ◌++◌, ◌∷◌, [], IfErr, IfOk, IsErrOf, OnOk, length, map};
+ghost use Rattle.std.specs.Prelude.{◌≡◌, ◌<◌, ◌≤◌, ◌⊎◌, ◌++◌, ◌∷◌, [], IfErr, IfOk, IsErrOf, OnOk, length};
 ghost use Rattle.std.specs.Prelude.{string_bytes};
 ghost use Rattle.ls_labels.specs.Names.{names_of};
-ghost use Rattle.ls_schedule.specs.Reading.{thread_name, thread_names};
-ghost use Rattle.ls_state.specs.Scene.{scene_of};
-ghost use Rattle.ls_state.specs.Seen.{IsOwn, names_in, scene_seen};
+ghost use Rattle.ls_schedule.specs.Reading.{thread_names};
 ghost use Rattle.ls_explore_reports.specs.Printing.{counts_text, cut_text, end_text, ending_text, illegal_text};
 ghost use Rattle.ls_explore_reports.specs.Printing.{is_shown, is_wrong, last_text, linear_part, linear_text};
 ghost use Rattle.ls_explore_reports.specs.Printing.{beside_part, linearity_part, over_text, row_text, rows_text};
 ghost use Rattle.ls_explore_reports.specs.Printing.{set_part};
 ghost use Rattle.ls_explore_reports.specs.Printing.{shown, verdict_part};
-ghost use Rattle.ls_explore_reports.specs.Waiting.{asked_text, listed, waiting, waits_text};
 ghost use Rattle.ls_explore.specs.Tellings.{schedule_of};
 ghost use Rattle.ls_explore_reports.specs.Judged.{rows_of};
 ghost use Rattle.ls_explore_reports.specs.Long.{HasLong};
@@ -21,16 +18,13 @@ ghost use Rattle.ls_translation.specs.declared.fault.TranslationFault.TheVariant
 use crate::judging::{
     JudgedRow, are_decided, are_known, count_illegal, count_not_linearizable, is_not_linearizable,
 };
-use ls_checked::program::ThreadProgram;
+use crate::waiting::waiting_after;
 use ls_events::schedule::{MOST_STEPS, Schedule};
 use ls_explore::{Ending, ImageExploration, Row};
 use ls_labels::names::Names;
-use ls_labels::threads::push_wait;
-use ls_meaning::step::Asked;
 use ls_report::print_history;
 use ls_schedule::print_schedule;
 use ls_serial_search::judging::Linearity;
-use ls_state::scene::Scene;
 use ls_translation::fault::TranslationFault;
 use ls_verdicts::Verdict;
 use std::alloc::{AllocError, Global};
@@ -88,88 +82,6 @@ pub(crate) fn schedule_of(
         push_step(&mut schedule, *thread)?;
     }
     Ok(schedule)
-}
-
-/// Adds what a thread of this name waits for, as `A waits for ReentrantLock#2, which B owns`. Nothing where it asks for
-/// no action.
-fn push_waits(
-    out: &mut String,
-    scene: &Scene<'_>,
-    name: &str,
-    asked: Asked,
-) -> Result<(), AllocError>
-    ensures { OnOk result (string_bytes out.new ≡ string_bytes out.old ++
-        asked_text (names_in scene.now) (scene_seen scene.now) name.now asked) }
-{
-    match asked {
-        Asked::Asks(action) => {
-            write!(out, "{name} ")?;
-            push_wait(out, scene.names, &scene.labels, &scene.run, action)
-        }
-        Asked::Ended | Asked::NotStarted => Ok(()),
-    }
-}
-
-/// What a thread of this name waits for.
-fn waits_for(
-    alloc: Global,
-    scene: &Scene<'_>,
-    thread: usize,
-    name: &str,
-) -> Result<String, AllocError>
-    requires { IsOwn scene.now }
-    ensures { IfOk result (λ text. string_bytes text ≡
-        waits_text (names_in scene.now) (scene_seen scene.now) thread name.now) }
-{
-    let asked = scene.run.next(alloc, thread)?;
-    let mut out = String::new(alloc);
-    push_waits(&mut out, scene, name, asked)?;
-    Ok(out)
-}
-
-/// Adds a text, if it isn't empty, and `; ` before it, if there is one before it.
-fn push_listed(out: &mut String, text: &str) -> Result<(), AllocError>
-    ensures { OnOk result (string_bytes out.new ≡ listed (string_bytes out.old) text.now) }
-{
-    if text.is_empty() {
-        return Ok(());
-    }
-    if !out.is_empty() {
-        out.push_str("; ")?;
-    }
-    out.push_str(text)
-}
-
-/// What these threads wait for.
-fn waiting(
-    alloc: Global,
-    scene: &Scene<'_>,
-    threads: &[ThreadProgram],
-) -> Result<String, AllocError>
-    requires { IsOwn scene.now }
-    ensures { IfOk result (λ text. string_bytes text ≡
-        waiting (names_in scene.now) (scene_seen scene.now) 0 (map thread_name threads.now)) }
-{
-    let mut out = String::new(alloc);
-    for number in 0..threads.len() {
-        let waits = waits_for(alloc, scene, number, threads[number].name.as_str())?;
-        push_listed(&mut out, waits.as_str())?;
-    }
-    Ok(out)
-}
-
-/// What the threads wait for after a schedule.
-pub fn waiting_after(
-    alloc: Global,
-    names: Names<'_>,
-    schedule: &Schedule,
-) -> Result<String, AllocError>
-    ensures { IfOk result (λ text. string_bytes text ≡
-        waiting (names_of names.entry) (scene_of (names_of names.entry) schedule.now) 0
-        (thread_names names.entry.program.now)) }
-{
-    let scene = Scene::after(alloc, names, schedule.steps())?;
-    waiting(alloc, &scene, names.program.threads.as_slice())
 }
 
 /// That all threads have ended or are trapped, or what those wait for that haven't.

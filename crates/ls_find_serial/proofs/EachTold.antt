@@ -4,8 +4,7 @@ use Rattle.std.proofs.Common.{map, refl, subst}
 use Rattle.std.specs.Prelude.{slice_get}
 use Rattle.std.specs.List.{AllZip, range_with_len}
 use Rattle.std.specs.declared.alloc.AllocError.{AllocError}
-use Rattle.ls_alone.specs.declared.telling.Fault.{Fault}
-use Rattle.ls_alone.specs.declared.telling.Told.{Told}
+use Rattle.ls_alone.specs.declared.telling.Tellings.{Tellings}
 use Rattle.ls_family_search.specs.Judged.{Programs, Text}
 use Rattle.ls_find_serial.specs.Told.{IsToldAt}
 
@@ -15,24 +14,24 @@ some_is e = cc
 none_is : {X : Type 0} {y : X} → None ≡ Some y → ⊥
 none_is e = cc
 
-module _ (fault : Fault) (classes : Text) (p : Programs) where
+module _ (classes : Text) (p : Programs) where
   -- of so many numbers from one on, where memory sufficed
-  abbrev pub AreEach : ℕ → ℕ → List (Result Told AllocError) → Type 0
+  abbrev pub AreEach : ℕ → ℕ → List (Result Tellings AllocError) → Type 0
   AreEach n count each =
-      AllZip (λ m (o : Result Told AllocError). IfOk o (IsToldAt fault classes p m)) (range_with_len n count) each
+      AllZip (λ m (o : Result Tellings AllocError). IfOk o (IsToldAt classes p m)) (range_with_len n count) each
 
-  pub each_told : (n count : ℕ) (ts : List Told) → AreEach n count (map (λ t. Ok t) ts) → (k : ℕ) (t : Told) →
-      slice_get ts k ≡ Some t → IsToldAt fault classes p (n + k) t
+  pub each_told : (n count : ℕ) (ts : List Tellings) → AreEach n count (map (λ t. Ok t) ts) → (k : ℕ) (t : Tellings) →
+      slice_get ts k ≡ Some t → IsToldAt classes p (n + k) t
   each_told n count [] zip k t is = absurd (none_is is)
   each_told n zero (x ∷ ts) zip k t is = absurd zip
   each_told n (suc count) (x ∷ ts) zip zero t is =
       let e : n ≡ n + 0 = omega arith in
-      subst (λ m. IsToldAt fault classes p m t) e (subst (IsToldAt fault classes p n) (some_is is) zip.0)
+      subst (λ m. IsToldAt classes p m t) e (subst (IsToldAt classes p n) (some_is is) zip.0)
   each_told n (suc count) (x ∷ ts) zip (suc k) t is =
       let e : n + 1 + k ≡ n + suc k = omega arith in
-      subst (λ m. IsToldAt fault classes p m t) e (each_told (n + 1) count ts zip.1 k t is)
+      subst (λ m. IsToldAt classes p m t) e (each_told (n + 1) count ts zip.1 k t is)
 
-  pub as_many : (n count : ℕ) (ts : List Told) → AreEach n count (map (λ t. Ok t) ts) → length ts ≡ count
+  pub as_many : (n count : ℕ) (ts : List Tellings) → AreEach n count (map (λ t. Ok t) ts) → length ts ≡ count
   as_many n zero [] zip = refl
   as_many n (suc count) [] zip = absurd zip
   as_many n zero (x ∷ ts) zip = absurd zip

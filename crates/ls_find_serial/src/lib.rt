@@ -4,4 +4,5 @@
 mod lines;
 mod programs;
 
-pub use lines::serial_lines;
+pub use lines::{first_faulty, serial_lines};
+pub use programs::tell_numbers;

@@ -1,15 +1,12 @@
 // What is said of all programs of a family.
 
-ghost use Rattle.std.specs.Prelude.{◌≡◌, ◌<◌, IfOk, IfSome, count_by, length, position, slice_get, string_bytes};
-ghost use Rattle.ls_find_serial.specs.Lines.{AreLines, IsLine, at_least, fault_line, is_so, is_unknown};
-ghost use Rattle.ls_find_serial.specs.Lines.{words_in, words_of};
+ghost use Rattle.std.specs.Prelude.{◌≡◌, ◌<◌, ◌||◌, IfOk, IfSome, count_by, length, position, slice_get, string_bytes};
+ghost use Rattle.ls_find_serial.specs.Lines.{at_least, fault_line, found_line, has, has_some, is_so, is_unknown, lacks};
+ghost use Rattle.ls_find_serial.specs.Lines.{serial_text, unknown_line, unknown_text, words_in, words_of};
 
-use crate::programs::told_all;
-use ls_alone::{Fault, Told, fault_words};
-use ls_family_search::Programs;
+use ls_alone::{Fault, Tellings, Told, fault_words};
 use std::alloc::{AllocError, Global};
 use std::fmt::Write;
-use std::thread::Threads;
 
 fn is_so(told: &Told) -> bool
     ensures { result ≡ is_so told.now }
@@ -29,43 +26,57 @@ fn is_unknown(told: &Told) -> bool
     }
 }
 
-/// In how many a call has the fault.
-fn count_so(told: &[Told]) -> usize
-    ensures { result ≡ count_by is_so told.now }
+/// Whether a call has the fault.
+fn has(fault: Fault, told: &Tellings) -> bool
+    ensures { result ≡ has fault told.now }
 {
-    told.iter().filter(|one| is_so(*one)).count()
+    is_so(told.by(fault))
+}
+
+/// Whether it isn't known.
+fn lacks(fault: Fault, told: &Tellings) -> bool
+    ensures { result ≡ lacks fault told.now }
+{
+    is_unknown(told.by(fault))
+}
+
+/// In how many a call has the fault.
+fn count_so(fault: Fault, told: &[Tellings]) -> usize
+    ensures { result ≡ count_by (has fault) told.now }
+{
+    told.iter().filter(|one| has(fault, *one)).count()
 }
 
 /// Of how many it isn't known.
-fn count_unknown(told: &[Told]) -> usize
-    ensures { result ≡ count_by is_unknown told.now }
+fn count_unknown(fault: Fault, told: &[Tellings]) -> usize
+    ensures { result ≡ count_by (lacks fault) told.now }
 {
-    told.iter().filter(|one| is_unknown(*one)).count()
+    told.iter().filter(|one| lacks(fault, *one)).count()
 }
 
 /// The place of the first in which a call has it.
-fn first_so(told: &[Told]) -> Option<usize>
-    ensures is { result ≡ position is_so told.now }
+fn first_so(fault: Fault, told: &[Tellings]) -> Option<usize>
+    ensures is { result ≡ position (has fault) told.now }
     ensures within { IfSome result (λ i. i < length told.now) }
 {
-    told.iter().position(|one| is_so(one))
+    told.iter().position(|one| has(fault, one))
 }
 
 fn words_of(told: &Told) -> &str
     ensures { result.now ≡ words_of told.now }
 {
     match told {
-        Told::So(words) => words.as_str(),
+        Told::So(faulty) => faulty.words.as_str(),
         Told::Never | Told::Unknown => "",
     }
 }
 
 /// The words of the one at a place.
-fn words_at(told: &[Told], at: usize) -> &str
-    ensures { result.now ≡ words_in (slice_get told.now at) }
+fn words_at(fault: Fault, told: &[Tellings], at: usize) -> &str
+    ensures { result.now ≡ words_in fault (slice_get told.now at) }
 {
     match told.get(at) {
-        Some(one) => words_of(one),
+        Some(one) => words_of(one.by(fault)),
         None => "",
     }
 }
@@ -80,18 +91,41 @@ fn at_least(unknown: usize) -> &'static str
     "at least "
 }
 
-/// The line on a fault, or nothing if no call has it.
-fn fault_line(alloc: Global, fault: Fault, told: &[Told]) -> Result<String, AllocError>
-    ensures { IfOk result (λ text. string_bytes text ≡ fault_line fault told.now) }
+/// That it isn't known in so many whether a call has a fault.
+fn unknown_words(alloc: Global, fault: Fault, unknown: usize) -> Result<String, AllocError>
+    ensures { IfOk result (λ text. string_bytes text ≡ unknown_text fault unknown) }
 {
-    let Some(first) = first_so(told) else {
+    let does = fault_words(fault);
+    let mut text = String::new(alloc);
+    write!(text, "// in {unknown} it isn't known whether {does}\n")?;
+    Ok(text)
+}
+
+/// The line on that, or nothing if it is known in all.
+fn unknown_line(alloc: Global, fault: Fault, unknown: usize) -> Result<String, AllocError>
+    ensures { IfOk result (λ text. string_bytes text ≡ unknown_line fault unknown) }
+{
+    if unknown == 0 {
         return Ok(String::new(alloc));
-    };
-    let least = at_least(count_unknown(told));
-    let many = count_so(told);
+    }
+    unknown_words(alloc, fault, unknown)
+}
+
+/// The line on a fault that a call has in the program at a place, and in none before it.
+fn found_line(
+    alloc: Global,
+    fault: Fault,
+    told: &[Tellings],
+    first: usize,
+) -> Result<String, AllocError>
+    requires { first < length told.now }
+    ensures { IfOk result (λ text. string_bytes text ≡ found_line fault told.now first) }
+{
+    let least = at_least(count_unknown(fault, told));
+    let many = count_so(fault, told);
     let does = fault_words(fault);
     let number = first + 1;
-    let words = words_at(told, first);
+    let words = words_at(fault, told, first);
     let mut text = String::new(alloc);
     write!(
         text,
@@ -100,34 +134,42 @@ fn fault_line(alloc: Global, fault: Fault, told: &[Told]) -> Result<String, Allo
     Ok(text)
 }
 
-/// What is said of a fault.
-fn line_on(
-    rt: &(impl Threads + Sync),
-    alloc: Global,
-    fault: Fault,
-    classes: &str,
-    programs: &Programs<'_>,
-) -> Result<String, AllocError>
-    ensures { IfOk result (λ line. IsLine fault classes.now programs.now (string_bytes line)) }
+/// The line on a fault, or nothing if no call has it.
+fn fault_line(alloc: Global, fault: Fault, told: &[Tellings]) -> Result<String, AllocError>
+    ensures { IfOk result (λ text. string_bytes text ≡ fault_line fault told.now) }
 {
-    let told = told_all(rt, alloc, fault, classes, programs)?;
-    fault_line(alloc, fault, told.as_slice())
+    match first_so(fault, told) {
+        Some(first) => found_line(alloc, fault, told, first),
+        None => unknown_line(alloc, fault, count_unknown(fault, told)),
+    }
 }
 
 /// What is said of the programs of a family, a line for each fault that a call has where calls run one at a time: in
-/// how many programs, and the first of these with such a call. A call may end by an exception, or never end. Each
-/// program is looked at by itself, doubles too. Calls of the setup count, makings too. If it isn't known of some
-/// programs, the count is told as a least one. The only refusal is that memory ran out.
-pub fn serial_lines(
-    rt: &(impl Threads + Sync),
-    alloc: Global,
-    classes: &str,
-    programs: &Programs<'_>,
-) -> Result<String, AllocError>
-    ensures { IfOk result (λ text. AreLines classes.now programs.now (string_bytes text)) }
+/// how many programs, and the first of these with such a call. A call may end by an exception, wait for ever, or never
+/// end. If it isn't known of some programs, the count is told as a least one; if it is told of none, the line says of
+/// how many it isn't known. The only refusal is that memory ran out.
+pub fn serial_lines(alloc: Global, told: &[Tellings]) -> Result<String, AllocError>
+    ensures { IfOk result (λ text. string_bytes text ≡ serial_text told.now) }
 {
-    let mut text = line_on(rt, alloc, Fault::Throws, classes, programs)?;
-    let endless = line_on(rt, alloc, Fault::NeverEnds, classes, programs)?;
-    text.push_str(endless.as_str())?;
+    let mut text = fault_line(alloc, Fault::Throws, told)?;
+    let waits = fault_line(alloc, Fault::Waits, told)?;
+    text.push_str(waits.as_str())?;
+    let turns = fault_line(alloc, Fault::Turns, told)?;
+    text.push_str(turns.as_str())?;
     Ok(text)
+}
+
+/// Whether a call has some fault.
+fn has_some(told: &Tellings) -> bool
+    ensures { result ≡ has_some told.now }
+{
+    has(Fault::Throws, told) || has(Fault::Waits, told) || has(Fault::Turns, told)
+}
+
+/// The place of the first program in which a call has a fault.
+pub fn first_faulty(told: &[Tellings]) -> Option<usize>
+    ensures is { result ≡ position has_some told.now }
+    ensures within { IfSome result (λ i. i < length told.now) }
+{
+    told.iter().position(|one| has_some(one))
 }

@@ -1,7 +1,7 @@
 -- Why `told_each` in src/programs.rt keeps its contract.
 
-use Rattle.std.proofs.Common.{◌≡◌, ◌∙◌, ◌-◌, IfOk, arith, subst}
-use Rattle.std.specs.List.{AllZip, range_with_len}
+use Rattle.std.proofs.Common.{◌∙◌, IfOk, subst}
+use Rattle.std.specs.List.{AllZip}
 use Rattle.rayon.proofs.ListFacts.{IfOk-then}
 use Rattle.rayon.specs.Numbers.{nat_range}
 use Rattle.ls_find_serial.specs.Told.{IsToldAt}
@@ -10,11 +10,8 @@ use Rattle.ls_find_serial.proofs.programs.told_each.Goals as goal
 pub returns : goal.returns
 returns g c =
     let ends = c.into_par_iter.ensures in
-    let all : c.args.count - 0 ≡ c.args.count = omega arith in
     IfOk-then c.collect.result _ _ c.collect.ensures (λ v h.
     let chain = rw (c.map.ensures.base, c.map.ensures.f, c.with_min_len.ensures.base) at h.1 in
     let places = chain.1 ∙ (λ i. nat_range (ends.0 i) (ends.1 i)) in
-    rw h.2 (subst (λ m. AllZip
-    (λ n o. IfOk o (IsToldAt c.args.fault c.args.classes.now c.args.programs.now n)) (range_with_len 0 m) h.0) all
-    (subst (λ ns. AllZip
-    (λ n o. IfOk o (IsToldAt c.args.fault c.args.classes.now c.args.programs.now n)) ns h.0) places chain.2)))
+    rw h.2 (subst (λ ns. AllZip
+    (λ n o. IfOk o (IsToldAt c.args.classes.now c.args.programs.now n)) ns h.0) places chain.2))
