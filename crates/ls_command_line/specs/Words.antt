@@ -189,9 +189,11 @@ find_line =
     (with_rule
     (with_rule
     (with_rule
+    (with_rule
     (with_rule numbers_line (flag_rule (codes "no-waiting")))
     (flag_rule (codes "no-turning")))
     (flag_rule (codes "set")))
+    (flag_rule (codes "strict")))
     (flag_rule (codes "races")))
     (flag_rule (codes "check")))
     (flag_rule (codes "progress")))
@@ -320,6 +322,7 @@ asked_find rows = record {
   waiting = not (flag_of (codes "no-waiting") rows);
   turning = not (flag_of (codes "no-turning") rows);
   set = flag_of (codes "set") rows;
+  strict = flag_of (codes "strict") rows;
   races = flag_of (codes "races") rows;
   check = flag_of (codes "check") rows;
   progress = flag_of (codes "progress") rows;

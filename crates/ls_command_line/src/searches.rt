@@ -213,12 +213,19 @@ pub(crate) fn find_command<'a>(alloc: Global) -> Result<Command<'a>, AllocError>
         "looks for histories of a set too that have no legal order",
     );
     let command = with_option(command, set);
+    let strict = flag_option(
+        alloc,
+        "strict",
+        "looks for calls too that throw or never end when calls run one at a time",
+    );
+    let command = with_option(command, strict);
     let races = flag_option(alloc, "races", "looks for data races, and for nothing else");
     let command = with_option(command, races);
     let check = flag_option(
         alloc,
         "check",
-        "ends with status 3 if a program is found, and 4 if none is but some were cut",
+        "ends with status 3 if a program is found; if none is, with 4 if some were cut, and with 5 if a line beside \
+         none warns",
     );
     let command = with_option(command, check);
     let progress = flag_option(

@@ -51,6 +51,8 @@ pub struct Seeking {
     pub turning: bool,
     /// Whether histories are looked for that are illegal as those of a set.
     pub set: bool,
+    /// Whether calls are looked for that throw or never end when calls run one at a time.
+    pub strict: bool,
     /// Whether data races are looked for, and nothing else.
     pub races: bool,
     /// Whether the exit status says what is found.
@@ -365,6 +367,7 @@ fn asked_find(options: &ArgMatches<'_>) -> Seeking
         waiting: !flag(options, "no-waiting"),
         turning: !flag(options, "no-turning"),
         set: flag(options, "set"),
+        strict: flag(options, "strict"),
         races: flag(options, "races"),
         check: flag(options, "check"),
         progress: flag(options, "progress"),

@@ -1,6 +1,6 @@
 -- What is found in a range of numbers.
 use Rattle.std.proofs.Common.{◌≡◌, ◌+◌, ◌<◌, ◌≤◌, ℕ, zero, suc, Bool, true, false, List, [], ◌∷◌, Option, Some}
-use Rattle.std.proofs.Common.{None, length, arith}
+use Rattle.std.proofs.Common.{None, length, arith, refl, slice_index_or}
 use Rattle.std.specs.Prelude.{IfSome, slice_get}
 use Rattle.ls_families.specs.Families.{plans}
 use Rattle.ls_family_search.specs.Judged.{Programs, Text}
@@ -8,13 +8,18 @@ use Rattle.ls_family_search.specs.Searched.{EndsSo, IsFinding}
 use Rattle.ls_family_search.specs.declared.judging.Halted.{Halted}
 use Rattle.ls_family_search.specs.declared.searching.Finding.{Finding}
 
-got_within : {X : Type 0} (xs : List X) (n : ℕ) (x : X) → slice_get xs n ≡ Some x → n < length xs
+pub got_within : {X : Type 0} (xs : List X) (n : ℕ) (x : X) → slice_get xs n ≡ Some x → n < length xs
 got_within [] n x got = absurd (nothing got)
   where
     nothing : None ≡ Some x → ⊥
     nothing e = cc
 got_within (y ∷ xs) zero x got = omega arith
 got_within (y ∷ xs) (suc n) x got = omega (arith, got_within xs n x got)
+
+pub got_at : {X : Type 0} (xs : List X) (n : ℕ) (d : X) → n < length xs → slice_get xs n ≡ Some (slice_index_or xs n d)
+got_at [] n d less = absurd (omega (arith, less))
+got_at (x ∷ xs) zero d less = refl
+got_at (x ∷ xs) (suc n) d less = got_at xs n d (omega (arith, less))
 
 module _ {H : Type 0} (p : Programs) (IsGood IsCut : Text → Type 0) (Halts : Text → H → Type 0) (from to : ℕ)
     (f : Finding H) (found : IsFinding p IsGood IsCut Halts from to f) where

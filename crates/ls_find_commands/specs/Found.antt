@@ -34,7 +34,9 @@ use Rattle.ls_report.specs.Events.{Text}
 use Rattle.ls_find_commands.specs.Lacking.{IsFirstFault, IsNoReference, LacksNone, no_calls}
 use Rattle.ls_find_commands.specs.Besides.{AreBeside}
 use Rattle.ls_find_commands.specs.Racing.{race_halted_answer}
+use Rattle.ls_find_commands.specs.Strict.{EndsAs, IsFirstFaulty, searched_to}
 use Rattle.ls_find_commands.specs.declared.command.Range.{Range}
+use Rattle.ls_find_commands.specs.declared.strict.FaultyProgram.{FaultyProgram}
 
 -- no program, of so many, has the first number, or the last comes before it
 abbrev pub IsBadRange : Range → ℕ → Type 0
@@ -74,21 +76,26 @@ abbrev pub IsAskedBeside : Range → Option (Halted Why) → Bool → Type 0
 IsAskedBeside r halted asked = (asked ≡ true) ↔ (AreAllNumbers r × (halted ≡ None))
 
 -- What is found among programs: what a search of the numbers of a range says, by a reference if one is given. Each
--- program that it has passed is good for what is looked for, if none up to that one is cut. Beside `none` it is said
--- what calls do that run one at a time, and what a search for data races says; or such a search alone is asked for.
+-- program that it has passed is good for what is looked for, if none up to that one is cut. If it is strict, it goes up
+-- to the first program with a call that has a fault when calls run one at a time: that one is found if no other is.
+-- Beside `none` it is said what calls do that run one at a time, and what a search for data races says; or such a
+-- search alone is asked for.
 pub data FindsIn (reference : Option Text) (classes : Text) (p : Programs) (r : Range) : Result Text ToolFault → Type 0
   where
     NoNumbers : IsBadRange r (length (plans p.family)) → FindsIn reference classes p r (Err faults.BadNumbers)
-    Searched : (f : Finding Why) (asked : Bool) (beside : Text) →
+    Searched : (faulty : Option FaultyProgram) (f g : Finding Why) (asked : Bool) (beside : Text) →
         ¬ IsBadRange r (length (plans p.family)) →
         r.races ≡ false →
-        IsFound r.sought r.states reference classes p (r.from - 1) (min r.to (length (plans p.family))) f →
+        IsFirstFaulty r.strict classes p (r.from - 1) (min r.to (length (plans p.family))) faulty →
+        IsFound r.sought r.states reference classes p (r.from - 1)
+        (searched_to faulty (min r.to (length (plans p.family)))) f →
         PassedAreSound r.sought reference classes p (r.from - 1) f →
-        IsAskedBeside r f.halted asked →
+        EndsAs f faulty g →
+        IsAskedBeside r g.halted asked →
         AreBeside asked r.states classes p beside →
         FindsIn reference classes p r
-        (answer_beside (r.from - 1) (min r.to (length (plans p.family))) (length (plans p.family)) f.passed.items
-        f.halted beside)
+        (answer_beside (r.from - 1) (min r.to (length (plans p.family))) (length (plans p.family)) g.passed.items
+        g.halted beside)
     Raced : (f : Finding RaceWhy) →
         ¬ IsBadRange r (length (plans p.family)) →
         r.races ≡ true →
@@ -177,6 +184,7 @@ pub data FindsTo (o : Choosing) (r : Range) (reference : Option Text) (classes :
       ¬ AreBadStates r.states →
       AreAllNumbers r →
       r.races ≡ false →
+      r.strict ≡ false →
       reference ≡ None →
       IsWhole o r.sought classes menu text →
       FindsTo o r reference classes menu (Ok text)

@@ -2,4 +2,5 @@ pub mod Found
 pub mod Ranges
 pub mod Lacking
 pub mod Racing
+pub mod Strict
 pub mod Besides

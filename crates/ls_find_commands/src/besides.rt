@@ -6,9 +6,9 @@ ghost use Rattle.ls_find_commands.specs.Besides.{AreBeside, IsSerialBeside};
 
 use crate::racing::beside;
 use ls_explore::Watch;
-use ls_family_search::Programs;
+use ls_family_search::{Numbers, Programs};
 use ls_find_races::RaceExplorer;
-use ls_find_serial::serial_lines;
+use ls_find_serial::{serial_lines, tell_numbers};
 use std::alloc::{AllocError, Global};
 use std::thread::Threads;
 
@@ -25,7 +25,12 @@ fn serial_beside(
     if !asked {
         return Ok(String::new(alloc));
     }
-    serial_lines(rt, alloc, classes, programs)
+    let numbers = Numbers {
+        from: 0,
+        to: programs.family().count(),
+    };
+    let told = tell_numbers(rt, alloc, classes, programs, numbers)?;
+    serial_lines(alloc, told.as_slice())
 }
 
 /// What is said beside `none`, where that is asked: of calls that run one at a time, and then of data races.

@@ -14,6 +14,7 @@ use crate::besides::said_beside;
 use crate::menus::{Texts, programs_for};
 use crate::noting::searched;
 use crate::racing::told_finding;
+use crate::strict::{ended, first_faulty_program, searched_to};
 use crate::whole::{are_all_numbers, at_once};
 use ls_class_programs::Choosing;
 use ls_explore::{ExploreFault, MOST_STATES, Watch};
@@ -34,6 +35,8 @@ pub struct Range {
     pub states: usize,
     /// What is looked for.
     pub sought: Sought,
+    /// Whether calls are looked for too that throw, wait for ever or never end when calls run one at a time.
+    pub strict: bool,
     /// Whether data races are looked for, and nothing else.
     pub races: bool,
     /// The first number and the last, from 1.
@@ -167,7 +170,13 @@ fn found<W: Watch>(
         states: range.states,
         sought: range.sought,
     };
-    let finding = searched(rt, &explorer, alloc, programs, numbers, watch)?;
+    let faulty = first_faulty_program(rt, alloc, range.strict, texts.classes, programs, numbers)?;
+    let before = Numbers {
+        from,
+        to: searched_to(&faulty, to),
+    };
+    let passed = searched(rt, &explorer, alloc, programs, before, watch)?;
+    let finding = ended(passed, faulty);
     let asked = is_asked_beside(range, &finding);
     let races = RaceExplorer {
         classes: texts.classes,
@@ -234,12 +243,13 @@ fn found_in<W: Watch>(
 /// By a reference, if one is given, its calls, run one at a time, say which histories are right, and which calls end.
 ///
 /// If no range is asked for and no reference is given, each call of the class runs alone, under one lock, and that
-/// decides what is looked for, this is said at once, whatever the bounds.
+/// decides what is looked for, this is said at once, whatever the bounds. It isn't, if calls are looked for that throw
+/// or never end when calls run one at a time: then the first program with such a call is found, too.
 ///
 /// If no range is asked for and none is found, lines say of calls that run one at a time in how many programs one
-/// throws or never ends, and in which first. A last line says of data races what a search for them says: that there is
-/// none, or the first program with one and the variable. If data races are looked for, nothing else is: the first
-/// program with one is found, and a schedule whose last two steps are the accesses.
+/// throws, waits for ever or never ends, and in which first. A last line says of data races what a search for them
+/// says: that there is none, or the first program with one and the variable. If data races are looked for, nothing else
+/// is: the first program with one is found, and a schedule whose last two steps are the accesses.
 ///
 /// Refused with 61 as `explore` is; else as `programs_for` is; else with 70 if no program has the first number, or the
 /// last number comes before it; else as `compile` is for a program.

@@ -8,6 +8,7 @@ pub mod laws;
 mod menus;
 mod noting;
 mod racing;
+mod strict;
 mod whole;
 
 pub use command::{Range, find, print_program};

@@ -63,7 +63,8 @@ pub(crate) fn are_all_numbers(range: Range) -> bool
     range.from == 1 && range.to >= 1_000_000
 }
 
-/// The same, if no range is asked for, no reference is given, and data races alone aren't looked for.
+/// The same, if no range is asked for, no reference is given, and neither data races alone are looked for nor calls
+/// that throw or never end when calls run one at a time.
 pub(crate) fn at_once(
     alloc: Global,
     choosing: Choosing,
@@ -72,11 +73,12 @@ pub(crate) fn at_once(
 ) -> Result<Option<String>, AllocError>
     ensures numbers { IfOk result (λ some. IfSome some (λ text. AreAllNumbers range)) }
     ensures calls { IfOk result (λ some. IfSome some (λ text. range.races ≡ false)) }
+    ensures lax { IfOk result (λ some. IfSome some (λ text. range.strict ≡ false)) }
     ensures own { IfOk result (λ some. IfSome some (λ text. option_map plain_text texts.entry.reference ≡ None)) }
     ensures text { IfOk result (λ some. IfSome some (λ text. IsWhole choosing range.sought texts.entry.classes.now
         (option_map plain_text texts.entry.menu) (string_bytes text))) }
 {
-    if range.races || texts.reference.is_some() || !are_all_numbers(range) {
+    if range.races || range.strict || texts.reference.is_some() || !are_all_numbers(range) {
         return Ok(None);
     }
     whole(alloc, choosing, range.sought, texts)

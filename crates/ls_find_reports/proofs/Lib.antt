@@ -7,3 +7,4 @@ pub mod Lines
 pub mod Listed
 pub mod Ordered
 pub mod WordLemmas
+pub mod StatusLemmas

@@ -48,7 +48,7 @@ found_split f p after =
     ap (λ t. n ++ (p.reason ++ 10 ∷ (line ++ 10 ∷ t))) inner ∙
     sym (append_assoc n p.reason (10 ∷ (line ++ 10 ∷ (a ++ (b ++ (s ++ after))))))
 
-none_split : (f : Figures) (after : Text) →
+pub none_split : (f : Figures) (after : Text) →
     text_with f None ++ after ≡ head_of f None ++ 10 ∷ (figures_line f ++ 10 ∷ after)
 none_split f after =
     let head = none_line f.cut in

@@ -1,5 +1,6 @@
 pub mod Printing
 pub mod Statuses
+pub mod StatusLaws
 pub mod Programs
 pub mod Words
 pub mod Reports

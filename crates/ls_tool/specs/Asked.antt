@@ -22,6 +22,7 @@ abbrev pub range_of : Seeking → Range
 range_of s = record {
   states = s.states;
   sought = record { waiting = s.waiting; turning = s.turning; set = s.set };
+  strict = s.strict;
   races = s.races;
   from = s.from;
   to = s.to;
@@ -29,7 +30,7 @@ range_of s = record {
 
 -- data races are looked for, and an option is given for what is looked for else
 abbrev pub is_mixed : Seeking → Bool
-is_mixed s = s.races && (s.set || not (s.waiting && s.turning))
+is_mixed s = s.races && (s.set || (s.strict || not (s.waiting && s.turning)))
 
 -- the first program that is bad; data races are looked for alone
 abbrev pub FindsFirst : Seeking → Option Text → Text → Option Text → Result Text ToolFault → Type 0

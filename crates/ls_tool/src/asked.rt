@@ -18,7 +18,7 @@ use std::thread::Threads;
 fn is_mixed(seeking: Seeking) -> bool
     ensures { result ≡ is_mixed seeking }
 {
-    seeking.races && (seeking.set || !(seeking.waiting && seeking.turning))
+    seeking.races && (seeking.set || seeking.strict || !(seeking.waiting && seeking.turning))
 }
 
 /// The first program that is bad. Data races are looked for alone: else the options are refused with 71.
@@ -85,6 +85,7 @@ fn range_of(seeking: Seeking) -> Range
             turning: seeking.turning,
             set: seeking.set,
         },
+        strict: seeking.strict,
         races: seeking.races,
         from: seeking.from,
         to: seeking.to,

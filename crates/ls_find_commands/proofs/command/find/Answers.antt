@@ -25,6 +25,7 @@ returns-in-Some-clause-gives g c =
     AtOnce (string_bytes c.in-Some.text) good
     (subst (λ o. IfSome o (λ text. AreAllNumbers c.args.range)) c.in-Some.is c.in_ok-text.ensures.numbers)
     (subst (λ o. IfSome o (λ text. c.args.range.races ≡ false)) c.in-Some.is c.in_ok-text.ensures.calls)
+    (subst (λ o. IfSome o (λ text. c.args.range.strict ≡ false)) c.in-Some.is c.in_ok-text.ensures.lax)
     (subst (λ o. IfSome o (λ text. option_map plain_text c.args.texts.reference ≡ None)) c.in-Some.is
     c.in_ok-text.ensures.own)
     (subst (λ o. IfSome o (λ text. IsWhole c.args.choosing c.args.range.sought classes menu (string_bytes text)))

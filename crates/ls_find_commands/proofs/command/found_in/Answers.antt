@@ -1,6 +1,6 @@
 -- Why `found_in` in src/command.rt keeps its clause `gives`.
 
-use Rattle.std.proofs.Common.{◌≡◌, ◌∙◌, ap, length, subst}
+use Rattle.std.proofs.Common.{◌∙◌, ap, length, subst}
 use Rattle.ls_families.specs.Families.{Family, plans}
 use Rattle.ls_find_commands.specs.Found.{IsBadRange, NoNumbers}
 use Rattle.ls_find_commands.proofs.command.found_in.Goals as goal

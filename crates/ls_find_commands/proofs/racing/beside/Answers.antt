@@ -1,7 +1,6 @@
 -- Why `beside` in src/racing.rt keeps its clause `beside`.
 
-use Rattle.std.proofs.Common.{◌≡◌, ◌∙◌, ap, length, subst, sym}
-use Rattle.std.specs.Prelude.{string_bytes}
+use Rattle.std.proofs.Common.{◌∙◌, ap, length, subst, sym}
 use Rattle.std.proofs.lemmas.Result.{IfOk-weaker}
 use Rattle.ls_families.specs.Families.{Family, plans}
 use Rattle.ls_find_races.specs.Family.{IsRaceFinding}
