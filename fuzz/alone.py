@@ -1,11 +1,12 @@
 #!/usr/bin/env python3
-"""alone [--program P] [--seed N] [--count N]: whether `find` counts rightly in which programs a call throws, or never ends, one at a time.
+"""alone [--program P] [--seed N] [--count N]: whether `find` counts rightly in which programs a call throws, waits or never ends, one at a time.
 
 Each case is a small class of `races.py`. Of it all programs with two threads of one call, and at most a call in the setup, are gone
-through. Their orders of whole calls are run by `trace`, one call after another, so no search is asked for them. Where `find` says `none`,
-the lines below it must count the programs in which a call ends by an exception, and those in which one never ends. They must name the
-first number of these, and a call that is so in its program. Where `explore --verdict` says `none` and `complete` of such a program, its
-lines must name such a call, or there is none. Ends with status 1 if something is wrong."""
+through. Their orders of whole calls are run by `trace`, one call after another, so no search is asked for them. What a thread waits for
+is read from `state`. Where `find` says `none`, the lines below it must count the programs in which a call ends by an exception, those in
+which one waits for ever, and those in which one never ends otherwise. They must name the first number of these, and a call that is so in
+its program. With `--strict` the first number of all must be found, with such a call. Where `explore --verdict` says `none` and `complete`
+of such a program, its lines must name such a call, or there is none. Ends with status 1 if something is wrong."""
 import argparse
 import collections
 import random
@@ -18,8 +19,10 @@ from tool import PROGRAM, joined, keep, run
 ALONE = 400
 BOUNDS = ["--calls", "1", "--setup", "1"]
 TRACED = re.compile(r"\d+ (\w+)\.(\d+) (call|return|trap)\b ?(.*)")
-ALONE_LINE = re.compile(r"// a call (throws|never ends) when calls run one at a time: (.*)")
-LINE = re.compile(r"// in (at least )?(\d+) a call (throws|never ends) when calls run one at a time: number (\d+), (.*)")
+KINDS = ("throws", "waits for ever", "never ends")
+ALONE_LINE = re.compile(rf"// a call ({'|'.join(KINDS)}) when calls run one at a time: (.*)")
+LINE = re.compile(rf"// in (at least )?(\d+) a call ({'|'.join(KINDS)}) when calls run one at a time: number (\d+), (.*)")
+STRICT_LINE = re.compile(rf"// number (\d+) of \d+: a call ({'|'.join(KINDS)}) when calls run one at a time: (.*)")
 
 
 def ran(program, text, schedule):
@@ -46,18 +49,43 @@ def verdict_wrong(program, text, known):
     return None
 
 
+def stopped(program, text, schedule, thread, words):
+    """A call that hasn't ended after a schedule: that it waits, and for what; or that it never ends."""
+    lines = run(program, ["state"], joined(text, f"{schedule}\n".encode()), seconds=60).out.decode().split("\n")
+    waits = next((it for it in lines if re.match(rf"{thread}\.\d+ waits for ", it)), None)
+    if waits is None:
+        return "never ends", words
+    owner = re.search(r", which (\w+) owns$", waits)[1]
+    ended = next((f"; {it}" for it in lines if it.startswith(f"{owner} has ended")), "")
+    return "waits for ever", f"{words}, {thread} {waits.split(' ', 1)[1]}{ended}"
+
+
 def faults(program, text):
-    """What calls are told that end by an exception in some order of whole calls, and that never end."""
-    throws, endless, left = set(), set(), [(f"setup*{ALONE}", ("A", "B"))]
+    """What calls are told that have a fault in some order of whole calls, for each kind."""
+    told, left = {kind: set() for kind in KINDS}, [(f"setup*{ALONE}", ("A", "B"))]
     while left:
         schedule, threads = left.pop()
         calls = ran(program, text, schedule)
-        throws |= {f"{words}, {answer}" for _, words, end, answer in calls if end == "trap"}
-        pending = {words for _, words, end, _ in calls if end is None}
-        endless |= pending
+        told["throws"] |= {f"{words}, {answer}" for _, words, end, answer in calls if end == "trap"}
+        pending = [(thread, words) for thread, words, end, _ in calls if end is None]
+        for thread, words in pending:
+            kind, said = stopped(program, text, schedule, thread, words)
+            told[kind].add(said)
         if not pending and not any(thread == "setup" and end == "trap" for thread, _, end, _ in calls):
             left += [(f"{schedule} {thread}*{ALONE}", tuple(it for it in threads if it != thread)) for thread in threads]
-    return {"throws": throws, "never ends": endless}
+    return told
+
+
+def strict_wrong(program, classes, all_faults):
+    """What is wrong with what `find --strict` says of a class of which `find` says `none`, or None."""
+    lines = run(program, ["find", "--strict", *BOUNDS], classes, seconds=120).out.decode().split("\n")
+    first = next((n for n, it in enumerate(all_faults, 1) if any(it.values())), None)
+    line = STRICT_LINE.fullmatch(lines[0])
+    if first is None:
+        return None if lines[0] == "// none" else f"find --strict says {lines[0]!r}, and no call has a fault"
+    if line is None or int(line[1]) != first or line[3] not in all_faults[first - 1][line[2]]:
+        return f"find --strict says {lines[0]!r}, and number {first} has {all_faults[first - 1]}"
+    return None
 
 
 def tried(program, case):
@@ -76,7 +104,10 @@ def tried(program, case):
         wrong = verdict_wrong(program, joined(classes, text), known)
         if wrong:
             return wrong, ""
-    for kind in ("throws", "never ends"):
+    wrong = strict_wrong(program, classes, all_faults)
+    if wrong:
+        return wrong, ""
+    for kind in KINDS:
         numbers = [n for n, it in enumerate(all_faults, 1) if it[kind]]
         line = said.get(kind)
         if bool(line) != bool(numbers):
