@@ -203,7 +203,7 @@ fn told_turns(
 
 /// What is told of each fault of a program's calls where they run one at a time: calls of the setup, makings too, and
 /// of threads. The source alone is run, with no cells. Of each fault the call that is told has the fewest calls before
-/// it. The only refusal is that memory ran out.
+/// it, which no clause says. The only refusal is that memory ran out.
 pub fn tell(alloc: Global, names: Names<'_>) -> Result<Tellings, AllocError>
     ensures { IfOk result (AreTold (names_of names.entry) (thread_names names.entry.program.now)) }
 {

@@ -221,7 +221,7 @@ fn note_threads(
 /// setup too. The source alone is run, with no cells. The only refusal is that memory ran out.
 ///
 /// Of each kind the first is found, by how many calls come before it, and then by the order of the threads that make
-/// them.
+/// them. No clause says that it is the first.
 pub fn serial_faults(
     alloc: Global,
     file: &File,
