@@ -4,10 +4,10 @@
 Each case is a random class of fields, loops, a lock and a monitor, and another one with the same methods: the reference. Its histories
 come from small.py, which walks through all states of its threads, and so do the serial histories of the reference. `pairs`: a random
 program of two or three threads. `explore --spec` shows exactly the histories, each with its verdict, and counts them. `explore --verdict --spec`
-finds a history that isn't linearizable exactly if there is one; else threads that wait, or turn, for ever. `order --spec` explains
-each of some histories, some with an answer changed, or names the line from which on none does. `families`: the first program of `find --spec`
-that is wrong, with one thread and with two, and why, is that of the programs in order. What is too large is counted. Ends with status 1 if
-something is wrong."""
+finds a history that isn't linearizable exactly if there is one, and tells its first event that no order explains; else threads that
+wait, or turn, for ever. `order --spec` explains each of some histories, some with an answer changed, or names the line from which on
+none does. `families`: the first program of `find --spec` that is wrong, with one thread and with two, and why, is that of the programs
+in order. What is too large is counted. Ends with status 1 if something is wrong."""
 import argparse
 import random
 import re
@@ -87,8 +87,29 @@ def wrong_rows(judge, out):
     return None if end and (int(end[1]), int(end[2])) == (len(rows), count) else f"{last.strip()}, but it is {len(rows)} and {count}"
 
 
+def in_words(called, line, returned, threw):
+    """An event of a history in words, where the calls by their names are these."""
+    name, kind, *detail = line.split(" ", 2)
+    return " ".join([name, called[name], {"return": returned, "trap": threw}[kind], *detail])
+
+
+def line_on(judge, history):
+    """The line on the first event of a history that no order of whole calls explains."""
+    at = next(n for n in range(len(history)) if not judge.is_linearizable(history[:n + 1]))
+    before = [it for it in history[:at] if not it.startswith("setup.")]
+    called = {it.split()[0]: it.split(" ", 2)[2] for it in history if it.split()[1] == "call"}
+    ends = [it for it in before if it.split()[1] != "call"]
+    ended = [in_words(called, it, "returned", "threw") for it in ends]
+    over, own = {it.split()[0] for it in ends}, history[at].split(".")[0]
+    names = [it.split()[0] for it in before if it.split()[1] == "call"]
+    running = [f"{it} {called[it]}" for it in names if it not in over and it.split(".")[0] != own]
+    after = " after " * bool(ended) + " and ".join(ended)
+    still = f", with {' and '.join(running)} still running" if running else ""
+    return f"// no order of whole calls explains that {in_words(called, history[at], 'returns', 'throws')}{after}{still}\n"
+
+
 def wrong_verdict(judge, out):
-    """What is wrong with a verdict alone, or None."""
+    """What is wrong with a verdict alone, or None. Above its last line there is a line on an event."""
     first, _, rest = out.partition("\n")
     head = re.sub(r"; context switches \d+$", "", first)
     history = tuple(rest.split("\n\n")[0].split("\n")[1:])
@@ -96,6 +117,7 @@ def wrong_verdict(judge, out):
         return f"{first}, not complete"
     if any(not judge.is_linearizable(it) for it in judge.histories):
         is_so = head == "not linearizable" and history in judge.histories and not judge.is_linearizable(history)
+        is_so = is_so and out.split("\n\n")[1].startswith(line_on(judge, history))
     elif judge.waiting:
         is_so = " waits for " in head and history in judge.waiting
     elif judge.turning:

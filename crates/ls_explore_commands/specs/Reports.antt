@@ -27,10 +27,10 @@ run_report fewest names threads head schedule =
     head ++ (switches_text fewest schedule ++ (10 ∷ (schedule_text threads schedule ++
     (run_text names.program (source_history names.file names.program schedule) ++ 10 ∷ []))))
 
--- a run whose history isn't linearizable
-abbrev pub bad_text : Bool → Names → List Text → List ℕ → ℕ → ℕ → Bool → Text
-bad_text fewest names threads schedule limit states complete =
-    run_report fewest names threads (codes "not linearizable") schedule ++ last_text limit states complete
+-- a run whose history isn't linearizable, and the line on the event that no order of whole calls explains
+abbrev pub bad_text : Text → Bool → Names → List Text → List ℕ → ℕ → ℕ → Bool → Text
+bad_text note fewest names threads schedule limit states complete =
+    run_report fewest names threads (codes "not linearizable") schedule ++ (note ++ last_text limit states complete)
 
 -- a run after which threads wait for ever
 abbrev pub stuck_text : Bool → Names → List Text → List ℕ → ℕ → ℕ → Bool → Text

@@ -3,7 +3,9 @@ use Rattle.std.specs.Prelude.{◌≡◌, ◌⊎◌, ◌≤◌, ◌<◌, ℕ, Boo
 use Rattle.ls_events.specs.Limits.{most_steps}
 use Rattle.ls_checked.specs.CheckedTree.{File}
 use Rattle.ls_checked.specs.CheckedProgram.{Program}
+use Rattle.ls_hopeless.specs.Hopeless.{IsHopelessLine}
 use Rattle.ls_image.specs.declared.image.Image.{Image}
+use Rattle.ls_meaning.specs.Runs.{source_history}
 use Rattle.ls_translation.specs.Texts.{file_of, program_of}
 use Rattle.ls_translation.specs.declared.fault.TranslationFault.{TranslationFault}
 use Rattle.ls_translation.specs.declared.fault.TranslationFault.TheVariants as translation
@@ -58,14 +60,15 @@ pub data Decided (classes : Text) (sfile : File) (sprogram : Program) (i : Image
     : Result Text ToolFault → Type 0 where
   NoStates : AreBadStates limit → Decided classes sfile sprogram i limit (Err (faults.Explore explore.BadStates))
   -- the history of this schedule isn't linearizable
-  IsBad : (schedule : List ℕ) (fewest : Bool) (states : ℕ) (complete : Bool) →
+  IsBad : (schedule : List ℕ) (note : Text) (fewest : Bool) (states : ℕ) (complete : Bool) →
       ¬ AreBadStates limit →
       IsExtent (file_of i) (program_of i) limit states complete →
       IsUnlikeRun sfile sprogram (file_of i) (program_of i) schedule →
       IsReadBack i schedule →
       (fewest ≡ true → IsSimplestUnlike sfile sprogram (file_of i) (program_of i) schedule) →
+      IsHopelessLine sfile sprogram (program_of i) (source_history (file_of i) (program_of i) schedule) note →
       Decided classes sfile sprogram i limit
-      (Ok (bad_text fewest (names_in i) (names_of_image i) schedule limit states complete))
+      (Ok (bad_text note fewest (names_in i) (names_of_image i) schedule limit states complete))
   -- no serial history that was found explains it, and some may not have been found, for this reason
   IsDoubtful : (doubt : Doubt) (schedule : List ℕ) (fewest : Bool) (states : ℕ) (complete : Bool) →
       ¬ AreBadStates limit →

@@ -6,7 +6,7 @@ ghost use Rattle.ls_checked.specs.CheckedProgram.{Program as ProgramValue};
 ghost use Rattle.ls_explore.specs.Faults.{AreBadStates};
 ghost use Rattle.ls_faults.specs.Given.{GivesText};
 ghost use Rattle.ls_report.specs.Events.{Text};
-ghost use Rattle.ls_explore_commands.specs.Readable.{AreReadBack};
+ghost use Rattle.ls_explore_commands.specs.Readable.{AreReadBack, SourceRunsAreReadable};
 ghost use Rattle.ls_commands.specs.Likeness.{AnswersLike};
 ghost use Rattle.ls_explore_commands.specs.Likeness.{VerdictsLike};
 ghost use Rattle.ls_explore_commands.specs.Verdicts.{Decided, IsExtent, VerdictsTo};
@@ -29,12 +29,14 @@ use ls_events::schedule::Schedule;
 use ls_explore::{ExploreFault, MOST_STATES};
 use ls_explore_reports::names_in;
 use ls_faults::fault::ToolFault;
+use ls_hopeless::hopeless_line;
 use ls_image::image::Image;
 use ls_serial_search::telling::Doubt;
 use ls_source_judge::{Judged, judge_schedules};
 use ls_specification::Specification;
 use ls_specified::specified;
 use ls_spinning::Turning;
+use ls_text_laws::source_is_readable;
 use std::alloc::{AllocError, Global};
 
 /// Whether no states may be kept, or too many.
@@ -65,7 +67,8 @@ fn bad_answer(
     extent: Extent,
     steps: &[u8],
 ) -> Result<String, ToolFault>
-    requires { AreReadBack image.now }
+    requires reads { AreReadBack image.now }
+    requires named { SourceRunsAreReadable image.now }
     ensures { (classes : Text) → ¬ AreBadStates extent.limit →
         IsExtent (file_of image.now) (program_of image.now) extent.limit extent.states extent.complete →
         IsUnlikeRun (spec_file specification.entry) (spec_program specification.entry)
@@ -74,7 +77,8 @@ fn bad_answer(
         image.now extent.limit) result }
 {
     let run = bad_run(alloc, specification, image, steps)?;
-    let text = print_bad(alloc, names_in(image), &run, extent)?;
+    let note = hopeless_line(alloc, specification, image, &run.schedule)?;
+    let text = print_bad(alloc, names_in(image), &run, note.as_str(), extent)?;
     Ok(text)
 }
 
@@ -226,7 +230,8 @@ fn wrong_answer(
     steps: &[u8],
     extent: Extent,
 ) -> Result<String, ToolFault>
-    requires { AreReadBack image.now }
+    requires reads { AreReadBack image.now }
+    requires named { SourceRunsAreReadable image.now }
     ensures { (classes : Text) → ¬ AreBadStates extent.limit →
         IsExtent (file_of image.now) (program_of image.now) extent.limit extent.states extent.complete →
         IfNone judged.now.doubt (IsUnlikeRun (spec_file specification.entry) (spec_program specification.entry)
@@ -310,7 +315,8 @@ fn decided(
     classes: &str,
     states: usize,
 ) -> Result<String, ToolFault>
-    requires { AreReadBack image.now }
+    requires reads { AreReadBack image.now }
+    requires named { SourceRunsAreReadable image.now }
     ensures { GivesText (Decided classes.now (spec_file specification.entry) (spec_program specification.entry)
         image.now states) result }
 {
@@ -345,7 +351,8 @@ fn decided_like(
     like: &Image,
     states: usize,
 ) -> Result<String, ToolFault>
-    requires { AreReadBack image.now }
+    requires reads { AreReadBack image.now }
+    requires named { SourceRunsAreReadable image.now }
     ensures { GivesText (Decided classes.now (file_of like.now) (program_of like.now) image.now states) result }
 {
     let specification = Specification::own(like.checked().file(), like.program());
@@ -361,7 +368,8 @@ fn decided_by(
     program: &str,
     states: usize,
 ) -> Result<String, ToolFault>
-    requires { AreReadBack image.now }
+    requires reads { AreReadBack image.now }
+    requires named { SourceRunsAreReadable image.now }
     ensures { GivesText (AnswersLike like.now program.now image.now
         (λ s. Decided classes.now (file_of s) (program_of s) image.now states)) result }
 {
@@ -397,6 +405,7 @@ pub fn verdict(
 {
     let image = compile(alloc, classes, program)?;
     verdicts_read_back();
+    source_is_readable();
     decided_like(alloc, &image, classes, &image, states)
 }
 
@@ -412,5 +421,6 @@ pub fn verdict_like(
 {
     let image = compile(alloc, classes, program)?;
     verdicts_read_back();
+    source_is_readable();
     decided_by(alloc, &image, classes, like, program, states)
 }

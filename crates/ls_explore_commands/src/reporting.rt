@@ -95,19 +95,22 @@ pub(crate) fn push_run(
     out.push_str("\n")
 }
 
-/// The text of a run whose history isn't linearizable. The only refusal is that memory ran out.
+/// The text of a run whose history isn't linearizable, with a line on an event of it. The only refusal is that memory
+/// ran out.
 pub(crate) fn print_bad(
     alloc: Global,
     names: Names<'_>,
     run: &SimpleRun,
+    note: &str,
     extent: Extent,
 ) -> Result<String, AllocError>
     ensures { IfOk result (λ text. string_bytes text ≡
-        bad_text run.now.fewest (names_of names.entry) (thread_names names.entry.program.now) run.now.schedule
-        extent.limit extent.states extent.complete) }
+        bad_text note.now run.now.fewest (names_of names.entry) (thread_names names.entry.program.now)
+        run.now.schedule extent.limit extent.states extent.complete) }
 {
     let mut out = String::new(alloc);
     push_run(alloc, &mut out, names, "not linearizable", run)?;
+    out.push_str(note)?;
     push_last(&mut out, extent)?;
     Ok(out)
 }

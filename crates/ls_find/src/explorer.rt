@@ -10,6 +10,7 @@ ghost use Rattle.ls_specification.specs.Specification.{given_of};
 ghost use Rattle.ls_translation.specs.Texts.{file_of, program_of};
 
 use crate::laws::sound_follows;
+use crate::notes::note_on;
 use crate::reasons::why_text;
 use crate::simplifying::simplified;
 use crate::sought::{Sought, sought_verdict};
@@ -29,8 +30,13 @@ use std::alloc::{AllocError, Global};
 /// Why the search ends with a program.
 #[derive(Drop)]
 pub enum Why {
-    /// A schedule is bad: why, with its context switches if none with its history has fewer, and its text.
-    Bad { why: String, schedule: String },
+    /// A schedule is bad: why, with its context switches if none with its history has fewer; the line on the event that
+    /// no order of whole calls explains, or nothing; and its text.
+    Bad {
+        why: String,
+        note: String,
+        schedule: String,
+    },
     /// The class text doesn't compile with the program.
     NotCompiled(CompileFault),
     /// The class text that specifies it doesn't.
@@ -71,8 +77,13 @@ fn judged(
             let run = simplified(alloc, given, image, reason, &steps)?;
             run.schedule.fits();
             let why = why_text(alloc, reason, names_in(image), &run)?;
+            let note = note_on(alloc, given, image, reason, &run.schedule)?;
             let schedule = print_schedule(alloc, &run.schedule, image.program())?;
-            Ok(Judgement::Halt(Why::Bad { why, schedule }))
+            Ok(Judgement::Halt(Why::Bad {
+                why,
+                note,
+                schedule,
+            }))
         }
     }
 }

@@ -6,6 +6,7 @@ mod explorer;
 pub mod laws;
 mod legal;
 mod likeness;
+mod notes;
 mod reasons;
 mod simplifying;
 mod sought;

@@ -34,7 +34,7 @@ why_text : (before to count : ℕ) (ps : List Passed) (program : Text) (w : Why)
       figures = figures_of before to count ps;
       found = Some (told (before + length ps + 1) program w);
     }))
-why_text before to count ps program (whys.Bad why schedule) shown = refl
+why_text before to count ps program (whys.Bad why note schedule) shown = refl
 why_text before to count ps program (whys.NotCompiled fault) shown = absurd shown
 why_text before to count ps program (whys.NotSpecified fault) shown = absurd shown
 

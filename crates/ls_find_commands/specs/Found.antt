@@ -42,10 +42,11 @@ use Rattle.ls_find_commands.specs.declared.strict.FaultyProgram.{FaultyProgram}
 abbrev pub IsBadRange : Range → ℕ → Type 0
 IsBadRange r count = (r.from ≡ 0) ⊎ (r.to < r.from) ⊎ (count < r.from)
 
--- the text of the program of a number with which a search ends; or its fault
+-- The text of the program of a number with which a search ends, below the line on an event if there is one. Or its
+-- fault.
 abbrev pub why_answer : Figures → ℕ → Text → Why → Result Text ToolFault
-why_answer f number program (whys.Bad why schedule) =
-    Ok (found_text f number (string_bytes why) program (string_bytes schedule))
+why_answer f number program (whys.Bad why note schedule) =
+    Ok (found_text f number (string_bytes why) (string_bytes note ++ program) (string_bytes schedule))
 why_answer f number program (whys.NotCompiled fault) = Err (lifted_compile fault)
 why_answer f number program (whys.NotSpecified fault) = Err (lifted_reference fault)
 

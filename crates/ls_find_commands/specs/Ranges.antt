@@ -16,8 +16,12 @@ use Rattle.ls_find_commands.specs.Found.{halted_answer}
 
 -- the program of a number with which a search ends; nothing is told of one that doesn't compile
 abbrev pub told : ℕ → Text → Why → Found
-told number program (whys.Bad why schedule) =
-    record { number = number; reason = string_bytes why; program = program; schedule = string_bytes schedule }
+told number program (whys.Bad why note schedule) = record {
+  number = number;
+  reason = string_bytes why;
+  program = string_bytes note ++ program;
+  schedule = string_bytes schedule;
+}
 told number program (whys.NotCompiled fault) = record { number = number; reason = []; program = program; schedule = [] }
 told number program (whys.NotSpecified fault) =
     record { number = number; reason = []; program = program; schedule = [] }
@@ -35,7 +39,7 @@ report_of before to count f = record {
 
 -- it ends with no program that doesn't compile
 abbrev pub IsShown : Why → Type 0
-IsShown (whys.Bad why schedule) = Unit {0}
+IsShown (whys.Bad why note schedule) = Unit {0}
 IsShown (whys.NotCompiled fault) = ⊥
 IsShown (whys.NotSpecified fault) = ⊥
 

@@ -1,5 +1,5 @@
 -- What is found where calls are looked for too that throw, wait for ever or never end when calls run one at a time.
-use Rattle.std.specs.Prelude.{◌≡◌, ◌+◌, ℕ, Bool, true, false, List, ◌++◌, Option, Some, None, codes, position}
+use Rattle.std.specs.Prelude.{◌≡◌, ◌+◌, ℕ, Bool, true, false, List, [], ◌++◌, Option, Some, None, codes, position}
 use Rattle.std.specs.Prelude.{slice_get, string_bytes}
 use Rattle.ls_alone.specs.Alone.{first_fault}
 use Rattle.ls_alone.specs.Words.{fault_words}
@@ -23,8 +23,11 @@ faulty_reason p = fault_words p.0 ++ (codes ": " ++ string_bytes p.1.words)
 
 -- the call is shown, and the schedule up to where it is seen
 pub data IsShown (p : Fault × Faulty) : Why → Type 0 where
-  Shows : (why schedule : _) → string_bytes why ≡ faulty_reason p → string_bytes schedule ≡ string_bytes p.1.schedule →
-      IsShown p (whys.Bad why schedule)
+  Shows : (why note schedule : _) →
+      string_bytes why ≡ faulty_reason p →
+      string_bytes note ≡ [] →
+      string_bytes schedule ≡ string_bytes p.1.schedule →
+      IsShown p (whys.Bad why note schedule)
 
 -- the text of the program of a number
 pub record IsTextAt (p : Programs) (n : ℕ) (text : Text) : Type 0 where

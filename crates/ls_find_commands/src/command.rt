@@ -1,7 +1,7 @@
 // The command `find`.
 
 ghost use Rattle.std.specs.Prelude.{◌≡◌, ◌+◌, ◌-◌, ◌<◌, ◌≤◌, ◌^◌, ◌↔◌, IfSome, IsTrue, false, length, min, true};
-ghost use Rattle.std.specs.Prelude.{option_map};
+ghost use Rattle.std.specs.Prelude.{◌++◌, IfOk, option_map, string_bytes};
 ghost use Rattle.ls_explore.specs.Watching.{GoesOn};
 ghost use Rattle.ls_explore.specs.Faults.{AreBadStates};
 ghost use Rattle.ls_families.specs.Families.{plans};
@@ -65,6 +65,15 @@ fn is_bad_range(range: Range, count: u64) -> bool
     range.from == 0 || range.to < range.from || range.from > count
 }
 
+/// A program's text, below a line if there is one.
+fn noted_program(note: String, program: &str) -> Result<String, AllocError>
+    ensures { IfOk result (λ text. string_bytes text ≡ string_bytes note ++ program.now) }
+{
+    let mut text = note;
+    text.push_str(program)?;
+    Ok(text)
+}
+
 /// The text of a program of a number with which the search ends.
 fn why_text(
     alloc: Global,
@@ -76,11 +85,16 @@ fn why_text(
     ensures { GivesText (λ answer. answer ≡ why_answer figures number program.now why) result }
 {
     match why {
-        Why::Bad { why, schedule } => {
+        Why::Bad {
+            why,
+            note,
+            schedule,
+        } => {
+            let noted = noted_program(note, program)?;
             let shown = Shown {
                 number,
                 reason: why.as_str(),
-                program,
+                program: noted.as_str(),
                 schedule: schedule.as_str(),
             };
             let text = print_found(alloc, figures, shown)?;

@@ -40,6 +40,7 @@ fn told_of(alloc: Global, why: RaceWhy) -> Result<Why, AllocError>
             let why = race_reason(alloc, &found)?;
             Ok(Why::Bad {
                 why,
+                note: String::new(alloc),
                 schedule: found.schedule,
             })
         }

@@ -41,7 +41,11 @@ fn shown(alloc: Global, fault: Fault, faulty: &Faulty) -> Result<Why, AllocError
 {
     let why = faulty_reason(alloc, fault, faulty)?;
     let schedule = String::from_str(alloc, faulty.schedule.as_str())?;
-    Ok(Why::Bad { why, schedule })
+    Ok(Why::Bad {
+        why,
+        note: String::new(alloc),
+        schedule,
+    })
 }
 
 /// The text of the program of a number.

@@ -56,7 +56,8 @@ abbrev pub none_line : ℕ → Text
 none_line zero = codes "// none"
 none_line (suc cut) = codes "// none in what was explored"
 
--- The number of the program that is found, and why; what is counted; the program, and the schedule as another part.
+-- The number of the program that is found, and why; what is counted; the program, below a line of a comment if there is
+-- one; and the schedule as another part.
 abbrev pub found_text : Figures → ℕ → Text → Text → Text → Text
 found_text f number reason program schedule =
     number_text number f.count ++ (reason ++ (10 ∷ (figures_line f ++ (10 ∷ (program ++ (codes "%%\n" ++ schedule))))))

@@ -14,16 +14,20 @@ is_end None = false
 is_end (Some []) = true
 is_end (Some (b ∷ text)) = false
 
+-- what stands behind a line of a comment, if the text begins with one
+abbrev pub behind_note : Text → Option Text
+behind_note text = if begins text (codes "// ") then behind_line (codes "// ") (Some text) else Some text
+
 -- what stands behind the lines of the setup and A
 abbrev pub behind_one : Text → Option Text
-behind_one text = behind_line (codes "thread A { ") (behind_line (codes "setup { ") (Some text))
+behind_one text = behind_line (codes "thread A { ") (behind_line (codes "setup { ") (behind_note text))
 
 -- and of B
 abbrev pub behind_two : Text → Option Text
 behind_two text = behind_line (codes "thread B { ") (behind_one text)
 
--- Whether the lines of a text are those of a setup and of one thread to four, in order. Of each line it is said how it
--- begins.
+-- Whether the lines of a text are those of a setup and of one thread to four, in order, below a line of a comment if
+-- there is one. Of each line it is said how it begins.
 abbrev pub are_lines : Text → Bool
 are_lines text =
     is_end (behind_one text) || (is_end (behind_two text) ||

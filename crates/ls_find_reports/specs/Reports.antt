@@ -13,7 +13,7 @@ use Rattle.ls_find_reports.specs.declared.fault.RangeFault.{RangeFault}
 use Rattle.ls_find_reports.specs.declared.fault.RangeFault.TheVariants as faults
 use Rattle.ls_report.specs.Events.{Text}
 
--- a program that is found: its number, why, its text, and that of a schedule
+-- a program that is found: its number, why, its text, below a line of a comment if there is one, and that of a schedule
 pub record Found : Type 0 where
   pub number : ℕ
   pub reason : Text
@@ -69,7 +69,7 @@ abbrev pub IsLine : Text → Type 0
 IsLine text = (line : Text) × (text ≡ line ++ 10 ∷ []) × (lacks 10 line ≡ true)
 
 -- The reason and the schedule are each one line, the reason without a line feed. The lines of the program are those of
--- a setup and of threads, and no sign of it is a `%`.
+-- a setup and of threads, below a line of a comment if there is one. No sign of these lines is a `%`.
 pub record IsProgram (p : Found) : Type 0 where
   pub number : p.number < 2 ^ 64
   pub reason : lacks 10 p.reason ≡ true

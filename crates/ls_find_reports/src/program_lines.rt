@@ -1,7 +1,7 @@
 // The lines of a program that is found.
 
 ghost use Rattle.std.specs.Prelude.{◌≡◌, Some, option_map};
-ghost use Rattle.ls_find_reports.specs.Programs.{are_lines, behind_line, behind_one, is_end};
+ghost use Rattle.ls_find_reports.specs.Programs.{are_lines, behind_line, behind_note, behind_one, is_end};
 
 use crate::statuses::begins;
 use ls_report::cuts::cut;
@@ -22,11 +22,21 @@ fn behind_line<'a>(front: &str, text: Option<&'a str>) -> Option<&'a str>
     }
 }
 
+/// What stands behind a line of a comment, if a text begins with one.
+fn behind_note(text: &str) -> Option<&str>
+    ensures { option_map (λ t. t.now) result ≡ behind_note text.now }
+{
+    if begins(text, "// ") {
+        return behind_line("// ", Some(text));
+    }
+    Some(text)
+}
+
 /// What stands behind the lines of the setup and of the first thread.
 fn behind_one(text: &str) -> Option<&str>
     ensures { option_map (λ t. t.now) result ≡ behind_one text.now }
 {
-    let setup = behind_line("setup { ", Some(text));
+    let setup = behind_line("setup { ", behind_note(text));
     behind_line("thread A { ", setup)
 }
 
@@ -40,7 +50,8 @@ fn is_end(text: Option<&str>) -> bool
     }
 }
 
-/// Whether the lines of a text are those of a setup and of one thread to four, in order.
+/// Whether the lines of a text are those of a setup and of one thread to four, in order, below a line of a comment if
+/// there is one.
 pub(crate) fn are_lines(text: &str) -> bool
     ensures { result ≡ are_lines text.now }
 {

@@ -3,10 +3,13 @@
 use Rattle.std.proofs.Common.{ℕ}
 use Rattle.std.proofs.lemmas.Result.{err_from_is_err_and}
 use Rattle.std.specs.Prelude.{Result}
+use Rattle.ls_checked.specs.PlainProgram.{plain_program}
+use Rattle.ls_image.specs.Images.{checked_of, program_of_image}
 use Rattle.ls_image.specs.declared.image.Image.{Image}
 use Rattle.ls_report.specs.Events.{Text}
 use Rattle.ls_faults.specs.declared.fault.ToolFault.{ToolFault}
 use Rattle.ls_translation.specs.Texts.{file_of, program_of}
+use Rattle.ls_types_checked.specs.CheckedFile.{elaborated_file}
 use Rattle.ls_commands.proofs.Answering.{not_compiled, on_image}
 use Rattle.ls_commands.specs.Likeness.{AnswersLike}
 use Rattle.ls_explore_commands.specs.Verdicts.{Decided}
@@ -30,7 +33,14 @@ returns c =
     c.in_ok-image.image c.decided_by.result c.in_ok-image.ensures.compiled c.in_ok-image.ensures.within
     c.decided_by.ensures
 
-pub decided_by-requires : goal.decided_by-requires
-decided_by-requires c =
+pub decided_by-requires-clause-reads : goal.decided_by-requires-clause-reads
+decided_by-requires-clause-reads c =
     c.verdicts_read_back.ensures c.args.classes.now c.args.program.now c.in_ok-image.image
     c.in_ok-image.ensures.compiled
+
+pub decided_by-requires-clause-named : goal.decided_by-requires-clause-named
+decided_by-requires-clause-named c =
+    let i = c.in_ok-image.image in
+    let is = c.in_ok-image.ensures.compiled in
+    c.source_is_readable.ensures is.file (elaborated_file (checked_of i)) c.args.program.now
+    (plain_program (program_of_image i)) is.elaborates is.reads

@@ -37,6 +37,7 @@ returns-in_ok-schedule-in-Bad c = λ specification classes program is compiles.
     c.in-Bad.is
     c.in_ok-sought_verdict.ensures in
     let acts = c.in_ok-run-in-Bad.ensures.acts shown.schedule_is.acts in
+    let bad = c.in_ok-run-in-Bad.ensures.bad shown.schedule_is.bad in
     let said = c.in_ok-schedule-in-Bad.ensures ∙
     ap (λ p. schedule_text (thread_names p) c.in_ok-run-in-Bad.run'.schedule) c.program.ensures in record {
       image = i;
@@ -46,13 +47,14 @@ returns-in_ok-schedule-in-Bad c = λ specification classes program is compiles.
       reason = c.in-Bad.reason;
       schedule = c.in_ok-run-in-Bad.run'.schedule;
       asked = shown.asked;
-      bad = c.in_ok-run-in-Bad.ensures.bad shown.schedule_is.bad;
+      bad = bad;
       acts = acts;
       is_fewest = c.in_ok-run-in-Bad.run'.fewest;
       fewest = c.in_ok-run-in-Bad.ensures.fewest;
       why = c.in_ok-why-in-Bad.ensures ∙
           (λ i. why_text c.in-Bad.reason c.in_ok-run-in-Bad.run'.fewest (c.names_in.ensures.names i)
           (thread_names (c.names_in.ensures.program i)) c.in_ok-run-in-Bad.run'.schedule);
+      noted = c.in_ok-note-in-Bad.ensures bad;
       said = said;
       reads = read_back c.schedules_read_back.ensures.printed classes program i c.in_ok-run-in-Bad.run'.schedule _
           compiles acts c.fits.ensures said;
