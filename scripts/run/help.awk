@@ -51,7 +51,7 @@ END {
         if (command == "find") {
             print ""
             print "A line of the menu can be a word:"
-            print "  listset find --menu \047lock(#); unlock(#)\047 my.java"
+            print "  listset find --menu \047lock(#); inc(); unlock(#)\047 --menu \047get()\047 my.java"
         }
         if (spec) {
             print ""

@@ -96,7 +96,7 @@ sentence (faults.Tally (tally.BadTally at)) classes = codes
     "expected a line as `seed 7 count 3`, then a history, then an empty line\n"
 sentence faults.BadOptions classes = codes "these options don't go together, or not with so many parts\n"
 sentence (faults.BadEntry at) classes =
-    codes "expected calls of the class without the object, as `lock(#); unlock(#)`: `#` is the thread's number\n"
+    codes "expected calls of the class without the object, as `lock(#); inc(); unlock(#)`: `#` is the thread's number\n"
 sentence (faults.UnlikeSpecification at) classes =
     codes "the reference has no such call, or it answers another type there: name a class text with the same methods\n"
 sentence (faults.LacksMethod span) classes =

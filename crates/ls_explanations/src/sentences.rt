@@ -136,7 +136,7 @@ pub(crate) fn sentence(fault: ToolFault, classes: &[u8]) -> &'static str
             "expected a line as `seed 7 count 3`, then a history, then an empty line\n"
         }
         ToolFault::BadEntry { at: _ } => {
-            "expected calls of the class without the object, as `lock(#); unlock(#)`: `#` is the thread's number\n"
+            "expected calls of the class without the object, as `lock(#); inc(); unlock(#)`: `#` is the thread's number\n"
         }
         ToolFault::UnlikeSpecification { at: _ } => {
             "the reference has no such call, or it answers another type there: name a class text with the same methods\n"
