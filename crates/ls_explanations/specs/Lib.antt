@@ -14,3 +14,6 @@ pub mod Names
 pub mod Signs
 pub mod Lessons
 pub mod Programs
+pub mod Around
+pub mod FormHints
+pub mod ProgramForms

@@ -1,5 +1,5 @@
 -- What is said of an expression of another type than is wanted, and of another number of arguments.
-use Rattle.std.specs.Prelude.{ℕ, ◌==◌, nat_lt, Bool, true, false, List, [], ◌∷◌, ◌++◌, length}
+use Rattle.std.specs.Prelude.{ℕ, ◌==◌, Bool, true, false, List, [], ◌∷◌, ◌++◌}
 use Rattle.std.specs.Prelude.{slice_get, codes, if◌then◌else◌}
 use Rattle.std.specs.Fmt.{decimal}
 use Rattle.std.specs.Option.{option_map_or}
@@ -8,8 +8,6 @@ use Rattle.ls_events.specs.declared.value.ValueType.TheVariants as types
 use Rattle.ls_lexer.specs.declared.word.Word.{Word}
 use Rattle.ls_lexer.specs.declared.word.Word.TheVariants as words
 use Rattle.ls_lexer.specs.Lexemes.{Lexeme, Named, Numeral, Reserved, Marked}
-use Rattle.ls_lexer.specs.Places.{text_limit}
-use Rattle.ls_lexer.specs.Tokens.{tokens_of}
 use Rattle.ls_types_checked.specs.declared.fault.ProgramFault.TheVariants as program_faults
 use Rattle.ls_types_elaboration.specs.declared.mismatch.Counts.{Counts}
 use Rattle.ls_types_elaboration.specs.declared.mismatch.Mismatch.{Mismatch}
@@ -22,8 +20,9 @@ use Rattle.ls_types_elaboration.specs.declared.static_types.Static.TheVariants.{
 use Rattle.ls_faults.specs.declared.fault.ToolFault.{ToolFault}
 use Rattle.ls_faults.specs.declared.fault.ToolFault.TheVariants as faults
 use Rattle.ls_explanations.specs.Lessons.{call_lesson}
-use Rattle.ls_explanations.specs.Programs.{form_lesson, unknown_lesson}
-use Rattle.ls_explanations.specs.Tokens.{Bytes}
+use Rattle.ls_explanations.specs.ProgramForms.{form_lesson}
+use Rattle.ls_explanations.specs.Programs.{unknown_lesson}
+use Rattle.ls_explanations.specs.Tokens.{Bytes, lexemes_in}
 
 -- ---- classes by their numbers
 
@@ -38,10 +37,6 @@ class_names is_class (Named name ∷ ks) = if is_class then name ∷ class_names
 class_names is_class (Reserved word ∷ ks) = class_names (is_class_word word) ks
 class_names is_class (Numeral text ∷ ks) = class_names false ks
 class_names is_class (Marked sign ∷ ks) = class_names false ks
-
--- the tokens of a text that isn't too long, if it has tokens
-abbrev pub lexemes_in : Bytes → List Lexeme
-lexemes_in text = if nat_lt text_limit (length text) then [] else option_map_or (λ ks. ks) (tokens_of text) []
 
 -- the name of a number among them, from 0
 abbrev pub name_from : (is_class : Bool) → List Lexeme → ℕ → Bytes

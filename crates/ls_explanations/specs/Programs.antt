@@ -1,7 +1,7 @@
--- What is said of a thread program by the text at a place: of what it names and isn't there, and of how it is written.
+-- What is said of what a thread program names and isn't there, by the text at a place.
 use Rattle.std.specs.Prelude.{ℕ, ◌==◌, ◌&&◌, ◌||◌, nat_le, Bool, codes, length, take, drop, if◌then◌else◌}
 use Rattle.std.specs.Str.{bytes_eq}
-use Rattle.ls_explanations.specs.Tokens.{Bytes, byte_at, front_gap, front_name, last_byte, last_name, trimmed}
+use Rattle.ls_explanations.specs.Tokens.{Bytes, byte_at, front_name, last_byte, last_name, trimmed}
 
 -- a number, `true` or `false` begins here
 abbrev pub is_value : Bytes → Bool
@@ -29,37 +29,3 @@ missing_lesson before from_on =
 -- of a class, an object or a method that isn't there, or of arguments that don't fit
 abbrev pub unknown_lesson : Bytes → ℕ → Bytes
 unknown_lesson text at = missing_lesson (trimmed (take at text)) (drop at text)
-
--- ---- how a program is written
-
-abbrev pub is_type : Bytes → Bool
-is_type name = bytes_eq name (codes "int") || bytes_eq name (codes "boolean")
-
--- the first byte that is no white space, or 0 if there is none
-abbrev pub first_sign : Bytes → ℕ
-first_sign text = byte_at (drop (length (front_gap text)) text) 0
-
--- a `=` comes after the name here
-abbrev pub sets : Bytes → Bool
-sets from_on = first_sign (drop (length (front_name from_on)) from_on) == 61
-
--- an answer is kept, as in `int x = s.get();` or `x = s.get();`
-abbrev pub is_kept : Bytes → Bytes → Bool
-is_kept before from_on =
-    is_type (front_name from_on) || (is_type (last_name before)
-    || ((length (last_name before) == 0) && sets from_on))
-
--- of the text before a place, and of the text from it on
-abbrev pub form_text : Bytes → Bytes → Bytes
-form_text before from_on =
-    if is_kept before from_on
-    then codes "a thread program keeps no answers: write the call alone, as `s.m(1);`\n"
-    else (if sets from_on
-    then codes "a name of the setup has no type: write the name, `=` and what is made, as `s = new C();`\n"
-    else (if last_byte before == 41
-    then codes "expected `;` after the call\n"
-    else codes "expected `setup { .. }` and then `thread NAME { .. }` as often as wanted, with calls as `s.m(1);`\n"))
-
--- of a text that isn't written as a thread program, from the place on that doesn't fit
-abbrev pub form_lesson : Bytes → ℕ → Bytes
-form_lesson text at = form_text (trimmed (take at text)) (drop at text)

@@ -1,19 +1,22 @@
 -- The text around a place.
-use Rattle.std.specs.Prelude.{ℕ, ◌-◌, ◌==◌, Bool, List, length, take, drop, not, slice_get}
+use Rattle.std.specs.Prelude.{ℕ, ◌-◌, ◌==◌, nat_lt, Bool, List, [], length, take, drop, not, slice_get, if◌then◌else◌}
 use Rattle.std.specs.List.{before_first, suffix_len}
 use Rattle.std.specs.Option.{option_map_or}
 use Rattle.ls_lexer.specs.Characters.{is_part, is_white}
+use Rattle.ls_lexer.specs.Lexemes.{Lexeme}
+use Rattle.ls_lexer.specs.Places.{text_limit}
+use Rattle.ls_lexer.specs.Tokens.{tokens_of}
 
 abbrev pub Bytes : Type 0
 Bytes = List ℕ
 
+-- the tokens of a text that isn't too long, if it has tokens
+abbrev pub lexemes_in : Bytes → List Lexeme
+lexemes_in text = if nat_lt text_limit (length text) then [] else option_map_or (λ ks. ks) (tokens_of text) []
+
 -- the name, word or number at the front; empty if none begins there
 abbrev pub front_name : Bytes → Bytes
 front_name text = before_first (λ b. not (is_part b)) text
-
--- the white space at the front
-abbrev pub front_gap : Bytes → Bytes
-front_gap text = before_first (λ b. not (is_white b)) text
 
 -- a text without the white space at its end
 abbrev pub trimmed : Bytes → Bytes

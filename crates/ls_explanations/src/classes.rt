@@ -2,7 +2,8 @@
 
 ghost use Rattle.std.specs.Prelude.{◌≡◌, ◌∷◌, IfErr, IfOk, List};
 ghost use Rattle.ls_lexer.specs.Lexemes.{Lexeme, lexeme_of, lexemes};
-ghost use Rattle.ls_explanations.specs.Mismatches.{class_name, is_class_word, lexemes_in, name_from};
+ghost use Rattle.ls_explanations.specs.Mismatches.{class_name, is_class_word, name_from};
+ghost use Rattle.ls_explanations.specs.Tokens.{lexemes_in};
 
 use ls_lexer::fault::TextFault;
 use ls_lexer::lexing::lex;
@@ -19,7 +20,7 @@ fn is_class_word(word: Word) -> bool
     }
 }
 
-/// The tokens of the class text. A text that has none, or that is too long, gives no tokens. The only refusal is that
+/// The tokens of a text. A text that has none, or that is too long, gives no tokens. The only refusal is that
 /// memory ran out.
 pub(crate) fn tokens_in(alloc: Global, text: &str) -> Result<Vec<Token<'_>>, AllocError>
     ensures { IfOk result (λ tokens. lexemes tokens.items ≡ lexemes_in text.now) }

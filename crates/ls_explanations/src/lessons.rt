@@ -15,7 +15,7 @@ use crate::types::{atomic_lesson, key_lesson};
 use crate::words::member_lesson;
 
 /// The first text, or the other if the first is empty.
-fn or_else(first: &'static str, other: &'static str) -> &'static str
+pub(crate) fn or_else(first: &'static str, other: &'static str) -> &'static str
     ensures { result.now ≡ or_else first.now other.now }
 {
     if first.is_empty() { other } else { first }

@@ -4,12 +4,15 @@
 
 mod classes;
 mod explaining;
+mod form_hints;
+mod forms;
 mod held;
 mod lessons;
 mod limit;
 mod mismatch;
 mod named;
 mod names;
+mod nearby;
 mod noting;
 mod place;
 mod programs;

@@ -5,10 +5,12 @@ ghost use Rattle.ls_lexer.specs.Lexemes.{lexemes};
 ghost use Rattle.ls_types_elaboration.specs.declared.mismatch.Mismatch.TheVariants as mismatches;
 ghost use Rattle.ls_explanations.specs.Mismatches.{counts_text, details, mismatch_line, mismatch_text, plural};
 ghost use Rattle.ls_explanations.specs.Mismatches.{rule_details, static_text, type_text};
+ghost use Rattle.ls_explanations.specs.ProgramForms.{form_lesson};
 
 use crate::classes::{class_name, tokens_in};
+use crate::forms::form_lesson;
 use crate::lessons::call_lesson;
-use crate::programs::{form_lesson, unknown_lesson};
+use crate::programs::unknown_lesson;
 use ls_events::value::ValueType;
 use ls_faults::fault::ToolFault;
 use ls_lexer::token::Token;
@@ -187,6 +189,14 @@ fn push_rule_details(
     }
 }
 
+/// Adds what is said of a text that isn't written as a thread program.
+fn push_form(alloc: Global, out: &mut Vec<u8>, program: &str, at: usize) -> Result<(), AllocError>
+    ensures { OnOk result (out.new.items ≡ out.old.items ++ form_lesson program.now at) }
+{
+    let lesson = form_lesson(alloc, program, at)?;
+    out.extend_from_slice(lesson.as_bytes())
+}
+
 /// Adds what is said of a fault beyond its sentence: the types, the numbers of arguments, or what a program names.
 pub(crate) fn push_details(
     alloc: Global,
@@ -205,7 +215,7 @@ pub(crate) fn push_details(
             out.extend_from_slice(unknown_lesson(program.as_bytes(), at).as_bytes())
         }
         ToolFault::Program(ProgramFault::BadProgram { at }) => {
-            out.extend_from_slice(form_lesson(program.as_bytes(), at).as_bytes())
+            push_form(alloc, out, program, at)
         }
         _ => Ok(()),
     }

@@ -1,11 +1,10 @@
-// What is said of a thread program by the text at a place: of what it names and isn't there, and of how it is written.
+// What is said of what a thread program names and isn't there, by the text at a place.
 
 ghost use Rattle.std.specs.Prelude.{◌≡◌};
-ghost use Rattle.ls_explanations.specs.Programs.{form_lesson, form_text, is_kept, is_object, is_type, is_value};
-ghost use Rattle.ls_explanations.specs.Programs.{missing_lesson, sets, unknown_lesson};
+ghost use Rattle.ls_explanations.specs.Programs.{is_object, is_value, missing_lesson, unknown_lesson};
 
 use crate::tokens::{
-    Cut, byte_at, cut_at, end_of, front_gap, front_name, is_either, is_word, last_byte, last_name,
+    Cut, byte_at, cut_at, end_of, front_name, is_either, is_word, last_byte, last_name,
 };
 
 /// Whether a number, `true` or `false` begins here.
@@ -53,58 +52,4 @@ pub fn unknown_lesson(text: &[u8], at: usize) -> &'static str
         left: _,
     } = cut_at(gone, end_of(gone));
     missing_lesson(before, left)
-}
-
-fn is_type(name: &[u8]) -> bool
-    ensures { result ≡ is_type name.now }
-{
-    is_either(name, b"int", b"boolean")
-}
-
-/// Whether a `=` comes after the name here.
-fn sets(from_on: &[u8]) -> bool
-    ensures { result ≡ sets from_on.now }
-{
-    let Cut { gone: _, left } = cut_at(from_on, front_name(from_on).len());
-    let Cut {
-        gone: _,
-        left: sign,
-    } = cut_at(left, front_gap(left).len());
-    byte_at(sign, 0) == b'='
-}
-
-/// Whether an answer is kept here, as in `int x = s.get();` or `x = s.get();`.
-fn is_kept(before: &[u8], from_on: &[u8]) -> bool
-    ensures { result ≡ is_kept before.now from_on.now }
-{
-    is_type(front_name(from_on))
-        || is_type(last_name(before))
-        || (last_name(before).is_empty() && sets(from_on))
-}
-
-/// What is said of the text before a place, and of the text from it on.
-fn form_text(before: &[u8], from_on: &[u8]) -> &'static str
-    ensures { result.now ≡ form_text before.now from_on.now }
-{
-    if is_kept(before, from_on) {
-        "a thread program keeps no answers: write the call alone, as `s.m(1);`\n"
-    } else if sets(from_on) {
-        "a name of the setup has no type: write the name, `=` and what is made, as `s = new C();`\n"
-    } else if last_byte(before) == b')' {
-        "expected `;` after the call\n"
-    } else {
-        "expected `setup { .. }` and then `thread NAME { .. }` as often as wanted, with calls as `s.m(1);`\n"
-    }
-}
-
-/// What is said of a text that isn't written as a thread program (21). `at` is the first byte that doesn't fit.
-pub fn form_lesson(text: &[u8], at: usize) -> &'static str
-    ensures { result.now ≡ form_lesson text.now at }
-{
-    let Cut { gone, left } = cut_at(text, at);
-    let Cut {
-        gone: before,
-        left: _,
-    } = cut_at(gone, end_of(gone));
-    form_text(before, left)
 }

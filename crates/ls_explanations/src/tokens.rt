@@ -4,7 +4,7 @@ ghost use Rattle.std.specs.Prelude.{◌≡◌, ◌≤◌, ◌-◌, ◌||◌, dro
 ghost use Rattle.std.specs.List.{before_first, suffix_len};
 ghost use Rattle.std.specs.Str.{bytes_eq};
 ghost use Rattle.ls_lexer.specs.Characters.{is_part, is_white};
-ghost use Rattle.ls_explanations.specs.Tokens.{byte_at, called_name, front_gap, front_name, last_byte, last_name};
+ghost use Rattle.ls_explanations.specs.Tokens.{byte_at, called_name, front_name, last_byte, last_name};
 ghost use Rattle.ls_explanations.specs.Tokens.{opens};
 
 use ls_lexer::characters::{is_part, is_white};
@@ -15,17 +15,6 @@ pub(crate) fn front_name(text: &[u8]) -> &[u8]
 {
     let mut end = 0;
     while end < text.len() && is_part(text[end]) {
-        end += 1;
-    }
-    &text[..end]
-}
-
-/// The white space at the front.
-pub(crate) fn front_gap(text: &[u8]) -> &[u8]
-    ensures { result.now ≡ front_gap text.now }
-{
-    let mut end = 0;
-    while end < text.len() && is_white(text[end]) {
         end += 1;
     }
     &text[..end]
