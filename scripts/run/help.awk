@@ -50,8 +50,9 @@ END {
         print "  listset " command " " files
         if (command == "find") {
             print ""
-            print "A line of the menu can be a word:"
+            print "A line of the menu can be a word, and so can one of the setup alone:"
             print "  listset find --menu \047lock(#); inc(); unlock(#)\047 --menu \047get()\047 my.java"
+            print "  listset find --setup-menu \047fill(2)\047 my.java"
         }
         if (spec) {
             print ""

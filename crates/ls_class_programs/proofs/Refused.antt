@@ -1,10 +1,11 @@
 -- Why a class text has no programs, fault by fault.
-use Rattle.std.proofs.Common.{◌≡◌, ◌∙◌, ◌<◌, ◌⊎◌, ◌↔◌, inl, inr, ℕ, List, [], Result, Ok, Err, length, map, ap}
+use Rattle.std.proofs.Common.{◌≡◌, ◌∙◌, ◌<◌, ◌⊎◌, ◌↔◌, inl, inr, ℕ, List, [], ◌∷◌, Result, Ok, Err, length, map, ap}
 use Rattle.std.proofs.Common.{sym, refl, subst}
 use Rattle.std.specs.Prelude.{IfErr, IsErrOf, Option, Some, slice_get, string_bytes, String}
 use Rattle.std.specs.Global.{Global}
 use Rattle.std.proofs.lemmas.List.{length-map, nil_from_length}
-use Rattle.ls_families.specs.Families.{count_of, family_of}
+use Rattle.ls_families.specs.Families.{HaveNone, count_of, family_of, sizes_of}
+use Rattle.ls_families.specs.declared.menus.MenuSizes.{MenuSizes}
 use Rattle.ls_families.specs.Shapes.{AreBad}
 use Rattle.ls_families.specs.declared.fault.FamilyFault.{FamilyFault}
 use Rattle.ls_families.specs.declared.fault.FamilyFault.TheVariants as family
@@ -22,20 +23,29 @@ use Rattle.ls_tree.specs.Views.{bare_class}
 use Rattle.ls_tree.specs.declared.tree.Class.{Class}
 use Rattle.ls_tree.specs.declared.tree.ClassFile.{ClassFile}
 use Rattle.ls_class_programs.specs.Limits.{AreTooMany}
-use Rattle.ls_class_programs.specs.Menus.{constructor_parameters, makings, only}
+use Rattle.ls_class_programs.specs.Menus.{constructor_parameters, from_to, makings}
 use Rattle.ls_class_programs.specs.declared.menu_fault.MenuFault.{MenuFault}
 use Rattle.ls_class_programs.specs.declared.menu_fault.MenuFault.TheVariants as menus
 use Rattle.ls_class_programs.specs.Chosen.{chosen}
 use Rattle.ls_class_programs.specs.ClassPrograms.{Chooses, IsClassFault, LacksAtPlace, LacksPrograms, NoFile}
-use Rattle.ls_class_programs.specs.ClassPrograms.{HasTooManyCalls, NoPrograms, OutOfMemory, menu_calls}
+use Rattle.ls_class_programs.specs.ClassPrograms.{HasTooManyCalls, NoPrograms, OutOfMemory, menu_of}
+use Rattle.ls_class_programs.specs.ClassPrograms.{own_calls, thread_calls}
+use Rattle.ls_class_programs.specs.Written.{or_those}
 use Rattle.ls_class_programs.specs.Lifted.{fault_of_family, fault_of_menu, fault_of_text}
 use Rattle.ls_class_programs.specs.declared.choosing.Choosing.{Choosing}
 use Rattle.ls_class_programs.specs.declared.fault.ClassFault.{ClassFault}
 use Rattle.ls_class_programs.specs.declared.fault.ClassFault.TheVariants as faults
 
+no_others : (these those : List Text) → or_those these those ≡ [] → those ≡ []
+no_others [] those none = none
+no_others (x ∷ these) those none = absurd (some_isnt none)
+  where
+    some_isnt : {y : Text} {ys : List Text} → y ∷ ys ≡ [] → ⊥
+    some_isnt e = cc
+
 module _ (o : Choosing) (menu : Option Text) (c : ClassTree) where
   pub makings_fail : {T : Type 0} (e : MenuFault) →
-      (IsErrOf {T = T} (Err e) menus.TooMany → AreTooMany (only o.given) (constructor_parameters c.members)) →
+      (IsErrOf {T = T} (Err e) menus.TooMany → AreTooMany (from_to o.given) (constructor_parameters c.members)) →
       LacksPrograms o menu c (fault_of_menu e)
   makings_fail menus.Memory many = tt
   makings_fail menus.TooMany many = inr (many refl)
@@ -45,24 +55,52 @@ module _ (o : Choosing) (menu : Option Text) (c : ClassTree) where
   calls_fail f (inl memory) = subst (LacksPrograms o menu c) (sym memory) tt
   calls_fail f (inr many) = subst (LacksPrograms o menu c) (sym many.0) (inl many.1)
 
-  pub making_fails : (f : ClassFault) (texts : List (String Global)) → map string_bytes texts ≡ makings o.given c →
-      (f ≡ faults.Memory) ⊎ ((f ≡ faults.NoMaking) × (map string_bytes texts ≡ [])) → LacksPrograms o menu c f
-  making_fails f texts are (inl memory) = subst (LacksPrograms o menu c) (sym memory) tt
-  making_fails f texts are (inr none) = subst (LacksPrograms o menu c) (sym none.0) (sym are ∙ none.1)
+  pub making_fails : (texts : List (String Global)) → map string_bytes texts ≡ makings o.given c →
+      length texts ≡ 0 → LacksPrograms o menu c faults.NoMaking
+  making_fails texts are none = sym are ∙ ap (map string_bytes) (nil_from_length texts none)
 
-  pub family_fails : {T : Type 0} (e : FamilyFault) (calls : List (String Global)) (n : ℕ) →
-      map string_bytes calls ≡ menu_calls menu o.values c → n ≡ length calls →
-      (IsErrOf {T = T} (Err e) family.NoCalls ↔ (n ≡ 0)) →
-      (IsErrOf {T = T} (Err e) family.BadBounds ↔ ((0 < n) × AreBad o.bounds)) →
-      (IsErrOf {T = T} (Err e) family.TooMany → 1000000 < count_of (family_of n o.bounds)) →
+  -- a menu that is held so, of which there are so many
+  pub record IsHeld (makings_held setup threads : List (String Global)) (z : MenuSizes) : Type 0 where
+    pub sizes : z ≡ record { makings = length makings_held; setup = length setup; threads = length threads }
+    pub some : ¬ (length makings_held ≡ 0)
+    pub made : map string_bytes makings_held ≡ makings o.given c
+    pub thread : map string_bytes threads ≡ thread_calls menu o.values c
+    pub own : map string_bytes setup ≡ or_those (own_calls menu) (map string_bytes threads)
+
+  held_sizes : (ms ss ts : List (String Global)) (z : MenuSizes) → IsHeld ms ss ts z → z ≡ sizes_of (menu_of o menu c)
+  held_sizes ms ss ts z held =
+      let first : length ms ≡ length (makings o.given c) = sym (length-map ms string_bytes) ∙ ap length held.made in
+      let last : length ts ≡ length (thread_calls menu o.values c) =
+      sym (length-map ts string_bytes) ∙ ap length held.thread in
+      let own : length ss ≡ length (or_those (own_calls menu) (thread_calls menu o.values c)) =
+      sym (length-map ss string_bytes) ∙ ap length (held.own ∙ ap (or_those (own_calls menu)) held.thread) in
+      held.sizes ∙ (λ i. record { makings = first i; setup = own i; threads = last i })
+
+  -- there is none of a menu only if threads have no calls
+  none_of_threads : (ms ss ts : List (String Global)) (z : MenuSizes) → IsHeld ms ss ts z → HaveNone z →
+      thread_calls menu o.values c ≡ []
+  none_of_threads ms ss ts z held (inl none) =
+      absurd (held.some (sym (ap (λ (y : MenuSizes). y.makings) held.sizes) ∙ none))
+  none_of_threads ms ss ts z held (inr (inl none)) =
+      let empty : map string_bytes ss ≡ [] =
+      ap (map string_bytes) (nil_from_length ss (sym (ap (λ (y : MenuSizes). y.setup) held.sizes) ∙ none)) in
+      no_others (own_calls menu) (thread_calls menu o.values c)
+      (ap (or_those (own_calls menu)) (sym held.thread) ∙ sym held.own ∙ empty)
+  none_of_threads ms ss ts z held (inr (inr none)) =
+      sym held.thread ∙
+      ap (map string_bytes) (nil_from_length ts (sym (ap (λ (y : MenuSizes). y.threads) held.sizes) ∙ none))
+
+  pub family_fails : {T : Type 0} (e : FamilyFault) (ms ss ts : List (String Global)) (z : MenuSizes) →
+      IsHeld ms ss ts z →
+      (IsErrOf {T = T} (Err e) family.NoCalls ↔ HaveNone z) →
+      (IsErrOf {T = T} (Err e) family.BadBounds ↔ ((¬ HaveNone z) × AreBad o.bounds)) →
+      (IsErrOf {T = T} (Err e) family.TooMany → 1000000 < count_of (family_of z o.bounds)) →
       LacksPrograms o menu c (fault_of_family e)
-  family_fails family.Memory calls n are is none bad many = tt
-  family_fails family.NoCalls calls n are is none bad many =
-      sym are ∙ ap (map string_bytes) (nil_from_length calls (sym is ∙ none.0 refl))
-  family_fails family.BadBounds calls n are is none bad many = (bad.0 refl).1
-  family_fails family.TooMany calls n are is none bad many =
-      let same : n ≡ length (menu_calls menu o.values c) = is ∙ sym (length-map calls string_bytes) ∙ ap length are in
-      subst (λ (k : ℕ). 1000000 < count_of (family_of k o.bounds)) same (many refl)
+  family_fails family.Memory ms ss ts z held none bad many = tt
+  family_fails family.NoCalls ms ss ts z held none bad many = none_of_threads ms ss ts z held (none.0 refl)
+  family_fails family.BadBounds ms ss ts z held none bad many = (bad.0 refl).1
+  family_fails family.TooMany ms ss ts z held none bad many =
+      subst (λ (y : MenuSizes). 1000000 < count_of (family_of y o.bounds)) (held_sizes ms ss ts z held) (many refl)
 
 of_err : {T E : Type 0} {a b : E} → IsErrOf {T = T} (Err a) b → a ≡ b
 of_err e = cc

@@ -4,6 +4,7 @@ use Rattle.std.specs.Prelude.{Option}
 use Rattle.std.specs.Prelude.{Some}
 use Rattle.std.specs.Prelude.{None}
 use Rattle.std.specs.List.{flat_map, list_any}
+use Rattle.ls_class_programs.specs.declared.arguments.Integers.{Integers}
 use Rattle.ls_tree.specs.Trees as trees
 use Rattle.ls_tree.specs.Trees.{ClassTree, Member, Modifier, Parameter, Text, TypeName}
 
@@ -14,12 +15,12 @@ integers =
 abbrev pub booleans : List Text
 booleans = codes "false" ∷ codes "true" ∷ []
 
--- the first so many integers, and the one that a number is
+-- the first so many integers, and those from one to another
 abbrev pub up_to : ℕ → List Text
 up_to most = take most integers
 
-abbrev pub only : ℕ → List Text
-only n = take 1 (drop (n - 1) integers)
+abbrev pub from_to : Integers → List Text
+from_to is = drop (is.first - 1) (up_to is.last)
 
 -- what an argument of a type may be: one of these integers, or a boolean; a reference may not be given
 abbrev pub arguments_of : List Text → TypeName → List Text
@@ -102,6 +103,6 @@ constructor_parameters (trees.Fields declaration ∷ more) = constructor_paramet
 abbrev pub making_text : Text → Text → Text
 making_text name arguments = codes "s = new " ++ (name ++ (codes "(" ++ (arguments ++ codes ");")))
 
--- all ways to make an object of a class whose constructor is given this integer
-abbrev pub makings : ℕ → ClassTree → List Text
-makings given c = map (making_text c.name) (all_arguments (only given) (constructor_parameters c.members))
+-- all ways to make an object of a class whose constructor is given these integers
+abbrev pub makings : Integers → ClassTree → List Text
+makings given c = map (making_text c.name) (all_arguments (from_to given) (constructor_parameters c.members))

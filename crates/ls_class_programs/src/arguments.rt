@@ -5,7 +5,7 @@ ghost use Rattle.std.specs.Prelude.{string_bytes};
 ghost use Rattle.ls_items.specs.Cutting.{plain_text};
 ghost use Rattle.ls_tree.specs.Views.{bare_parameter, bare_type};
 ghost use Rattle.ls_class_programs.specs.Limits.{AreTooMany};
-ghost use Rattle.ls_class_programs.specs.Menus.{all_arguments, and_then, arguments_of, only, up_to, with_argument};
+ghost use Rattle.ls_class_programs.specs.Menus.{all_arguments, and_then, arguments_of, from_to, up_to, with_argument};
 
 use crate::menu_fault::MenuFault;
 use ls_tree::tree::{Parameter, Type};
@@ -25,21 +25,35 @@ static BOOLEANS: [&str; 2] = ["false", "true"];
 pub(crate) fn up_to(most: usize) -> &'static [&'static str]
     requires { most ≤ 9 }
     ensures is { map plain_text result.now ≡ up_to most }
-    ensures few { length result.now ≤ 9 }
+    ensures many { length result.now ≡ most }
 {
     &INTEGERS[..most]
 }
 
-/// The integer that a number is.
-pub(crate) fn only(number: usize) -> &'static [&'static str]
-    requires some { 0 < number }
-    requires few { number ≤ 9 }
-    ensures is { map plain_text result.now ≡ only number }
+/// Integers, from one to another.
+#[derive(Copy)]
+pub struct Integers {
+    pub first: u64,
+    pub last: u64,
+}
+
+impl Clone for Integers {
+    fn clone(&self) -> Result<Integers, AllocError> {
+        Ok(*self)
+    }
+}
+
+/// Those of the nine integers that stand from one to another.
+pub(crate) fn from_to(integers: Integers) -> &'static [&'static str]
+    requires some { 0 < integers.first }
+    requires order { integers.first ≤ integers.last }
+    requires few { integers.last ≤ 9 }
+    ensures is { map plain_text result.now ≡ from_to integers }
     ensures few { length result.now ≤ 9 }
 {
-    let all: &'static [&'static str] = &INTEGERS;
-    let (_, from_on) = all.split_at(number - 1);
-    &from_on[..1]
+    let all = up_to(integers.last as usize);
+    let (_, from_on) = all.split_at((integers.first - 1) as usize);
+    from_on
 }
 
 /// What an argument of a type may be, where an int is one of these integers.

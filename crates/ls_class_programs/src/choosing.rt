@@ -5,6 +5,7 @@ ghost use Rattle.ls_lexer.specs.Lexemes.{lexemes};
 ghost use Rattle.ls_tree.specs.Views.{bare_class};
 ghost use Rattle.ls_class_programs.specs.Chosen.{chosen, numbered};
 
+use crate::arguments::Integers;
 use crate::meant;
 use ls_families::Bounds;
 use ls_lexer::token::Token;
@@ -18,8 +19,8 @@ pub struct Choosing {
     pub class: Option<u64>,
     /// An int argument is one of so many integers, from 1.
     pub values: u64,
-    /// The integer that the constructor is given.
-    pub given: u64,
+    /// An int of the constructor is one of these integers.
+    pub given: Integers,
     pub bounds: Bounds,
 }
 

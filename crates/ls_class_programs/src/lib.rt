@@ -14,7 +14,7 @@ mod placing;
 mod programs;
 mod written;
 
-pub use arguments::MOST_VALUES;
+pub use arguments::{Integers, MOST_VALUES};
 pub use checking::check_entries;
 pub use choosing::Choosing;
 pub use class_meant::meant;

@@ -7,9 +7,10 @@ ghost use Rattle.ls_tree.specs.Views.{bare_type};
 ghost use Rattle.ls_class_programs.specs.Limits.{AreTooMany, ClassHasTooMany, HasTooMany};
 ghost use Rattle.ls_class_programs.specs.Menus.{all_arguments, call_text, class_calls, constructor_parameters};
 ghost use Rattle.ls_class_programs.specs.Menus.{is_callable};
-ghost use Rattle.ls_class_programs.specs.Menus.{is_plain, is_private, making_text, makings, member_calls, only, up_to};
+ghost use Rattle.ls_class_programs.specs.Menus.{from_to, is_plain, is_private, making_text, makings, member_calls};
+ghost use Rattle.ls_class_programs.specs.Menus.{up_to};
 
-use crate::arguments::{all_arguments, only, up_to};
+use crate::arguments::{Integers, all_arguments, from_to, up_to};
 use crate::menu_fault::MenuFault;
 use ls_tree::tree::{Class, Member, Method, Modifier, Parameter, Type};
 use std::alloc::{AllocError, Global};
@@ -202,19 +203,20 @@ fn makings_with(alloc: Global, name: &str, arguments: &[String]) -> Result<Vec<S
 }
 
 /// All makings of an object `s` of a class, by its first constructor, or without one; none if that takes a reference.
-/// An int is this integer. The last argument changes first.
+/// An int is one of these integers. The last argument changes first.
 ///
 /// `TooMany` comes only if some first parameters of the constructor have more than 1,000 lists of arguments. Else the
 /// only refusal is that memory ran out.
-pub fn makings_of(alloc: Global, given: usize, class: &Class) -> Result<Vec<String>, MenuFault>
-    requires some { 0 < given }
-    requires few { given ≤ 9 }
+pub fn makings_of(alloc: Global, given: Integers, class: &Class) -> Result<Vec<String>, MenuFault>
+    requires some { 0 < given.first }
+    requires order { given.first ≤ given.last }
+    requires few { given.last ≤ 9 }
     ensures makings { IfOk result (λ all. map string_bytes all.items ≡ makings given (bare_class class.now)) }
     ensures many { IsErrOf result MenuFault.TooMany →
-        AreTooMany (only given) (constructor_parameters (bare_class class.now).members) }
+        AreTooMany (from_to given) (constructor_parameters (bare_class class.now).members) }
 {
     let parameters = constructor_parameters(class.members.as_slice());
-    let arguments = all_arguments(alloc, only(given), parameters)?;
+    let arguments = all_arguments(alloc, from_to(given), parameters)?;
     let makings = makings_with(alloc, class.name.text.as_str(), arguments.as_slice())?;
     Ok(makings)
 }

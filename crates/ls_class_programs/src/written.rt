@@ -3,8 +3,10 @@
 ghost use Rattle.std.specs.Prelude.{◌≡◌, ◌<◌, ◌++◌, ◌==◌, [], IfOk, OnOk, map, string_bytes};
 ghost use Rattle.std.specs.List.{slice_split};
 ghost use Rattle.ls_items.specs.Cutting.{plain_text};
-ghost use Rattle.ls_class_programs.specs.Written.{and_call, entries, entry_of, line_calls, opens_comment, with_calls};
+ghost use Rattle.ls_class_programs.specs.Written.{and_call, entries, entry_of, line_calls, line_parts};
+ghost use Rattle.ls_class_programs.specs.Written.{opens_comment, with_calls};
 
+use ls_report::cuts::cut;
 use std::alloc::{AllocError, Global};
 use std::marker::Model;
 
@@ -12,6 +14,7 @@ use std::marker::Model;
 #[derive(Drop)]
 pub struct Entry {
     at: usize,
+    of_setup: bool,
     calls: String,
 }
 
@@ -21,7 +24,7 @@ impl Model for Entry {
 
     ghost Value = { EntryValue };
 
-    ghost view = { λ e. record { at = e.at; calls = string_bytes e.calls } };
+    ghost view = { λ e. record { at = e.at; of_setup = e.of_setup; calls = string_bytes e.calls } };
 }
 
 impl Entry {
@@ -32,6 +35,13 @@ impl Entry {
         ensures { result ≡ self.now.at }
     {
         self.at
+    }
+
+    /// Whether it is one of the setup alone.
+    pub fn is_of_setup(&self) -> bool
+        ensures { result ≡ self.now.of_setup }
+    {
+        self.of_setup
     }
 
     /// Its calls, as `s.lock(#); s.unlock(#);`.
@@ -98,18 +108,38 @@ fn line_calls(alloc: Global, line: &str) -> Result<String, AllocError>
     with_calls(alloc, pieces.as_slice())
 }
 
+/// Whether the text `setup:` stands before the calls of a line, and what stands there of its calls.
+fn line_parts(line: &str) -> (bool, &str)
+    ensures { (result.0, result.1.now) ≡ line_parts line.now }
+{
+    match cut(line, ':') {
+        Some((front, rest)) if front.trim() == "setup" => (true, rest),
+        _ => (false, line),
+    }
+}
+
 /// Adds the entry of a line that begins at a byte, unless it has no calls.
-fn push_entry(entries: &mut Vec<Entry>, at: usize, calls: String) -> Result<(), AllocError>
-    ensures { OnOk result (entries.new.items ≡ entries.old.items ++ entry_of at (string_bytes calls)) }
+fn push_entry(
+    entries: &mut Vec<Entry>,
+    at: usize,
+    of_setup: bool,
+    calls: String,
+) -> Result<(), AllocError>
+    ensures { OnOk result (entries.new.items ≡ entries.old.items ++ entry_of at of_setup (string_bytes calls)) }
 {
     if !calls.is_empty() {
-        entries.push(Entry { at, calls })?;
+        entries.push(Entry {
+            at,
+            of_setup,
+            calls,
+        })?;
     }
     Ok(())
 }
 
 /// The entries of a menu that is written by hand. Each line is one, but for those that are empty or begin with `//`.
-/// Its calls are separated by `;`, and the object isn't named. The only refusal is that memory ran out.
+/// Its calls are separated by `;`, and the object isn't named. An entry of the setup alone begins with `setup:`. The
+/// only refusal is that memory ran out.
 pub fn entries_of(alloc: Global, text: &str) -> Result<Vec<Entry>, AllocError>
     ensures { IfOk result (λ all. all.items ≡ entries text.now) }
 {
@@ -117,8 +147,9 @@ pub fn entries_of(alloc: Global, text: &str) -> Result<Vec<Entry>, AllocError>
     let mut all = Vec::new(alloc);
     let mut at = 0;
     for line in &lines {
-        let calls = line_calls(alloc, line)?;
-        push_entry(&mut all, at, calls)?;
+        let (of_setup, part) = line_parts(line);
+        let calls = line_calls(alloc, part)?;
+        push_entry(&mut all, at, of_setup, calls)?;
         at += line.len() + 1;
     }
     Ok(all)

@@ -163,11 +163,13 @@ bounds_line =
     (with_rule
     (with_rule
     (with_rule
+    (with_rule
     (with_rule (with_explain (codes "find")) (number_rule false (codes "threads")))
     (number_rule false (codes "calls")))
     (number_rule false (codes "setup")))
     (number_rule false (codes "values")))
-    (number_rule false (codes "new"))
+    (number_rule false (codes "new")))
+    (number_rule false (codes "new-to"))
 
 abbrev pub numbers_line : App
 numbers_line =
@@ -313,7 +315,8 @@ asked_find rows = record {
   calls = number_of (codes "calls") 2 rows;
   setup = number_of (codes "setup") 1 rows;
   values = number_of (codes "values") 2 rows;
-  given = number_of (codes "new") 1 rows;
+  first_given = number_of (codes "new") 1 rows;
+  last_given = number_of (codes "new-to") (number_of (codes "new") 2 rows) rows;
   class = number_asked (codes "class") rows;
   states = number_of (codes "states") 200000 rows;
   from = number_of (codes "from") 1 rows;

@@ -107,7 +107,7 @@ fn bounds_command<'a>(alloc: Global) -> Result<Command<'a>, AllocError>
         "Finds the first small program of a class that isn't linearizable, or whose threads wait or turn for ever",
         "Standard input is a class text. As a second part, after a line %%, it may have a menu in place of the class's \
          methods. A line of it has calls that stand together, as lock(#); \
-         unlock(#), where # is the thread's number:\n  \
+         unlock(#), where # is the thread's number. With setup: before them they are calls of the setup alone:\n  \
          printf 'class C { int n; int next() { n = n + 1; return n; } }' | listset find",
     );
     let threads = number_option(
@@ -142,9 +142,16 @@ fn bounds_command<'a>(alloc: Global) -> Result<Command<'a>, AllocError>
         alloc,
         "new",
         false,
-        "the integer that the constructor is given, 1 to 9 [default: 1]",
+        "the first integer that the constructor is given, 1 to 9 [default: 1]",
     );
-    with_option(command, given)
+    let command = with_option(command, given);
+    let last_given = number_option(
+        alloc,
+        "new-to",
+        false,
+        "the last integer that it is given, up to 9 [default: that of --new, or 2 without --new]",
+    );
+    with_option(command, last_given)
 }
 
 /// The command with these bounds, and the numbers of the programs that it looks through.

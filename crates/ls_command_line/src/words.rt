@@ -34,8 +34,9 @@ pub struct Seeking {
     pub setup: u64,
     /// An int argument is one of so many integers, from 1.
     pub values: u64,
-    /// The integer that the constructor is given.
-    pub given: u64,
+    /// An int of the constructor is one of the integers from the first to the last.
+    pub first_given: u64,
+    pub last_given: u64,
     /// The number of the class, from 1, if it isn't the one that no other names.
     pub class: Option<u64>,
     /// The most states of a program that are kept.
@@ -358,7 +359,8 @@ fn asked_find(options: &ArgMatches<'_>) -> Seeking
         calls: number(options, "calls", 2),
         setup: number(options, "setup", 1),
         values: number(options, "values", 2),
-        given: number(options, "new", 1),
+        first_given: number(options, "new", 1),
+        last_given: number(options, "new-to", number(options, "new", 2)),
         class: number_asked(options, "class"),
         states: number(options, "states", STATES_OF_EACH),
         from: number(options, "from", 1),

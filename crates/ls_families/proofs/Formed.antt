@@ -9,12 +9,12 @@ use Rattle.std.proofs.lemmas.List.Elements.{All-contains, All-weaker}
 use Rattle.std.proofs.lemmas.List.Sums.{sum_by-cons, sum_by-le}
 use Rattle.ls_families.specs.Shapes.{Shape, but_setup, calls_of, fewest, fits, rises, shape_of, shapes, with_calls}
 use Rattle.ls_families.specs.Shapes.{with_setup, with_threads}
-use Rattle.ls_families.specs.Belonging.{IsShapeOf}
+use Rattle.ls_families.specs.Belonging.{IsPlace, IsShapeOf}
 use Rattle.ls_families.specs.declared.shapes.Bounds.{Bounds}
 use Rattle.ls_families.proofs.Members.{In, Pairs, contains_from_in, from_filter, from_map, from_piece, from_range}
 use Rattle.ls_families.proofs.Members.{pairs_filter, pairs_map, pairs_pieces, pairs_range, pairs_weaker, to_filter}
 use Rattle.ls_families.proofs.Members.{to_map, to_piece, to_range}
-use Rattle.ls_families.proofs.Numbers.{IsChoice, choices_differ, choices_long, choices_within, have_number}
+use Rattle.ls_families.proofs.Numbers.{choices_differ, choices_long, choices_within, have_number}
 
 -- ---- what fits
 
@@ -37,7 +37,7 @@ record Known (b : Bounds) (total p k : ℕ) (s : Shape) : Type 0 where
   pub calls : calls_of s ≡ total
   pub setup : s.setup ≡ p
   pub long : length s.threads ≡ k
-  pub within : All (IsChoice b.calls) s.threads
+  pub within : All (IsPlace b.calls) s.threads
   pub rising : rises 0 s.threads ≡ true
 
 from_threads : (b : Bounds) (total p k : ℕ) (s : Shape) →
@@ -52,7 +52,7 @@ from_threads b total p k s some h =
       calls = fit.1;
       setup = sym (ap (λ (t : Shape). t.setup) from.2);
       long = sym (ap (λ (t : Shape). length t.threads) from.2) ∙ choices_long b.calls k from.0;
-      within = subst (λ (t : Shape). All (IsChoice b.calls) t.threads) from.2 (choices_within b.calls k from.0 some);
+      within = subst (λ (t : Shape). All (IsPlace b.calls) t.threads) from.2 (choices_within b.calls k from.0 some);
       rising = fit.0;
     }
 
@@ -100,8 +100,8 @@ no_fewer (x ∷ xs) each =
 
 pub to_shapes : (b : Bounds) (s : Shape) → IsShapeOf b s → In (shapes b) s
 to_shapes b s is =
-    let each : (c : ℕ) → In s.threads c → IsChoice b.calls c =
-    λ c h. All-contains (IsChoice b.calls) s.threads c is.calls (contains_from_in s.threads c h) in
+    let each : (c : ℕ) → In s.threads c → IsPlace b.calls c =
+    λ c h. All-contains (IsPlace b.calls) s.threads c is.calls (contains_from_in s.threads c h) in
     let k : ℕ = length s.threads in
     let number = have_number b.calls s.threads each in
     let same : shape_of b s.setup (length s.threads) number.0 ≡ s =
@@ -115,7 +115,7 @@ to_shapes b s is =
     (range_with_len 0 (b.calls ^ length s.threads))) s (is_fit s is.rising) made in
     let low = no_fewer s.threads (λ c h. (each c h).0) in
     let most = sum_by-le (λ k. k) b.calls s.threads
-    (All-weaker (IsChoice b.calls) (λ c. c ≤ b.calls) (λ c choice. choice.1) s.threads is.calls) in
+    (All-weaker (IsPlace b.calls) (λ c. c ≤ b.calls) (λ c choice. choice.1) s.threads is.calls) in
     let scaled = mul-le-mul_right b.calls is.threads in
     let back : s.setup ≡ b.setup - (b.setup - s.setup) = omega (arith, is.setup) in
     to_piece (with_calls b) (range_with_len (fewest b) (b.setup + b.threads * b.calls + 1 - fewest b)) (calls_of s) s

@@ -7,12 +7,9 @@ use Rattle.std.proofs.Math.Nat.{mod-eq_of_lt, mul-add-mod_self_right, mul-le-mul
 use Rattle.std.proofs.lemmas.List.{length_push, length-reverse, reverse-reverse, reverse-append, same_from_push}
 use Rattle.std.proofs.lemmas.List.Elements.{All-nil, All-push}
 use Rattle.std.proofs.lemmas.Nat.{div-mul-add, div_below, mod_below, div-add-mod'}
+use Rattle.ls_families.specs.Belonging.{IsPlace}
 use Rattle.ls_families.specs.Choices.{choices}
 use Rattle.ls_families.proofs.Members.{In, in_cases}
-
--- a choice out of so many
-abbrev pub IsChoice : ℕ → ℕ → Type 0
-IsChoice m c = (0 < c) × (c ≤ m)
 
 pub choices_long : (m n r : ℕ) → length (choices m n r) ≡ n
 choices_long m zero r = refl
@@ -20,11 +17,11 @@ choices_long m (suc n) r =
     let before = choices_long m n (r / m) in
     length_push (choices m n (r / m)) (r % m + 1) ∙ omega (arith, before)
 
-pub choices_within : (m n r : ℕ) → 0 < m → All (IsChoice m) (choices m n r)
-choices_within m zero r some = All-nil (IsChoice m)
+pub choices_within : (m n r : ℕ) → 0 < m → All (IsPlace m) (choices m n r)
+choices_within m zero r some = All-nil (IsPlace m)
 choices_within m (suc n) r some =
     let below = mod_below r m some in
-    All-push (IsChoice m) (choices m n (r / m)) (r % m + 1) (choices_within m n (r / m) some)
+    All-push (IsPlace m) (choices m n (r / m)) (r % m + 1) (choices_within m n (r / m) some)
     (omega arith, omega (arith, below))
 
 -- different numbers below the power make different choices
@@ -51,7 +48,7 @@ abbrev number_of : ℕ → List ℕ → ℕ
 number_of m [] = 0
 number_of m (c ∷ cs) = number_of m cs * m + (c - 1)
 
-number_below : (m : ℕ) (cs : List ℕ) → ((c : ℕ) → In cs c → IsChoice m c) → number_of m cs < m ^ length cs
+number_below : (m : ℕ) (cs : List ℕ) → ((c : ℕ) → In cs c → IsPlace m c) → number_of m cs < m ^ length cs
 number_below m [] each = omega (arith, pow-zero m)
 number_below m (c ∷ cs) each =
     let choice = each c (inl refl) in
@@ -62,7 +59,7 @@ number_below m (c ∷ cs) each =
     omega (arith, choice.0, choice.1, scaled, power)
 
 numbered : (m : ℕ) (cs : List ℕ) →
-    ((c : ℕ) → In cs c → IsChoice m c) →
+    ((c : ℕ) → In cs c → IsPlace m c) →
     choices m (length cs) (number_of m cs) ≡ reverse cs
 numbered m [] each = refl
 numbered m (c ∷ cs) each =
@@ -86,10 +83,10 @@ in_reverse (d ∷ cs) c h =
 
 -- each choices have a number
 pub have_number : (m : ℕ) (cs : List ℕ) →
-    ((c : ℕ) → In cs c → IsChoice m c) →
+    ((c : ℕ) → In cs c → IsPlace m c) →
     (r : ℕ) × (r < m ^ length cs) × (choices m (length cs) r ≡ cs)
 have_number m cs each =
-    let back : (c : ℕ) → In (reverse cs) c → IsChoice m c = λ c h. each c (in_reverse cs c h) in
+    let back : (c : ℕ) → In (reverse cs) c → IsPlace m c = λ c h. each c (in_reverse cs c h) in
     let long = length-reverse cs in (
       number_of m (reverse cs),
       subst (λ k. number_of m (reverse cs) < m ^ k) long (number_below m (reverse cs) back),

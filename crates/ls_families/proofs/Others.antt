@@ -1,7 +1,7 @@
 -- Plans with two threads exchanged, and where they stand.
 use Rattle.std.proofs.Common.{◌≡◌, ◌∙◌, ◌⊎◌, inl, inr, ◌+◌, ◌*◌, ◌/◌, ◌%◌, ◌^◌, ◌<◌, ◌≤◌, ◌&&◌, ◌||◌, ◌==◌}
 use Rattle.std.proofs.Common.{ℕ, zero, suc, Bool, true, false, cond, List, [], ◌∷◌, ◌++◌, Some, ap, arith, drop, length}
-use Rattle.std.proofs.Common.{refl, subst, sym, take}
+use Rattle.std.proofs.Common.{refl, subst, sum, sym, take}
 use Rattle.std.specs.Prelude.{All, AllPairs, nat_lt, slice_index_or}
 use Rattle.std.specs.List.{range_with_len}
 use Rattle.std.proofs.lemmas.Bool.{cases_lt, eq-eqb, eqb-true, ltb-true, true≢false}
@@ -10,17 +10,22 @@ use Rattle.std.proofs.lemmas.List.Elements.{All-append, All-drop, All-nil, All-t
 use Rattle.std.proofs.lemmas.Nat.{div-add-mod', div_below, mod_below}
 use Rattle.std.proofs.lemmas.Option.{slice_get-get_or, slice_get_within}
 use Rattle.std.proofs.Math.Nat.{mul-le-mul_right, pow-suc}
-use Rattle.ls_families.specs.Belonging.{IsPlanOf}
+use Rattle.std.proofs.Math.Seq.{drop-append_seam, take-append_seam}
+use Rattle.ls_families.specs.Belonging.{IsPlace, IsPlanOf}
 use Rattle.ls_families.specs.Choices.{choices}
 use Rattle.ls_families.specs.Doubles.{OtherStandsBefore, exchanged_calls, has_greater, is_exchanged, is_greater}
 use Rattle.ls_families.specs.Doubles.{other_of}
-use Rattle.ls_families.specs.Families.{Plan, family_of, plan_of, plans, plans_of}
-use Rattle.ls_families.specs.Shapes.{Shape, calls_of, shapes}
+use Rattle.ls_families.specs.Families.{HaveNone, Plan, family_of, of_setup, of_threads, plan_of, plans, plans_of}
+use Rattle.ls_families.specs.Families.{size_of}
+use Rattle.ls_families.specs.Shapes.{Shape, shapes}
+use Rattle.ls_families.specs.declared.menus.MenuSizes.{MenuSizes}
 use Rattle.ls_families.specs.declared.shapes.Bounds.{Bounds}
-use Rattle.ls_families.proofs.Belongs.{each_belongs, shape_is}
+use Rattle.ls_families.proofs.Belongs.{each_belongs, setup_calls_long, setup_long, shape_is, some_of_setup}
+use Rattle.ls_families.proofs.Belongs.{some_of_threads, some_setup, some_threads}
 use Rattle.ls_families.proofs.Formed.{InOrder, shapes_in_order}
-use Rattle.ls_families.proofs.Members.{Pairs, all_pairs, from_range, pairs_map, pairs_pieces, pairs_range}
+use Rattle.ls_families.proofs.Members.{Pairs, all_pairs, pairs_map, pairs_pieces, pairs_range}
 use Rattle.ls_families.proofs.Numbers.{choices_differ, choices_long}
+use Rattle.ls_families.proofs.Parted.{less_number}
 
 -- ---- two threads exchanged are as many calls, and the same ones
 
@@ -155,32 +160,73 @@ greater_after m (suc n) i j some low high is =
           omega (arith, scaled, first, second, g.1)
     ]
 
--- ---- so no plan stands before a lesser one of its shape
+-- ---- so no plan stands before a lesser one of its shape and making
+
+-- calls that are greater are so in the setup, or there they are the same and those of the threads are greater
+greater_parts : (as' bs xs ys : List ℕ) → length as' ≡ length bs → is_greater (as' ++ xs) (bs ++ ys) ≡ true →
+    (is_greater as' bs ≡ true) ⊎ ((as' ≡ bs) × (is_greater xs ys ≡ true))
+greater_parts [] [] xs ys same is = inr (refl, is)
+greater_parts [] (y ∷ bs) xs ys same is = absurd (omega (arith, same))
+greater_parts (x ∷ as') [] xs ys same is = absurd (omega (arith, same))
+greater_parts (a ∷ as') (b ∷ bs) xs ys same is = go (greater_parts as' bs xs ys (omega (arith, same))) (a == b) refl is
+  where
+    go : (is_greater (as' ++ xs) (bs ++ ys) ≡ true → (is_greater as' bs ≡ true) ⊎
+        ((as' ≡ bs) × (is_greater xs ys ≡ true))) →
+        (t : Bool) → (a == b) ≡ t → cond t (is_greater (as' ++ xs) (bs ++ ys)) (nat_lt b a) ≡ true →
+        (is_greater (a ∷ as') (b ∷ bs) ≡ true) ⊎ ((a ∷ as' ≡ b ∷ bs) × (is_greater xs ys ≡ true))
+    go more true at e = elim (more e) [
+      | inl g ↦ inl (ap (λ t. cond t (is_greater as' bs) (nat_lt b a)) at ∙ g)
+      | inr g ↦ inr ((λ i. eqb-true a b at i ∷ g.0 i), g.1)
+    ]
+    go more false at e = inl (ap (λ t. cond t (is_greater as' bs) (nat_lt b a)) at ∙ e)
+
+-- of two numbers of a shape, with the same making, that of the greater calls is the greater
+greater_plan : (z : MenuSizes) (s : Shape) (i j : ℕ) → ¬ HaveNone z →
+    (plan_of z s i).making ≡ (plan_of z s j).making →
+    is_greater (plan_of z s i).calls (plan_of z s j).calls ≡ true → j < i
+greater_plan z s i j some made greater =
+    let u = of_setup z s in
+    let t = of_threads z s in
+    let low : (n : ℕ) → n % u < u = λ n. mod_below n u (some_of_setup z s some) in
+    let less : (n : ℕ) → n % t < t = λ n. mod_below n t (some_of_threads z s some) in
+    let first : i / t / u ≡ j / t / u = omega (arith, made) in
+    let long : length (choices z.setup s.setup (i / t % u)) ≡ length (choices z.setup s.setup (j / t % u)) =
+    setup_long z s (i / t % u) ∙ sym (setup_long z s (j / t % u)) in
+    let others = choices z.threads (sum s.threads) in
+    less_number u t i j (some_of_threads z s some) first
+    (elim (greater_parts (choices z.setup s.setup (i / t % u)) (choices z.setup s.setup (j / t % u)) (others (i % t))
+    (others (j % t)) long greater) [
+      | inl g ↦ inl (greater_after z.setup s.setup (i / t % u) (j / t % u) (some_setup z some) (low (i / t))
+          (low (j / t)) g)
+      | inr g ↦ inr (
+        choices_differ z.setup s.setup (j / t % u) (i / t % u) (some_setup z some) (low (j / t)) (low (i / t))
+            (sym g.0),
+        greater_after z.threads (sum s.threads) (i % t) (j % t) (some_threads z some) (less i) (less j) g.1,
+      )
+    ])
 
 abbrev Rising : Plan → Plan → Type 0
-Rising p q = p.shape ≡ q.shape → is_greater p.calls q.calls ≡ true → ⊥
+Rising p q = p.shape ≡ q.shape → p.making ≡ q.making → is_greater p.calls q.calls ≡ true → ⊥
 
-rise_in : (menu : ℕ) (s : Shape) → 0 < menu → Pairs Rising (plans_of menu s)
-rise_in menu s some =
-    pairs_map (λ i j. i < j) Rising (plan_of menu s) (range_with_len 0 (menu ^ calls_of s))
-    (pairs_range 0 (menu ^ calls_of s))
-    (λ i j hi hj below same greater.
-    let low = from_range 0 (menu ^ calls_of s) i hi in
-    let high = from_range 0 (menu ^ calls_of s) j hj in
-    let after = greater_after menu (calls_of s) i j some (omega (arith, low.1)) (omega (arith, high.1)) greater in
+rise_in : (z : MenuSizes) (s : Shape) → ¬ HaveNone z → Pairs Rising (plans_of z s)
+rise_in z s some =
+    pairs_map (λ i j. i < j) Rising (plan_of z s) (range_with_len 0 (size_of z s))
+    (pairs_range 0 (size_of z s))
+    (λ i j hi hj below same made greater.
+    let after = greater_plan z s i j some made greater in
     omega (arith, below, after))
 
-rise : (menu : ℕ) (b : Bounds) → 0 < menu → 0 < b.calls → AllPairs Rising (plans (family_of menu b))
-rise menu b some calls =
-    all_pairs Rising (plans (family_of menu b))
-    (pairs_pieces InOrder Rising (plans_of menu) (shapes b) (shapes_in_order b calls) (λ s h. rise_in menu s some)
-    (λ s t p q order hp hq same greater.
-    order.0 (sym (shape_is menu s p hp) ∙ same ∙ shape_is menu t q hq)))
+rise : (z : MenuSizes) (b : Bounds) → ¬ HaveNone z → 0 < b.calls → AllPairs Rising (plans (family_of z b))
+rise z b some calls =
+    all_pairs Rising (plans (family_of z b))
+    (pairs_pieces InOrder Rising (plans_of z) (shapes b) (shapes_in_order b calls) (λ s h. rise_in z s some)
+    (λ s t p q order hp hq same made greater.
+    order.0 (sym (shape_is z s p hp) ∙ same ∙ shape_is z t q hq)))
 
 -- ---- the other plan
 
-is_within : (menu : ℕ) (b : Bounds) (p : Plan) → IsPlanOf menu b p → IsPlanOf menu b (other_of p)
-is_within menu b p is =
+is_within : (z : MenuSizes) (b : Bounds) (p : Plan) → IsPlanOf z b p → IsPlanOf z b (other_of p)
+is_within z b p is =
     let setup = take p.shape.setup p.calls in
     let rest = drop p.shape.setup p.calls in
     let others = exchanged_calls 0 [] p.shape.threads rest in
@@ -193,12 +239,18 @@ is_within menu b p is =
       length-append setup rest,
       ap length whole,
     ) in
-    let Listed = λ (c : ℕ). (0 < c) × (c ≤ menu) in
+    let has : length setup ≡ p.shape.setup = setup_calls_long p is.many in
+    let first : take p.shape.setup (setup ++ others) ≡ setup =
+    ap (λ k. take k (setup ++ others)) (sym has) ∙ take-append_seam setup others in
+    let second : drop p.shape.setup (setup ++ others) ≡ others =
+    ap (λ k. drop k (setup ++ others)) (sym has) ∙ drop-append_seam setup others in
     record {
       shape = is.shape;
       many = many ∙ is.many;
-      listed = All-append Listed setup others (All-take Listed p.shape.setup p.calls is.listed)
-          (all Listed 0 [] p.shape.threads rest (All-nil Listed) (All-drop Listed p.shape.setup p.calls is.listed));
+      made = is.made;
+      setup = subst (All (IsPlace z.setup)) (sym first) is.setup;
+      threads = subst (All (IsPlace z.threads)) (sym second)
+          (all (IsPlace z.threads) 0 [] p.shape.threads rest (All-nil (IsPlace z.threads)) is.threads);
     }
 
 is_less : (p : Plan) → is_exchanged p ≡ true → is_greater p.calls (other_of p).calls ≡ true
@@ -213,17 +265,18 @@ some_is : {X : Type 0} {x y : X} → Some x ≡ Some y → x ≡ y
 some_is e = cc
 
 pub other_stands_before : OtherStandsBefore
-other_stands_before menu b n p some calls there exchanged =
-    let xs = plans (family_of menu b) in
+other_stands_before z b n p some calls there exchanged =
+    let xs = plans (family_of z b) in
     let inside : n < length xs = slice_get_within xs n p there in
     let at : (d : Plan) → slice_index_or xs n d ≡ p = λ d. some_is (sym (slice_get-get_or xs n d inside) ∙ there) in
-    let is : IsPlanOf menu b p = (each_belongs menu b p some calls).0 (n, inside, at p) in
-    let other = (each_belongs menu b (other_of p) some calls).1 (is_within menu b p is) in
+    let is : IsPlanOf z b p = (each_belongs z b p some calls).0 (n, inside, at p) in
+    let other = (each_belongs z b (other_of p) some calls).1 (is_within z b p is) in
     let m = other.0 in
     let less = is_less p exchanged in
     let later : n < m → ⊥ =
-    λ below. rise menu b some calls n m (other_of p) below other.1 (ap (λ (q : Plan). q.shape) (at (other_of p)) ∙
+    λ below. rise z b some calls n m (other_of p) below other.1 (ap (λ (q : Plan). q.shape) (at (other_of p)) ∙
     sym (ap (λ (q : Plan). q.shape) other.2))
+    (ap (λ (q : Plan). q.making) (at (other_of p)) ∙ sym (ap (λ (q : Plan). q.making) other.2))
     (ap (λ (q : Plan). is_greater q.calls (slice_index_or xs m (other_of p)).calls) (at (other_of p)) ∙
     ap (λ (q : Plan). is_greater p.calls q.calls) other.2 ∙ less) in
     let apart : n ≡ m → ⊥ =

@@ -7,6 +7,7 @@ ghost use Rattle.ls_families.specs.Families.{plans};
 use crate::choosing::number_of;
 use crate::doubles::other_of;
 use crate::families::{Family, Plan};
+use crate::parts::parted;
 use std::alloc::{AllocError, Global};
 
 /// Whether two plans are one.
@@ -15,11 +16,14 @@ fn is_same(first: &Plan<'_>, second: &Plan<'_>) -> bool
 {
     first.shape().setup() == second.shape().setup()
         && first.shape().threads() == second.shape().threads()
+        && first.making() == second.making()
         && first.calls() == second.calls()
 }
 
-/// The number at which a plan is looked for, if another of its shape has this number.
-fn guessed(menu: u64, number: u64, calls: &[u64], others: &[u64]) -> Option<u64> {
+/// The number at which another plan is looked for whose threads alone have other calls, if a plan has this number.
+fn guessed(menu: u64, number: u64, plan: &Plan<'_>, other: &Plan<'_>) -> Option<u64> {
+    let (_, calls) = parted(plan.calls(), plan.shape().setup());
+    let (_, others) = parted(other.calls(), other.shape().setup());
     let first = number.checked_sub(number_of(menu, calls)?)?;
     first.checked_add(number_of(menu, others)?)
 }
@@ -35,7 +39,7 @@ pub fn number_of_other(
     ensures { IfOk result (λ found. IfSome found (λ m. slice_get (plans family.now) m ≡ Some (other_of plan.now))) }
 {
     let other = other_of(alloc, plan)?;
-    let Some(at) = guessed(family.menu(), number, plan.calls(), other.calls()) else {
+    let Some(at) = guessed(family.sizes().threads, number, plan, &other) else {
         return Ok(None);
     };
     match family.plan(alloc, at)? {

@@ -2,7 +2,8 @@
 //! compute them. They stand above ls_families, so that a new one is no change of that crate.
 #![tactic(auto)]
 
-ghost use Rattle.ls_families_rows.specs.Programs.{ByNumber, Counts, Doubles, NoneAfter, Numbered, Others, Texts};
+ghost use Rattle.ls_families_rows.specs.Programs.{ByMaking, ByNumber, Counts, Doubles, NoneAfter, Numbered, Others};
+ghost use Rattle.ls_families_rows.specs.Programs.{Texts};
 ghost use Rattle.ls_families_rows.specs.Shapes.{OneCallEach, ThreeThreads, TwoThreads};
 
 /// The shapes within bounds.
@@ -15,6 +16,7 @@ pub fn shapes()
 /// The programs of a family.
 pub fn programs()
     ensures by_number { ByNumber }
+    ensures by_making { ByMaking }
     ensures none_after { NoneAfter }
     ensures counts { Counts }
     ensures doubles { Doubles }

@@ -1,7 +1,8 @@
 -- What is said of one program.
-use Rattle.std.specs.Prelude.{◌≡◌, ◌<◌, ◌≤◌, ◌⊎◌, ℕ, List, Some, slice_get, string_bytes, true}
+use Rattle.std.specs.Prelude.{◌≡◌, ◌<◌, ◌≤◌, ◌⊎◌, ℕ, List, [], ◌++◌, Some, slice_get, slice_index_or}
+use Rattle.std.specs.Prelude.{string_bytes, true}
 use Rattle.ls_families.specs.Doubles.{is_double, other_of}
-use Rattle.ls_families.specs.Families.{Family, Plan, plans}
+use Rattle.ls_families.specs.Families.{Family, Menu, Plan, plans}
 use Rattle.ls_families.specs.Texts.{plan_text}
 use Rattle.ls_family_search.specs.declared.judging.Halted.{Halted}
 use Rattle.ls_family_search.specs.declared.judging.Judgement.{Judgement}
@@ -14,14 +15,20 @@ use Rattle.ls_family_search.specs.declared.judging.Passed.TheVariants as passed
 abbrev pub Text : Type 0
 Text = List ℕ
 
--- The programs of a family: how they make the object, and the calls of the menu.
+-- the programs of a family over a menu
 pub record Programs : Type 0 where
   pub family : Family
-  pub making : Text
-  pub calls : List Text
+  pub menu : Menu
 
 abbrev pub text_of : Programs → Plan → Text
-text_of p plan = plan_text p.making p.calls plan
+text_of p plan = plan_text p.menu plan
+
+-- how they make the object first, and all calls of their menu: those of the setup, and those of threads
+abbrev pub making_of : Programs → Text
+making_of p = slice_index_or p.menu.makings 0 []
+
+abbrev pub calls_of : Programs → List Text
+calls_of p = p.menu.setup ++ p.menu.threads
 
 -- a judge's answer on a program that may be good, or cut, or halt the search
 abbrev pub IsJudgement : {H : Type 0} → Type 0 → Type 0 → (H → Type 0) → Judgement H → Type 0
@@ -31,7 +38,7 @@ IsJudgement IsGood IsCut Halts (judgements.Halt h) = Halts h
 
 -- a double that is good if the program is that stands before it, with two threads exchanged
 pub record Follows (p : Programs) (IsGood : Text → Type 0) (plan : Plan) : Type 0 where
-  pub double : is_double p.calls plan ≡ true
+  pub double : is_double p.menu plan ≡ true
   pub good : IsGood (text_of p (other_of plan)) → IsGood (text_of p plan)
 
 -- The program with these two threads exchanged has a number of a range, from its first number up to this one.

@@ -24,11 +24,11 @@ fn follows<J: Judge>(
     requires { program.now ≡ text_of programs.now plan.now }
     ensures { IfOk result (λ does. does ≡ true → Follows programs.now (J.IsGood judge.now) plan.now) }
 {
-    if !is_double(programs.calls(), plan) {
+    if !is_double(programs.menu(), plan) {
         return Ok(false);
     }
     let other = other_of(alloc, plan)?;
-    let before = print_plan(alloc, programs.making(), programs.calls(), &other)?;
+    let before = print_plan(alloc, programs.menu(), &other)?;
     judge.follows(alloc, program, before.as_str())
 }
 
@@ -70,7 +70,7 @@ fn outcome_of<J: Judge>(
     ensures { IfOk result (IsOutcome programs.now (J.IsGood judge.now) (J.IsCut judge.now) (J.Halts judge.now)
         from number plan.now) }
 {
-    let program = print_plan(alloc, programs.making(), programs.calls(), plan)?;
+    let program = print_plan(alloc, programs.menu(), plan)?;
     let double = follows(judge, alloc, programs, plan, program.as_str())?;
     if double && stands_from(alloc, programs, from, number, plan)? {
         return Ok(ProgramOutcome::Passes(Passed::Double));

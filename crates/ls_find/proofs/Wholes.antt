@@ -15,12 +15,12 @@ each_passed_sound sought states specification classes p from to f found =
     from f.passed.items found.passed
 
 pub each_sound : EachBelongs → EachPassedIsSound → EachIsSound
-each_sound belongs passed menu b sought states specification classes p f some calls family whole plan is =
+each_sound belongs passed z b sought states specification classes p f some calls family whole plan is =
     let many : 0 + length f.passed.items ≡ length (plans p.family) =
     subst (EndsSo p (IsWhy sought specification classes) (0 + length f.passed.items) (length (plans p.family)))
     whole.none
     whole.found.ends in
-    let at = (belongs menu b plan some calls).1 is in
+    let at = (belongs z b plan some calls).1 is in
     let n = at.0 in
     let within : n < length (plans p.family) = subst (λ (g : Family). n < length (plans g)) (sym family) at.1 in
     let there : slice_get (plans p.family) n ≡ Some plan =

@@ -1,7 +1,8 @@
 -- What a search says of the programs of a family.
 use Rattle.std.specs.Prelude.{◌≡◌, ◌<◌, ℕ, Option, None, Some, length, slice_get}
 use Rattle.ls_families.specs.Belonging.{IsPlanOf}
-use Rattle.ls_families.specs.Families.{Plan, family_of, plans}
+use Rattle.ls_families.specs.Families.{HaveNone, Plan, family_of, plans}
+use Rattle.ls_families.specs.declared.menus.MenuSizes.{MenuSizes}
 use Rattle.ls_families.specs.declared.shapes.Bounds.{Bounds}
 use Rattle.ls_family_search.specs.Judged.{Programs, text_of}
 use Rattle.ls_family_search.specs.Searched.{IsFinding, PassedAreGood}
@@ -29,9 +30,9 @@ pub record IsWhole (sought : Sought) (states : ℕ) (specification : Option Text
 -- as one of a set.
 abbrev pub EachIsSound : Type 0
 EachIsSound =
-    (menu : ℕ) (b : Bounds) (sought : Sought) (states : ℕ) (specification : Option Text) (classes : Text) (p : Programs)
-    (f : Finding Why) → 0 < menu → 0 < b.calls → p.family ≡ family_of menu b →
-    IsWhole sought states specification classes p f → (plan : Plan) → IsPlanOf menu b plan →
+    (z : MenuSizes) (b : Bounds) (sought : Sought) (states : ℕ) (specification : Option Text) (classes : Text)
+    (p : Programs) (f : Finding Why) → ¬ HaveNone z → 0 < b.calls → p.family ≡ family_of z b →
+    IsWhole sought states specification classes p f → (plan : Plan) → IsPlanOf z b plan →
     IsSound sought specification classes (text_of p plan)
 
 -- Each program that a search has passed from a number on is so, if none up to that one is cut.

@@ -2,7 +2,7 @@
 use Rattle.std.proofs.Common.{◌≡◌, ◌<◌, ◌⊎◌, inl, inr, ℕ, zero, suc, [], Some, arith, refl, subst}
 use Rattle.std.specs.Prelude.{slice_get}
 use Rattle.ls_class_programs.specs.declared.choosing.Choosing.{Choosing}
-use Rattle.ls_family_search.specs.Judged.{Programs}
+use Rattle.ls_family_search.specs.Judged.{Programs, calls_of, making_of}
 use Rattle.ls_faults.specs.declared.fault.ToolFault.{ToolFault}
 use Rattle.ls_faults.specs.declared.fault.ToolFault.TheVariants as faults
 use Rattle.ls_report.specs.Events.{Text}
@@ -13,20 +13,20 @@ same_text a b e = cc
 
 module _ (o : Choosing) (reference classes : Text) (p : Programs) where
   abbrev Has : Text → Type 0
-  Has call = HasCall reference classes p.making call
+  Has call = HasCall reference classes (making_of p) call
 
   abbrev Fault : ToolFault → Type 0
   Fault f = (f ≡ faults.Memory) ⊎ IsFirstFault o reference classes p f
 
   -- the making is had, and each call
-  pub none_lacks : Has [] → ((k : ℕ) (call : Text) → slice_get p.calls k ≡ Some call → Has call) →
+  pub none_lacks : Has [] → ((k : ℕ) (call : Text) → slice_get (calls_of p) k ≡ Some call → Has call) →
       LacksNone reference classes p
   none_lacks making each zero call at = subst Has (same_text [] call at) making
   none_lacks making each (suc k) call at = each k call at
 
   -- the making is lacking
   pub making_lacks : (f : ToolFault) →
-      (f ≡ faults.Memory) ⊎ LacksOrIsNone o reference classes p.making [] f →
+      (f ≡ faults.Memory) ⊎ LacksOrIsNone o reference classes (making_of p) [] f →
       Fault f
   making_lacks f (inl is) = inl is
   making_lacks f (inr bad) = inr (record {
@@ -37,7 +37,7 @@ module _ (o : Choosing) (reference classes : Text) (p : Programs) where
     fault = bad;
   })
 
-  had : Has [] → (i : ℕ) → ((k : ℕ) → k < i → (y : Text) → slice_get p.calls k ≡ Some y → Has y) →
+  had : Has [] → (i : ℕ) → ((k : ℕ) → k < i → (y : Text) → slice_get (calls_of p) k ≡ Some y → Has y) →
       (k : ℕ) (other : Text) → k < suc i → slice_get (asked_calls p) k ≡ Some other → Has other
   had making i before zero other less at = subst Has (same_text [] other at) making
   had making i before (suc k) other less at =
@@ -45,10 +45,10 @@ module _ (o : Choosing) (reference classes : Text) (p : Programs) where
 
   -- a call is, and none before it
   pub call_lacks : Has [] → (i : ℕ) (call : Text) →
-      slice_get p.calls i ≡ Some call →
-      ((k : ℕ) → k < i → (y : Text) → slice_get p.calls k ≡ Some y → Has y) →
+      slice_get (calls_of p) i ≡ Some call →
+      ((k : ℕ) → k < i → (y : Text) → slice_get (calls_of p) k ≡ Some y → Has y) →
       (f : ToolFault) →
-      (f ≡ faults.Memory) ⊎ LacksOrIsNone o reference classes p.making call f →
+      (f ≡ faults.Memory) ⊎ LacksOrIsNone o reference classes (making_of p) call f →
       Fault f
   call_lacks making i call here before f (inl is) = inl is
   call_lacks making i call here before f (inr bad) = inr (record {

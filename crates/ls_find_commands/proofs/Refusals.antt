@@ -4,7 +4,7 @@ use Rattle.ls_class_programs.specs.ClassPrograms.{AreProgramsOf}
 use Rattle.ls_class_programs.specs.declared.choosing.Choosing.{Choosing}
 use Rattle.ls_class_programs.specs.declared.entry_fault.EntryFault.{EntryFault}
 use Rattle.ls_class_programs.specs.declared.entry_fault.EntryFault.TheVariants as entry
-use Rattle.ls_family_search.specs.Judged.{Programs}
+use Rattle.ls_family_search.specs.Judged.{Programs, making_of}
 use Rattle.ls_faults.proofs.Answering.{Failed, fails}
 use Rattle.ls_faults.specs.Faults.{lifted_entry}
 use Rattle.ls_faults.specs.Given.{GivesText}
@@ -25,7 +25,7 @@ refused May o reference classes menu f give (inr none) = fails May f (give none)
 -- an entry that isn't calls of the class
 pub unfit : (o : Choosing) (classes : Text) (menu : Option Text) (p : Programs) (f : EntryFault) →
     AreProgramsOf o classes menu p →
-    (f ≡ entry.Memory) ⊎ IsUnfit classes p.making o.bounds.threads menu f →
+    (f ≡ entry.Memory) ⊎ IsUnfit classes (making_of p) o.bounds.threads menu f →
     (lifted_entry f ≡ faults.Memory) ⊎ HasNoOwn o classes menu (lifted_entry f)
 unfit o classes menu p f programs (inl is) = inl (ap lifted_entry is)
 unfit o classes menu p f programs (inr bad) = inr (NotCalls p f programs bad)

@@ -15,7 +15,7 @@ use Rattle.ls_explore.specs.declared.fault.ExploreFault.TheVariants as explore
 use Rattle.ls_compiler.specs.Answers.{CompilesTo}
 use Rattle.ls_compiler.specs.declared.fault.CompileFault.{CompileFault}
 use Rattle.ls_families.specs.Families.{Plan, plans}
-use Rattle.ls_family_search.specs.Judged.{Programs, text_of}
+use Rattle.ls_family_search.specs.Judged.{Programs, calls_of, making_of, text_of}
 use Rattle.ls_family_search.specs.declared.judging.Halted.{Halted}
 use Rattle.ls_family_search.specs.declared.judging.Passed.{Passed}
 use Rattle.ls_family_search.specs.declared.searching.Finding.{Finding}
@@ -119,14 +119,14 @@ IsUnfit classes making threads (Some menu) f = HasNoCall classes making threads 
 -- the programs of a class text, over a menu that is written by hand if one is given
 pub record AreOwnPrograms (o : Choosing) (classes : Text) (menu : Option Text) (p : Programs) : Type 0 where
   pub programs : AreProgramsOf o classes menu p
-  pub fit : EntriesFit classes p.making o.bounds.threads menu
+  pub fit : EntriesFit classes (making_of p) o.bounds.threads menu
 
 -- why there are none
 pub data HasNoOwn (o : Choosing) (classes : Text) (menu : Option Text) : ToolFault → Type 0 where
   NoPrograms : (f : ClassFault) → IsClassFault o classes menu f → HasNoOwn o classes menu (lifted_class f)
   NotCalls : (p : Programs) (f : EntryFault) →
       AreProgramsOf o classes menu p →
-      IsUnfit classes p.making o.bounds.threads menu f →
+      IsUnfit classes (making_of p) o.bounds.threads menu f →
       HasNoOwn o classes menu (lifted_entry f)
 
 -- Why a reference has no programs that are programs of the class too: the class text isn't compiled, or the reference;
@@ -164,7 +164,7 @@ pub record IsWhole (o : Choosing) (sought : Sought) (classes : Text) (menu : Opt
   pub programs : Programs
   pub of_class : AreProgramsOf (smallest o) classes menu programs
   pub said : Text
-  pub alone : RunsAlone sought classes programs.making programs.calls said
+  pub alone : RunsAlone sought classes (making_of programs) (calls_of programs) said
   pub is : text ≡ whole_text said
 
 -- What is found among those of a class text, by a reference if one is given; or why there are none. Nothing is said at

@@ -6,7 +6,7 @@ use Rattle.ls_class_programs.specs.declared.choosing.Choosing.{Choosing}
 use Rattle.ls_compiler.specs.Answers.{CompilesTo}
 use Rattle.ls_compiler.specs.declared.fault.CompileFault.{CompileFault}
 use Rattle.ls_families.specs.Texts.{alone_text}
-use Rattle.ls_family_search.specs.Judged.{Programs}
+use Rattle.ls_family_search.specs.Judged.{Programs, calls_of, making_of}
 use Rattle.ls_faults.specs.Faults.{lifted_reference, lifted_specification}
 use Rattle.ls_faults.specs.declared.fault.ToolFault.{ToolFault}
 use Rattle.ls_faults.specs.declared.fault.ToolFault.TheVariants as faults
@@ -49,12 +49,12 @@ LacksOrIsNone o reference classes making call e =
 
 -- the making alone, and then each call of the menu
 abbrev pub asked_calls : Programs → List Text
-asked_calls p = [] ∷ p.calls
+asked_calls p = [] ∷ calls_of p
 
 -- it lacks none of these
 abbrev pub LacksNone : Text → Text → Programs → Type 0
 LacksNone reference classes p =
-    (k : ℕ) (call : Text) → slice_get (asked_calls p) k ≡ Some call → HasCall reference classes p.making call
+    (k : ℕ) (call : Text) → slice_get (asked_calls p) k ≡ Some call → HasCall reference classes (making_of p) call
 
 -- the first of these of which it isn't so, and the fault
 pub record IsFirstFault (o : Choosing) (reference classes : Text) (p : Programs) (e : ToolFault) : Type 0 where
@@ -62,5 +62,5 @@ pub record IsFirstFault (o : Choosing) (reference classes : Text) (p : Programs)
   pub place : ℕ
   pub here : slice_get (asked_calls p) place ≡ Some call
   pub before : (k : ℕ) (other : Text) → k < place → slice_get (asked_calls p) k ≡ Some other →
-      HasCall reference classes p.making other
-  pub fault : LacksOrIsNone o reference classes p.making call e
+      HasCall reference classes (making_of p) other
+  pub fault : LacksOrIsNone o reference classes (making_of p) call e

@@ -5,6 +5,7 @@ ghost use Rattle.ls_explore.specs.Watching.{GoesOn};
 ghost use Rattle.ls_find_commands.specs.Besides.{AreBeside, IsSerialBeside};
 
 use crate::racing::beside;
+use crate::silent::silent_beside;
 use ls_explore::Watch;
 use ls_family_search::{Numbers, Programs};
 use ls_find_races::RaceExplorer;
@@ -33,7 +34,8 @@ fn serial_beside(
     serial_lines(alloc, told.as_slice())
 }
 
-/// What is said beside `none`, where that is asked: of calls that run one at a time, and then of data races.
+/// What is said beside `none`, where that is asked: of a menu without a call that answers a value, of calls that run
+/// one at a time, and then of data races.
 pub(crate) fn said_beside<W: Watch>(
     rt: &(impl Threads + Sync),
     alloc: Global,
@@ -46,7 +48,9 @@ pub(crate) fn said_beside<W: Watch>(
         AreBeside asked races.now.states races.now.classes.now programs.now (string_bytes text)) }
     ensures watched { GoesOn W.Since watch.old watch.new }
 {
-    let mut text = serial_beside(rt, alloc, asked, races.classes, programs)?;
+    let mut text = silent_beside(alloc, asked, races.classes, programs)?;
+    let serial_lines = serial_beside(rt, alloc, asked, races.classes, programs)?;
+    text.push_str(serial_lines.as_str())?;
     let race_line = beside(rt, alloc, asked, races, programs, watch)?;
     text.push_str(race_line.as_str())?;
     Ok(text)

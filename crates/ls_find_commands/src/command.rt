@@ -310,7 +310,7 @@ pub fn print_program(
         return Err(ToolFault::BadNumbers);
     }
     match programs.family().plan(alloc, number - 1)? {
-        Some(plan) => Ok(print_plan(alloc, programs.making(), programs.calls(), &plan)?),
+        Some(plan) => Ok(print_plan(alloc, programs.menu(), &plan)?),
         None => Err(ToolFault::BadNumbers),
     }
 }

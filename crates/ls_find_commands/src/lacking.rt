@@ -102,7 +102,8 @@ pub(crate) fn check_calls(
 {
     let making = programs.making();
     check_call(alloc, choosing, reference, classes, making, "")?;
-    for call in programs.calls() {
+    let calls = programs.calls(alloc)?;
+    for call in &calls {
         check_call(alloc, choosing, reference, classes, making, call.as_str())?;
     }
     Ok(())

@@ -8,11 +8,12 @@ pub mod laws;
 mod menus;
 mod noting;
 mod racing;
+mod silent;
 mod strict;
 mod whole;
 
 pub use command::{Range, find, print_program};
-pub use ls_class_programs::Choosing;
+pub use ls_class_programs::{Choosing, Integers};
 pub use ls_families::Bounds;
 pub use ls_find::Sought;
 pub use menus::Texts;

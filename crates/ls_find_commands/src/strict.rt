@@ -58,7 +58,7 @@ fn text_at(
     ensures none { IfOk result (λ some. some ≡ None → slice_get (plans programs.now.family) number ≡ None) }
 {
     match programs.family().plan(alloc, number)? {
-        Some(plan) => Ok(Some(print_plan(alloc, programs.making(), programs.calls(), &plan)?)),
+        Some(plan) => Ok(Some(print_plan(alloc, programs.menu(), &plan)?)),
         None => Ok(None),
     }
 }

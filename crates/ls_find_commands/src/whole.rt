@@ -44,11 +44,12 @@ fn whole(
         Err(_) => return Ok(None),
     };
     let programs = made.programs();
+    let calls = programs.calls(alloc)?;
     match whole_of(
         alloc,
         texts.classes,
         programs.making(),
-        programs.calls(),
+        calls.as_slice(),
         sought,
     )? {
         Some(said) => Ok(Some(print_whole(alloc, said.as_str())?)),

@@ -16,9 +16,12 @@ behind (Some p) = p.1
 abbrev pub behind_line : Text → Text
 behind_line text = behind (cut 10 text)
 
--- it begins with a line on calls that run one at a time, or on a data race that there is
+-- it begins with a line on a menu that asks for no answer, on calls that run one at a time, or on a data race that
+-- there is
 abbrev pub warns : Text → Bool
-warns text = begins text (codes "// in ") || begins text (codes "// data race on ")
+warns text =
+    begins text (codes "// no call of the menu ") ||
+    (begins text (codes "// in ") || begins text (codes "// data race on "))
 
 -- 3 if a program is found; if none is, 4 if some are cut, and else 5 if the third line warns; else 0
 abbrev pub status_of : Text → ℕ

@@ -22,15 +22,18 @@ fn behind_line(text: &str) -> &str
     }
 }
 
-/// Whether a text begins with a line on calls that run one at a time, or on a data race that there is.
+/// Whether a text begins with a line on a menu that asks for no answer, on calls that run one at a time, or on a data
+/// race that there is.
 fn warns(text: &str) -> bool
     ensures { result ≡ warns text.now }
 {
-    begins(text, "// in ") || begins(text, "// data race on ")
+    begins(text, "// no call of the menu ")
+        || begins(text, "// in ")
+        || begins(text, "// data race on ")
 }
 
 /// The status of a text: 3 if a program is found. If none is, it is 4 if some are cut; else 5 if the first line beside
-/// `none` tells of calls that run one at a time, or of a data race; and else 0.
+/// `none` tells of a menu that asks for no answer, of calls that run one at a time, or of a data race; and else 0.
 pub fn status_of(text: &str) -> u8
     ensures { result ≡ status_of text.now }
 {

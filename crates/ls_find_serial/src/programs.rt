@@ -45,7 +45,7 @@ fn told_at(
 {
     match programs.family().plan(alloc, number)? {
         Some(plan) => {
-            let program = print_plan(alloc, programs.making(), programs.calls(), &plan)?;
+            let program = print_plan(alloc, programs.menu(), &plan)?;
             told_of(alloc, classes, program.as_str())
         }
         None => Ok(unknown()),

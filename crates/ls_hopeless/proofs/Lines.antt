@@ -1,5 +1,5 @@
 -- The line on an event of a history.
-use Rattle.std.proofs.Common.{◌≡◌, ℕ, List, Some, slice_get, take, refl, subst, sym, String, Global}
+use Rattle.std.proofs.Common.{◌≡◌, ℕ, List, Some, slice_get, take, subst, sym, String, Global}
 use Rattle.std.proofs.lemmas.Result.{IfOk-weaker}
 use Rattle.std.specs.Prelude.{IfOk, Result, string_bytes}
 use Rattle.ls_checked.specs.CheckedProgram.{Program}

@@ -13,7 +13,7 @@ abbrev pub choosing_of : Seeking → Choosing
 choosing_of s = record {
   class = s.class;
   values = s.values;
-  given = s.given;
+  given = record { first = s.first_given; last = s.last_given };
   bounds = record { threads = s.threads; calls = s.calls; setup = s.setup };
 }
 

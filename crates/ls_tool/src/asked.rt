@@ -10,7 +10,7 @@ ghost use Rattle.ls_tool.specs.Output.{FindsByReference, OnFind};
 use ls_command_line::Seeking;
 use ls_explore::Watch;
 use ls_faults::fault::ToolFault;
-use ls_find_commands::{Bounds, Choosing, Range, Sought, Texts, find, print_program};
+use ls_find_commands::{Bounds, Choosing, Integers, Range, Sought, Texts, find, print_program};
 use std::alloc::Global;
 use std::thread::Threads;
 
@@ -65,7 +65,10 @@ fn choosing_of(seeking: Seeking) -> Choosing
     Choosing {
         class: seeking.class,
         values: seeking.values,
-        given: seeking.given,
+        given: Integers {
+            first: seeking.first_given,
+            last: seeking.last_given,
+        },
         bounds: Bounds {
             threads: seeking.threads,
             calls: seeking.calls,

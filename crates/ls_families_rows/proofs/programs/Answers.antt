@@ -6,10 +6,11 @@ use Rattle.ls_families_rows.proofs.programs.Goals as goal
 pub returns : goal.returns
 returns c = record {
   by_number = (refl, refl, refl, refl, refl, refl, refl, refl);
+  by_making = (refl, refl, refl, refl, refl, refl, refl, refl, refl);
   none_after = refl;
-  counts = (refl, refl, refl, refl);
+  counts = (refl, refl, refl, refl, refl, refl);
   doubles = (refl, refl, refl, refl, refl, refl, refl);
   others = (refl, refl, refl, refl, refl);
-  numbered = (refl, refl, refl);
-  texts = (refl, refl, refl);
+  numbered = (refl, refl, refl, refl);
+  texts = (refl, refl, refl, refl);
 }

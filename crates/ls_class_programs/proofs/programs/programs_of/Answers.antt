@@ -16,9 +16,9 @@ use Rattle.ls_class_programs.proofs.programs.programs_of.Goals as goal
 pub returns-then-are_bad_values-clause-refused : goal.returns-then-are_bad_values-clause-refused
 returns-then-are_bad_values-clause-refused c = NoValues (inl (c.are_bad_values.ensures.0 c.if-are_bad_values.true))
 
-pub returns-then-are_bad_values-2-clause-refused : goal.returns-then-are_bad_values-2-clause-refused
-returns-then-are_bad_values-2-clause-refused c =
-    NoValues (inr (c.are_bad_values-2.ensures.0 c.if-are_bad_values-2.true))
+pub returns-then-are_bad_integers-clause-refused : goal.returns-then-are_bad_integers-clause-refused
+returns-then-are_bad_integers-clause-refused c =
+    NoValues (inr (c.are_bad_integers.ensures.0 c.if-are_bad_integers.true))
 
 pub returns-in_err-file-clause-refused : goal.returns-in_err-file-clause-refused
 returns-in_err-file-clause-refused c =

@@ -9,4 +9,5 @@ returns-clause-shape c =
     let two = c.with_option-command-2.ensures.shape _ _ one c.number_option-calls.ensures.rule in
     let three = c.with_option-command-3.ensures.shape _ _ two c.number_option-setup.ensures.rule in
     let four = c.with_option-command-4.ensures.shape _ _ three c.number_option-values.ensures.rule in
-    c.with_option.ensures.shape _ _ four c.number_option-given.ensures.rule
+    let five = c.with_option-command-5.ensures.shape _ _ four c.number_option-given.ensures.rule in
+    c.with_option.ensures.shape _ _ five c.number_option-last_given.ensures.rule

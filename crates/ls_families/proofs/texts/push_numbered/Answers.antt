@@ -1,6 +1,6 @@
 -- Why `push_numbered` in src/texts.rt keeps its contract and its loop `front`.
 
-use Rattle.std.proofs.Common.{◌≡◌, ◌∙◌, ◌++◌, ap, append_assoc, rules, sym, string_bytes}
+use Rattle.std.proofs.Common.{◌∙◌, ◌++◌, ap, append_assoc, rules, sym, string_bytes}
 use Rattle.ls_families.specs.Texts.{number_of, numbered}
 use Rattle.ls_families.proofs.Marks.{first_cut, uncut}
 use Rattle.ls_families.proofs.texts.push_numbered.Goals as goal

@@ -1,6 +1,6 @@
 -- Why `print_program` in src/command.rt keeps its contract.
 
-use Rattle.std.proofs.Common.{◌≡◌, ◌∙◌, ◌-◌, ◌≤◌, ap, ap₂, arith, inl, inr, length, Ok, subst, sym, Some}
+use Rattle.std.proofs.Common.{◌≡◌, ◌∙◌, ◌-◌, ◌≤◌, ap, arith, inl, inr, length, Ok, subst, sym, Some}
 use Rattle.std.specs.Prelude.{None, option_map, slice_get, string_bytes}
 use Rattle.std.proofs.lemmas.Result.{err_from_is_err_and}
 use Rattle.ls_families.specs.Families.{Family, plans}
@@ -33,7 +33,7 @@ returns-in-Some c =
     ap (λ (f : Family). slice_get (plans f) (c.args.number - 1)) (sym family) ∙ sym c.in_ok-plan.ensures ∙
     c.in-Some.is in
     let text : string_bytes c.in_ok-print_plan-in-Some.field-0 ≡ text_of made plan =
-    c.in_ok-print_plan-in-Some.ensures ∙ ap₂ (λ m cs. plan_text m cs plan) c.making.ensures c.calls.ensures ∙
+    c.in_ok-print_plan-in-Some.ensures ∙ ap (λ m. plan_text m plan) c.menu.ensures ∙
     ap (λ (p : Programs). text_of p plan) c.programs-programs.ensures in
     subst (λ t. PrintsTo c.args.choosing c.args.number
     (option_map plain_text c.args.texts.reference) c.args.texts.classes.now (option_map plain_text c.args.texts.menu)

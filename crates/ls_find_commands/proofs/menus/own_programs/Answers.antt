@@ -4,7 +4,7 @@ use Rattle.std.proofs.Common.{◌≡◌, ◌∙◌, ◌⊎◌, ap, inr, subst}
 use Rattle.std.specs.Prelude.{option_map}
 use Rattle.std.proofs.lemmas.Result.{err_from_is_err_and}
 use Rattle.ls_class_programs.specs.declared.entry_fault.EntryFault.TheVariants.{Memory}
-use Rattle.ls_family_search.specs.Judged.{Programs}
+use Rattle.ls_family_search.specs.Judged.{making_of}
 use Rattle.ls_items.specs.Cutting.{plain_text}
 use Rattle.ls_find_commands.specs.Found.{EntriesFit, IsUnfit, NoPrograms}
 use Rattle.ls_find_commands.proofs.Refusals.{unfit}
@@ -21,7 +21,7 @@ returns-in_err-check_menu-clause-refused c =
     let menu = option_map plain_text c.args.menu in
     let o = c.args.choosing in
     let made = c.in_ok-made.made in
-    let making = c.making.ensures ∙ ap (λ (p : Programs). p.making) c.programs-programs.ensures in
+    let making = c.making.ensures ∙ ap making_of c.programs-programs.ensures in
     let p = err_from_is_err_and c.from_residual-in_err-check_menu.result
     c.from_residual-in_err-check_menu.ensures.1 in
     rw (p.1, p.2) (unfit o classes menu made c.in_err-check_menu.field-0.0 c.in_ok-made.ensures.programs
@@ -30,7 +30,7 @@ returns-in_err-check_menu-clause-refused c =
 
 pub returns-clause-programs : goal.returns-clause-programs
 returns-clause-programs c =
-    let making = c.making.ensures ∙ ap (λ (p : Programs). p.making) c.programs-programs.ensures in
+    let making = c.making.ensures ∙ ap making_of c.programs-programs.ensures in
     record {
       programs = c.in_ok-made.ensures.programs;
       fit = subst (λ m. EntriesFit c.args.classes.now m c.args.choosing.bounds.threads

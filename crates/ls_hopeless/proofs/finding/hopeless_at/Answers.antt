@@ -1,6 +1,6 @@
 -- Why `hopeless_at` in src/finding.rt keeps its clause `first` and its loop `at`.
 
-use Rattle.std.proofs.Common.{◌+◌, length, subst, take, take_all}
+use Rattle.std.proofs.Common.{◌+◌, subst, take, take_all}
 use Rattle.ls_linearity.specs.Meant.{IsMeant}
 use Rattle.ls_linearizable.specs.Linearizable.{IsLinearizable}
 use Rattle.ls_specification.specs.Specification.{spec_file, spec_program}
