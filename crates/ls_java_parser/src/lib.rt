@@ -1,5 +1,0 @@
-//! Reading Java files: the tree of a text, or the first place that doesn't fit.
-#![tactic(auto)]
-
-pub mod members;
-pub mod reading;

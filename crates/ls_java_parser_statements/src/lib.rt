@@ -1,7 +1,0 @@
-//! Reading the statements of Java files.
-#![tactic(auto)]
-
-pub mod loops;
-pub mod simple;
-pub mod statements;
-pub mod switches;
