@@ -21,9 +21,9 @@ function left_out(  i, all, shown, more) {
 END {
     split(head, said, " ")
     if (head == "not judged: a call goes on") {
-        print "listset: no order of whole calls that is known explains this. Not all are known: a call alone doesn't end within 10,000 steps"
-    } else if (head == "not judged: too many orders") {
-        print "listset: no order of whole calls that is known explains this. Not all are known: there are more than 10,000"
+        print "listset: no order of whole calls explains this, if each of them ends alone within 10,000 steps. But a call doesn't"
+    } else if (head == "not judged: too many states") {
+        print "listset: it isn't known whether an order of whole calls explains this: calls one at a time lead to over 32,000 states"
     } else if (said[1] == "hopeless") {
         name = said[3]
         end = said[4] == "trap" ? "can't end by " said[5] : "can't return" (said[5] == "" ? "" : " ") said[5]

@@ -39,7 +39,7 @@ pushed_get (z ∷ xs) x y (suc n) is = by_place (pushed_get xs x y n is)
     by_place (inl there) = inl there
     by_place (inr last) = inr (ap suc last.0, last.1)
 
-map_length : (spots : List Spot) → length (schedules_of spots) ≡ length spots
+pub map_length : (spots : List Spot) → length (schedules_of spots) ≡ length spots
 map_length [] = refl
 map_length (s ∷ spots) = ap suc (map_length spots)
 

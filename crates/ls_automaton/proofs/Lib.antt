@@ -21,3 +21,4 @@ pub mod Ending
 pub mod Covering
 pub mod Dropped
 pub mod Joined
+pub mod Treed

@@ -19,13 +19,13 @@ use Rattle.ls_serial_search.specs.Open.{HasEnded}
 use Rattle.ls_linearizable.specs.Linearizable.{IsLinearizable}
 use Rattle.ls_automaton.specs.declared.outcome.Outcome.{Outcome}
 use Rattle.ls_automaton.specs.Alike.{IsLike}
-use Rattle.ls_automaton.specs.Automaton.{IsExplainedFrom}
+use Rattle.ls_automaton.specs.Automaton.{IsExplainedFrom, Serially}
 use Rattle.ls_automaton.specs.Laws.{RunsAreOnce}
 use Rattle.ls_automaton.specs.Programs.{IsExplainedWithin, Leads, LeadsWithin}
 use Rattle.ls_automaton.specs.Tables.{AreOutcomes, AreTold, Goes, HasOutcome, IsOutcome}
 use Rattle.ls_automaton.proofs.Alike.{alike_explain, alike_runs}
 use Rattle.ls_automaton.proofs.Configurations.{goes_on_same, told, told_by, told_same, history_told}
-use Rattle.ls_automaton.proofs.Programs.{programs_are, runs_once}
+use Rattle.ls_automaton.proofs.Programs.{played, programs_are, runs_once}
 use Rattle.ls_automaton.proofs.Settled.{one_end}
 
 happens : (x : Happening) (c : Event) → c.happening ≡ x → IsCall c → c ≡ called c.thread c.call
@@ -42,7 +42,7 @@ happens (Trapped k) c is call =
     no h = cc
 
 -- the call of an end
-call_of_end : (c e : Event) → IsCall c → IsEndOf c e → c ≡ called e.thread e.call
+pub call_of_end : (c e : Event) → IsCall c → IsEndOf c e → c ≡ called e.thread e.call
 call_of_end c e call end = happens c.happening c refl call
     ∙ ap (λ t. called t c.call) (sym end.thread) ∙ ap (λ n. called e.thread n) (sym end.call)
 
@@ -177,6 +177,14 @@ module _ (file : File) (program : Program) (bound : ℕ) (goes_on : Bool) (rows 
   numbers_once g last run =
       let r = alike_runs (Goes rows) 0 (Leads file program) (start program) IsLeft goes_like g last run in
       runs_once file program g r.0 r.1
+
+  -- a serial run is the history of a schedule
+  pub runs_are : (g : List Event) (last : ℕ) → Serially (Goes rows) 0 g last →
+      (schedule : List ℕ) × (source_history file program schedule ≡ g)
+  runs_are g last run =
+      let r = alike_runs (Goes rows) 0 (Leads file program) (start program) IsLeft goes_like g last run in
+      let p = played file program g (start program) r.0 r.1 in
+      (p.path, p.history)
 
   pub is_linearizable : (h : List Event) → IsExplainedFrom (Goes rows) 0 h → IsLinearizable file program h
   is_linearizable h e = (programs_are file program h).1

@@ -59,7 +59,7 @@ get_more [] ys n x is = absurd (nothing is)
 get_more (y ∷ xs) ys zero x is = is
 get_more (y ∷ xs) ys (suc n) x is = get_more xs ys n x is
 
-map_more : {A B : Type 0} (f : A → B) (xs ys : List A) → map f (xs ++ ys) ≡ map f xs ++ map f ys
+pub map_more : {A B : Type 0} (f : A → B) (xs ys : List A) → map f (xs ++ ys) ≡ map f xs ++ map f ys
 map_more f [] ys = refl
 map_more f (x ∷ xs) ys = ap (λ l. f x ∷ l) (map_more f xs ys)
 

@@ -43,6 +43,11 @@ pub record IsMarkedAt (spots : List Spot) (n : ℕ) (run : Playing) : Type 0 whe
 abbrev pub Grows : List Spot → List Spot → Type 0
 Grows old new = (more : List Spot) × (old ++ more ≡ new)
 
+-- at most the state after these steps is new
+abbrev pub MayBePushed : List Spot → List Spot → List ℕ → Type 0
+MayBePushed old new steps = (schedules_of new ≡ schedules_of old) ⊎
+    (schedules_of new ≡ schedules_of old ++ steps ∷ [])
+
 pub record IsLastOf (events : List Event) (e : Event) : Type 0 where
   pub front : List Event
   pub is : events ≡ front ++ e ∷ []

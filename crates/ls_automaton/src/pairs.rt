@@ -106,7 +106,7 @@ fn add_kept(
 }
 
 /// The outcomes in a state.
-pub(crate) fn row_at(rows: &[Vec<Outcome>], state: usize) -> &[Outcome]
+pub fn row_at(rows: &[Vec<Outcome>], state: usize) -> &[Outcome]
     ensures { result.now ≡ row_of (slice_get rows.now state) }
 {
     if state < rows.len() {

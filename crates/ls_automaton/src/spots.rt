@@ -9,7 +9,7 @@ ghost use Rattle.ls_serial.specs.Serial.{IsSerial};
 ghost use Rattle.ls_serial_search.specs.Marks.{IsMarkOf};
 ghost use Rattle.ls_serial_search.specs.Orders.{progress_at};
 ghost use Rattle.ls_source.specs.Stands.{StandsFor};
-ghost use Rattle.ls_automaton.specs.Spots.{AreSpots, IsFirst, IsLastOf, IsMarkedAt, IsNumbered};
+ghost use Rattle.ls_automaton.specs.Spots.{AreSpots, IsFirst, IsLastOf, IsMarkedAt, IsNumbered, MayBePushed};
 
 use crate::outcome::Outcome;
 use ls_checked::program::Program;
@@ -86,8 +86,9 @@ fn numbered<'a>(
     requires acts { ActAll (plain_file task.now.file.now) (plain_program task.now.program.now) steps.items }
     requires run { StandsFor run.now (progress_at (plain_file task.now.file.now) (plain_program task.now.program.now)
         steps.items) }
-    ensures { IfOk result (λ n. IsNumbered (plain_file task.now.file.now) (plain_program task.now.program.now)
+    ensures number { IfOk result (λ n. IsNumbered (plain_file task.now.file.now) (plain_program task.now.program.now)
         spots.old.items spots.new.items steps.items n) }
+    ensures pushed { IfOk result (λ n. MayBePushed spots.old.items spots.new.items steps.items) }
 {
     if let Some(number) = number_of(spots.as_slice(), run) {
         return Ok(number);
@@ -119,6 +120,7 @@ pub(crate) fn reached<'a>(
         spots.old.items spots.new.items steps.items o.after) }
     ensures end { IfOk result (λ o. IsLastOf (source_history (plain_file task.now.file.now)
         (plain_program task.now.program.now) steps.items) o.end) }
+    ensures pushed { IfOk result (λ o. MayBePushed spots.old.items spots.new.items steps.items) }
 {
     let after = numbered(alloc, task, spots, steps, &run)?;
     let history = run.into_history();

@@ -1,13 +1,15 @@
 // What calls do that run one at a time, in states by number.
 
-ghost use Rattle.std.specs.Prelude.{◌≡◌, ◌<◌, ◌⊎◌, ◌++◌, true, false, IfOk, IfSome, Some, length, replicate, slice_get};
+ghost use Rattle.std.specs.Prelude.{◌≡◌, ◌<◌, ◌⊎◌, ◌++◌, ◌+◌, ℕ, true, false, IfNone, IfOk, IfSome, Some, length};
+ghost use Rattle.std.specs.Prelude.{replicate, slice_get};
 ghost use Rattle.ls_checked.specs.Plain.{plain_file};
 ghost use Rattle.ls_checked.specs.PlainProgram.{plain_program};
 ghost use Rattle.ls_meaning.specs.Runs.{source_history};
 ghost use Rattle.ls_search_laws.specs.Stepping.{ActAll};
 ghost use Rattle.ls_serial.specs.Serial.{IsSerial};
-ghost use Rattle.ls_serial_search.specs.Open.{HasLongCall};
+ghost use Rattle.ls_serial_search.specs.Open.{HasLongCall, HasManyOrders};
 ghost use Rattle.ls_serial_search.specs.Orders.{progress_at};
+ghost use Rattle.ls_serial_search.specs.Tree.{IsTree};
 ghost use Rattle.ls_source.specs.Stands.{StandsFor};
 ghost use Rattle.ls_automaton.specs.Spots.{AreSpots, IsAsked, IsFound, schedules_of};
 ghost use Rattle.ls_automaton.specs.Tables.{AreOutcomes};
@@ -82,6 +84,12 @@ fn ask_thread<'a>(
         row.new.items) }
     ensures long { IfOk result (λ goes_on. goes_on ≡ true →
         HasLongCall (plain_file task.now.file.now) (plain_program task.now.program.now) task.now.most_steps) }
+    ensures tree { IfOk result (λ goes_on. (place : ℕ) →
+        slice_get (schedules_of spots.old.items) place ≡ Some stand.now.steps.now →
+        IsTree (plain_file task.now.file.now) (plain_program task.now.program.now) (schedules_of spots.old.items) place
+        thread →
+        IsTree (plain_file task.now.file.now) (plain_program task.now.program.now) (schedules_of spots.new.items) place
+        (thread + 1)) }
 {
     let steps = stand.steps;
     let Further { followed, run } = follow_from(
@@ -121,6 +129,12 @@ fn row_of<'a>(
         task.now.most_steps r.goes_on spots.old.items spots.new.items steps.now r.outcomes.items) }
     ensures long { IfOk result (λ r. r.goes_on ≡ true →
         HasLongCall (plain_file task.now.file.now) (plain_program task.now.program.now) task.now.most_steps) }
+    ensures tree { IfOk result (λ r. (place : ℕ) →
+        slice_get (schedules_of spots.old.items) place ≡ Some steps.now →
+        IsTree (plain_file task.now.file.now) (plain_program task.now.program.now) (schedules_of spots.old.items) place
+        0 →
+        IsTree (plain_file task.now.file.now) (plain_program task.now.program.now) (schedules_of spots.new.items)
+        (place + 1) 0) }
 {
     let run = played_along(alloc, task.file, task.program, steps)?;
     let stand = Stand { steps, run };
@@ -143,7 +157,8 @@ fn steps_to<'a>(alloc: Global, spots: &[Spot<'a>], number: usize) -> Result<Vec<
 }
 
 /// What calls do in each state to which calls lead that run one at a time, each for at most so many steps. None if
-/// there are more states than so many. The source alone is run, with no cells. The only refusal is that memory ran out.
+/// there are more states than so many: then there are more serial histories than so many, too. The source alone is run,
+/// with no cells. The only refusal is that memory ran out.
 pub fn table_of(
     alloc: Global,
     file: &File,
@@ -155,6 +170,8 @@ pub fn table_of(
         AreOutcomes (plain_file file.now) (plain_program program.now) most_steps t.goes_on t.rows.items)) }
     ensures long { IfOk result (λ some. IfSome some (λ t. t.goes_on ≡ true →
         HasLongCall (plain_file file.now) (plain_program program.now) most_steps)) }
+    ensures many { IfOk result (λ some. IfNone some
+        (HasManyOrders (plain_file file.now) (plain_program program.now) most_states)) }
 {
     let task = Task {
         file,

@@ -19,7 +19,7 @@ IsBelow false file program run text = text ≡ []
 IsBelow true file program run text =
     (events : List Event) × AreNamed program run events × Tells file program run events text
 
--- the serial runs, where orders are asked for
+-- the program with its states between calls, where orders are asked for
 abbrev pub IsFor : Bool → File → Program → Option Known → Type 0
 IsFor orders file program None = orders ≡ false
 IsFor orders file program (Some known) = (orders ≡ true) × IsKnownOf file program known

@@ -13,7 +13,7 @@ use ls_events::event::Event;
 use ls_serial_orders::{Known, known_of, tell_known};
 use std::alloc::{AllocError, Global};
 
-/// The serial runs of a program of a file, if orders are asked for.
+/// A program of a file with its states between calls, if orders are asked for.
 pub(crate) fn known_if<'a>(
     alloc: Global,
     file: &'a File,

@@ -45,7 +45,7 @@ module _ (file : File) (p : Program) (run : List RunEvent) where
       let found = event_there p run events at r named there in
       subst (Tells file p run events) (sym (is found.0 found.2)) (Hopeless at found.0 order hopeless found.1 before)
 
--- what is told where the runs are known already is told of their program
+-- what is told where the states are known already is told of their program
 pub known_tells : (f : File) (p : Program) (k : Known) (run : List RunEvent) (text : Text) →
     IsKnownOf f p k →
     ((events : List Event) → AreNamed (program_of k) run events → Tells (file_of k) (program_of k) run events text) →

@@ -8,8 +8,10 @@ use Rattle.ls_serial.specs.Serial.{Explains, IsSerial}
 use Rattle.ls_linearizable.specs.Linearizable.{IsLinearizable}
 use Rattle.ls_serial_search.specs.Open.{HasLongCall, HasManyOrders}
 use Rattle.ls_serial_search.specs.Told.{usual}
+use Rattle.ls_automaton.specs.Programs.{IsExplainedWithin}
 use Rattle.ls_report.specs.Events.{Text}
 use Rattle.ls_serial_orders.specs.Calls.{calls_of}
+use Rattle.ls_serial_orders.specs.Known.{most_states}
 use Rattle.ls_serial_orders.specs.declared.finding.SerialAnswer.{SerialAnswer}
 use Rattle.ls_serial_orders.specs.declared.finding.SerialAnswer.TheVariants as outcomes
 
@@ -36,11 +38,15 @@ pub record IsHopeless (file : File) (program : Program) (h : List RunEvent) (at 
 
 -- ---- the outcome
 
+-- A call alone doesn't end within the bound, and no serial run explains the history, each call of which does.
+abbrev pub IsUnknown : File → Program → List RunEvent → Type 0
+IsUnknown file program h = HasLongCall file program usual.steps × (IsExplainedWithin file program usual.steps h → ⊥)
+
 -- An order explains the history. Or none does from an event on, and one explains the events before that event. Or it
--- isn't known, since a call alone doesn't end, or there are too many orders.
+-- isn't known, since a call alone doesn't end, or there are too many states.
 abbrev pub IsOutcome : File → Program → List RunEvent → SerialAnswer → Type 0
 IsOutcome file program h (outcomes.Ordered order) = IsOrderOf file program h (map string_bytes order.items)
 IsOutcome file program h (outcomes.Hopeless at order) = IsHopeless file program h at ×
     IsOrderOf file program (take at h) (map string_bytes order.items)
-IsOutcome file program h outcomes.LongCall = HasLongCall file program usual.steps
-IsOutcome file program h outcomes.ManyOrders = HasManyOrders file program usual.orders
+IsOutcome file program h outcomes.LongCall = IsUnknown file program h
+IsOutcome file program h outcomes.ManyStates = HasManyOrders file program most_states

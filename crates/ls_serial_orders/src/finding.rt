@@ -1,18 +1,21 @@
 // An order of whole calls that explains a history.
 
-ghost use Rattle.std.specs.Prelude.{◌≡◌, false, true, IfNone, IfOk, IfSome, List, map, string_bytes};
-ghost use Rattle.ls_events.specs.declared.event.Event.{Event as EventValue};
+ghost use Rattle.std.specs.Prelude.{◌≡◌, false, IfNone, IfOk, IfSome, map, string_bytes};
 ghost use Rattle.ls_checked.specs.Plain.{plain_file};
 ghost use Rattle.ls_checked.specs.PlainProgram.{plain_program};
 ghost use Rattle.ls_linearizable.specs.Linearizable.{IsLinearizable};
-ghost use Rattle.ls_serial_orders.specs.Known.{file_of, is_complete, program_of, IsKnown, IsKnownOf};
+ghost use Rattle.ls_serial_search.specs.Told.{usual};
+ghost use Rattle.ls_automaton.specs.Programs.{IsExplainedWithin};
+ghost use Rattle.ls_serial_orders.specs.Known.{file_of, program_of, IsKnown, IsKnownOf, IsTableOf};
 ghost use Rattle.ls_serial_orders.specs.Orders.{IsOrderOf, IsOutcome};
 
 use crate::calls::calls_of;
+use crate::layers::serial_run;
+use ls_automaton::table::{Table, table_of};
 use ls_checked::program::Program;
 use ls_checked::tree::File;
 use ls_events::event::Event;
-use ls_serial_search::telling::{Bounds, SerialSearch, serial_runs};
+use ls_serial_search::telling::Bounds;
 use std::alloc::{AllocError, Global};
 
 /// Whether an order of whole calls explains a history, and from which event on none does.
@@ -22,21 +25,25 @@ pub enum SerialAnswer {
     Ordered(Vec<String>),
     /// The place, from 0, of the event from which on none does, and an order of the events before it.
     Hopeless { at: usize, order: Vec<String> },
-    /// No order that was found does. Some may not have been found, since a call alone doesn't end.
+    /// No order does whose calls end alone within the bound. A call alone doesn't end.
     LongCall,
-    /// No order that was found does. Some may not have been found, since there are too many.
-    ManyOrders,
+    /// It isn't known whether one does, since calls that run one at a time lead to too many states.
+    ManyStates,
 }
 
-/// A program of a file, and its serial runs.
+/// A program of a file, and its states between calls that run one at a time, as a table.
 #[derive(Drop)]
 pub struct Known<'a> {
     file: &'a File,
     pub(crate) program: &'a Program,
-    search: SerialSearch,
+    /// None if there are too many states.
+    table: Option<Table>,
 }
 
-/// A program of a file, and the serial runs that a search finds. The only refusal is that memory ran out.
+/// A table has at most so many states.
+const MOST_STATES: usize = 32_000;
+
+/// A program of a file, and its states between calls. The only refusal is that memory ran out.
 pub fn known_of<'a>(
     alloc: Global,
     file: &'a File,
@@ -44,31 +51,40 @@ pub fn known_of<'a>(
 ) -> Result<Known<'a>, AllocError>
     ensures { IfOk result (IsKnownOf (plain_file file.now) (plain_program program.now)) }
 {
-    let search = serial_runs(alloc, file, program, &Bounds::usual())?;
+    let bounds = Bounds::usual();
+    let table = table_of(alloc, file, program, bounds.steps, MOST_STATES)?;
     Ok(Known {
         file,
         program,
-        search,
+        table,
     })
 }
 
-/// An order that explains a history. None if none does that was found.
+/// An order that explains a history. None if none does.
 fn order_of(
     alloc: Global,
     known: &Known<'_>,
+    table: &Table,
     history: &[Event],
 ) -> Result<Option<Vec<String>>, AllocError>
-    requires { IsKnown known.now }
+    requires { IsTableOf (file_of known.now) (program_of known.now) table.now }
     ensures some { IfOk result (λ found. IfSome found (λ order.
         IsOrderOf (file_of known.now) (program_of known.now) history.now (map string_bytes order.items))) }
-    ensures none { IfOk result (λ found. IfNone found (is_complete known.now ≡ true →
+    ensures none { IfOk result (λ found. IfNone found (table.now.goes_on ≡ false →
         IsLinearizable (file_of known.now) (program_of known.now) history.now → ⊥)) }
+    ensures within { IfOk result (λ found. IfNone found
+        (IsExplainedWithin (file_of known.now) (program_of known.now) usual.steps history.now → ⊥)) }
 {
-    let Some(serial) = known.search.runs.explaining(history) else {
-        return Ok(None);
-    };
-    let order = calls_of(alloc, known.program, serial)?;
-    Ok(Some(order))
+    let rows = table.rows.as_slice();
+    let found = serial_run(alloc, rows, history)?;
+    match found {
+        Some(run) => {
+            let events = run.as_slice();
+            let order = calls_of(alloc, known.program, events)?;
+            Ok(Some(order))
+        }
+        None => Ok(None),
+    }
 }
 
 /// The event from which on no order explains a history, and an order of the events before it. The place is found by
@@ -76,10 +92,11 @@ fn order_of(
 fn find_hopeless(
     alloc: Global,
     known: &Known<'_>,
+    table: &Table,
     history: &[Event],
 ) -> Result<SerialAnswer, AllocError>
-    requires known { IsKnown known.now }
-    requires complete { is_complete known.now ≡ true }
+    requires known { IsTableOf (file_of known.now) (program_of known.now) table.now }
+    requires complete { table.now.goes_on ≡ false }
     requires none { IsLinearizable (file_of known.now) (program_of known.now) history.now → ⊥ }
     ensures { IfOk result (IsOutcome (file_of known.now) (program_of known.now) history.now) }
 {
@@ -88,7 +105,7 @@ fn find_hopeless(
     let mut hopeless = history.len();
     'bisect: while hopeless - at > 1 {
         let middle = at + (hopeless - at) / 2;
-        match order_of(alloc, known, &history[..middle])? {
+        match order_of(alloc, known, table, &history[..middle])? {
             Some(found) => {
                 at = middle;
                 order = found;
@@ -99,43 +116,49 @@ fn find_hopeless(
     Ok(SerialAnswer::Hopeless { at, order })
 }
 
-/// Why it isn't known whether an order explains a history.
-fn unknown(known: &Known<'_>) -> SerialAnswer
-    requires known { IsKnown known.now }
-    requires cut { is_complete known.now ≡ false }
-    ensures { (history : List EventValue) → IsOutcome (file_of known.now) (program_of known.now) history result }
-{
-    if known.search.many {
-        return SerialAnswer::ManyOrders;
-    }
-    SerialAnswer::LongCall
-}
-
-/// What the serial runs say of a history that none of them explains.
+/// What the states say of a history that no order explains whose calls end alone within the bound.
 fn unexplained(
     alloc: Global,
     known: &Known<'_>,
+    table: &Table,
     history: &[Event],
 ) -> Result<SerialAnswer, AllocError>
-    requires known { IsKnown known.now }
-    requires none { is_complete known.now ≡ true →
+    requires known { IsTableOf (file_of known.now) (program_of known.now) table.now }
+    requires none { table.now.goes_on ≡ false →
         IsLinearizable (file_of known.now) (program_of known.now) history.now → ⊥ }
+    requires within { IsExplainedWithin (file_of known.now) (program_of known.now) usual.steps history.now → ⊥ }
     ensures { IfOk result (IsOutcome (file_of known.now) (program_of known.now) history.now) }
 {
-    if known.search.complete {
-        return find_hopeless(alloc, known, history);
+    if table.goes_on {
+        return Ok(SerialAnswer::LongCall);
     }
-    Ok(unknown(known))
+    find_hopeless(alloc, known, table, history)
 }
 
-/// What the serial runs say of a history: an order of whole calls that explains it, or else the event from which on
-/// none does. The only refusal is that memory ran out.
+/// What the states say of a history: an order of whole calls that explains it, or else the event from which on none
+/// does. The only refusal is that memory ran out.
+fn find_by(
+    alloc: Global,
+    known: &Known<'_>,
+    table: &Table,
+    history: &[Event],
+) -> Result<SerialAnswer, AllocError>
+    requires { IsTableOf (file_of known.now) (program_of known.now) table.now }
+    ensures { IfOk result (IsOutcome (file_of known.now) (program_of known.now) history.now) }
+{
+    match order_of(alloc, known, table, history)? {
+        Some(order) => Ok(SerialAnswer::Ordered(order)),
+        None => unexplained(alloc, known, table, history),
+    }
+}
+
+/// The same, unless there are too many states. The only refusal is that memory ran out.
 pub fn find(alloc: Global, known: &Known<'_>, history: &[Event]) -> Result<SerialAnswer, AllocError>
     requires { IsKnown known.now }
     ensures { IfOk result (IsOutcome (file_of known.now) (program_of known.now) history.now) }
 {
-    match order_of(alloc, known, history)? {
-        Some(order) => Ok(SerialAnswer::Ordered(order)),
-        None => unexplained(alloc, known, history),
+    match &known.table {
+        Some(table) => find_by(alloc, known, table, history),
+        None => Ok(SerialAnswer::ManyStates),
     }
 }

@@ -4,8 +4,10 @@
 mod calls;
 mod finding;
 pub mod laws;
+mod layers;
 mod naming;
 pub mod once_laws;
+mod placing;
 mod telling;
 
 pub use finding::{Known, SerialAnswer, find, known_of};

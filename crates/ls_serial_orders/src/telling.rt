@@ -80,14 +80,14 @@ fn outcome_text(
             let text = String::from_str(alloc, "not judged: a call goes on\n")?;
             Ok(text)
         }
-        SerialAnswer::ManyOrders => {
-            let text = String::from_str(alloc, "not judged: too many orders\n")?;
+        SerialAnswer::ManyStates => {
+            let text = String::from_str(alloc, "not judged: too many states\n")?;
             Ok(text)
         }
     }
 }
 
-/// The same as `tell`, where the serial runs of the program are found already.
+/// The same as `tell`, where the states of the program between calls are known already.
 pub fn tell_known(alloc: Global, known: &Known<'_>, history: &[Event]) -> Result<String, AllocError>
     requires { IsKnown known.now }
     ensures { IfOk result (λ text. (events : List NamedValue) →

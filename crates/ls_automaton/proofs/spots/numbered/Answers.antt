@@ -9,8 +9,8 @@ use Rattle.ls_automaton.specs.Spots.{IsMarkedAt}
 use Rattle.ls_automaton.proofs.Reaching.{known_number, new_number, new_spot}
 use Rattle.ls_automaton.proofs.spots.numbered.Goals as goal
 
-pub returns-in-Some : goal.returns-in-Some
-returns-in-Some c =
+pub returns-in-Some-clause-number : goal.returns-in-Some-clause-number
+returns-in-Some-clause-number c =
     let file : File = plain_file c.args.task.now.file.now in
     let program : Program = plain_program c.args.task.now.program.now in
     known_number file program c.args.spots.now.items c.in-Some.number c.args.run.now
@@ -18,8 +18,8 @@ returns-in-Some c =
     (subst (λ l. IsMarkedAt l c.in-Some.number c.args.run.now) c.as_slice.ensures.value c.in-Some.ensures)
     c.requires.run
 
-pub returns : goal.returns
-returns c =
+pub returns-clause-number : goal.returns-clause-number
+returns-clause-number c =
     let file : File = plain_file c.args.task.now.file.now in
     let program : Program = plain_program c.args.task.now.program.now in
     new_number file program c.args.spots.now.items c.push.new.self.items c.in_ok-spot.spot c.len-number.result

@@ -9,6 +9,9 @@ use Rattle.ls_search_laws.specs.Stepping.{ActAll}
 use Rattle.ls_search_laws.proofs.Acting.{acts_times}
 use Rattle.ls_serial_search.specs.Happened.{HasFollowed}
 use Rattle.ls_serial_search.proofs.Stalls.{waiting_never}
+use Rattle.ls_serial_search.proofs.Apart.{tree_same}
+use Rattle.ls_automaton.specs.Spots.{schedules_of}
+use Rattle.ls_automaton.proofs.Treed.{ended_tree}
 use Rattle.ls_automaton.proofs.Reaching.{ended_asked, never_asked, open_asked, open_long, still_asked}
 use Rattle.ls_automaton.proofs.table.ask_thread.Goals as goal
 
@@ -81,3 +84,30 @@ returns-in_ok-push-in-Ends-clause-asked c =
     c.args.thread c.in-Ends.count c.args.spots.now.items c.reached.new.spots.items c.args.row.now.items
     c.push.new.self.items c.in_ok-outcome-in-Ends.outcome followed.2 c.in_ok-longer-in-Ends.ensures
     c.in_ok-outcome-in-Ends.ensures.after c.in_ok-outcome-in-Ends.ensures.end c.in_ok-push-in-Ends.ensures.items
+
+pub returns-in-Stays-clause-tree : goal.returns-in-Stays-clause-tree
+returns-in-Stays-clause-tree c = λ place at tree. tree_same (plain_file c.args.task.now.file.now)
+    (plain_program c.args.task.now.program.now) (schedules_of c.args.spots.now.items) place c.args.thread tree
+
+pub returns-in-Waits-clause-tree : goal.returns-in-Waits-clause-tree
+returns-in-Waits-clause-tree c = λ place at tree. tree_same (plain_file c.args.task.now.file.now)
+    (plain_program c.args.task.now.program.now) (schedules_of c.args.spots.now.items) place c.args.thread tree
+
+pub returns-in-Turns-clause-tree : goal.returns-in-Turns-clause-tree
+returns-in-Turns-clause-tree c = λ place at tree. tree_same (plain_file c.args.task.now.file.now)
+    (plain_program c.args.task.now.program.now) (schedules_of c.args.spots.now.items) place c.args.thread tree
+
+pub returns-in-GoesOn-clause-tree : goal.returns-in-GoesOn-clause-tree
+returns-in-GoesOn-clause-tree c = λ place at tree. tree_same (plain_file c.args.task.now.file.now)
+    (plain_program c.args.task.now.program.now) (schedules_of c.args.spots.now.items) place c.args.thread tree
+
+pub returns-in_ok-push-in-Ends-clause-tree : goal.returns-in_ok-push-in-Ends-clause-tree
+returns-in_ok-push-in-Ends-clause-tree c = λ place at tree.
+    let file : File = plain_file c.args.task.now.file.now in
+    let program : Program = plain_program c.args.task.now.program.now in
+    let followed =
+    subst (HasFollowed file program c.args.stand.now.steps.now c.args.thread c.args.task.now.most_steps) c.in-Ends.is
+    c.in_ok-followed.ensures.followed in
+    ended_tree file program c.args.spots.now.items c.reached.new.spots.items place c.args.thread c.in-Ends.count
+    c.args.stand.now.steps.now c.in_ok-longer-in-Ends.longer.items tree at followed.2 c.in_ok-longer-in-Ends.ensures
+    c.in_ok-outcome-in-Ends.ensures.pushed

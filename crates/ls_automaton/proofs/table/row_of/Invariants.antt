@@ -1,9 +1,11 @@
 -- What the loop `thread` of `row_of` in src/table.rt keeps.
 
-use Rattle.std.proofs.Common.{◌≡◌, true}
+use Rattle.std.proofs.Common.{◌≡◌, ℕ, Some, slice_get, true}
 use Rattle.ls_checked.specs.Plain.{plain_file}
 use Rattle.ls_checked.specs.PlainProgram.{plain_program}
 use Rattle.ls_serial_search.specs.Open.{HasLongCall}
+use Rattle.ls_serial_search.specs.Tree.{IsTree}
+use Rattle.ls_automaton.specs.Spots.{schedules_of}
 use Rattle.ls_automaton.proofs.Filled.{IsFilled}
 use Rattle.ls_automaton.proofs.table.row_of.Given as goal
 
@@ -13,4 +15,9 @@ invariant-loop-thread l = record {
       l.initial.spots.items l.spots.items l.steps l.thread l.outcomes.items;
   long : l.goes_on ≡ true →
       HasLongCall (plain_file l.task.file.now) (plain_program l.task.program.now) l.task.most_steps;
+  tree : (place : ℕ) → slice_get (schedules_of l.initial.spots.items) place ≡ Some l.steps →
+      IsTree (plain_file l.task.file.now) (plain_program l.task.program.now) (schedules_of l.initial.spots.items) place
+      0 →
+      IsTree (plain_file l.task.file.now) (plain_program l.task.program.now) (schedules_of l.spots.items) place
+      l.thread;
 }

@@ -1,6 +1,12 @@
 -- Why `table_of` in src/table.rt keeps its contract and its loop `task`.
 
-use Rattle.std.proofs.Common.{◌≡◌, ◌∙◌, ◌++◌, ◌∷◌, [], Some, ap, arith, false, slice_get, subst, sym, true}
+use Rattle.std.proofs.Common.{◌≡◌, ◌∙◌, ◌++◌, ◌∷◌, [], Some, ap, arith, false, List, length, length-append}
+use Rattle.std.proofs.Common.{slice_get, subst, sym, true}
+use Rattle.std.specs.declared.vec.Vec.{Vec}
+use Rattle.std.specs.declared.alloc.Global.{Global}
+use Rattle.ls_automaton.specs.declared.outcome.Outcome.{Outcome}
+use Rattle.ls_serial_search.specs.Tree.{IsTree}
+use Rattle.ls_automaton.proofs.Treed.{first_tree, many_orders}
 use Rattle.ls_checked.specs.CheckedTree.{File}
 use Rattle.ls_checked.specs.CheckedProgram.{Program}
 use Rattle.ls_checked.specs.Plain.{plain_file}
@@ -24,6 +30,11 @@ loop-task-init c =
           (c.in_ok-push.ensures.items ∙ ap (λ l. l ++ c.in_ok-first_spot.field-0 ∷ []) c.new-spots.ensures.items)
           c.in_ok-first_spot.ensures;
       long = λ goes. absurd (apart goes);
+      tree = subst (λ (l : List (Vec Outcome Global)). IsTree file program (schedules_of c.push.new.self.items)
+          (length l) 0) (sym c.new-rows.ensures.items)
+          (first_tree file program c.push.new.self.items c.in_ok-first_spot.field-0
+          (c.in_ok-push.ensures.items ∙ ap (λ l. l ++ c.in_ok-first_spot.field-0 ∷ []) c.new-spots.ensures.items)
+          c.in_ok-first_spot.ensures);
     }
   where
     apart : false ≡ true → ⊥
@@ -68,9 +79,26 @@ loop-task-preserved c =
           c.in_ok-row.ensures.row));
       long = λ goes. either_long (HasLongCall file program c.args.most_steps) (c.either-goes_on.ensures.one goes)
           c.loop-task.invariant.long c.in_ok-row.ensures.long;
+      tree = subst (λ n. IsTree file program (schedules_of c.row_of.new.spots.items) n 0)
+          (sym (ap length c.in_ok-push-2.ensures.items ∙ length-append c.loop-task.rows.items
+          (c.in_ok-row.row.outcomes ∷ [])))
+          (c.in_ok-row.ensures.tree (length c.loop-task.rows.items)
+          (subst (λ l. slice_get (schedules_of c.loop-task.spots.items) (length c.loop-task.rows.items) ≡ Some l)
+          (sym c.as_slice-in-loop-task.ensures.value)
+          (subst (λ n. slice_get (schedules_of c.loop-task.spots.items) n ≡ Some c.in_ok-steps.steps.items)
+          (omega arith)
+          (subst (λ l. slice_get (schedules_of l) c.len-in-loop-task-3.result ≡ Some c.in_ok-steps.steps.items)
+          c.as_slice.ensures.value c.in_ok-steps.ensures)))
+          c.loop-task.invariant.tree);
     }
 
 pub returns-clause-outcomes : goal.returns-clause-outcomes
 returns-clause-outcomes c =
     filled_done (plain_file c.args.file.now) (plain_program c.args.program.now) c.args.most_steps c.loop-task.goes_on
     c.loop-task.spots.items c.loop-task.rows.items (omega (arith, c.loop-task-test.false)) c.loop-task.invariant.filled
+
+pub returns-then-len-most_states-clause-many : goal.returns-then-len-most_states-clause-many
+returns-then-len-most_states-clause-many c =
+    many_orders (plain_file c.args.file.now) (plain_program c.args.program.now) c.loop-task.spots.items
+    (length c.loop-task.rows.items) 0 c.args.most_states c.loop-task.invariant.filled.are c.loop-task.invariant.tree
+    (omega arith)

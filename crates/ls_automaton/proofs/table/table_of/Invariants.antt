@@ -4,6 +4,8 @@ use Rattle.std.proofs.Common.{◌≡◌, ◌-◌, true, length}
 use Rattle.ls_checked.specs.Plain.{plain_file}
 use Rattle.ls_checked.specs.PlainProgram.{plain_program}
 use Rattle.ls_serial_search.specs.Open.{HasLongCall}
+use Rattle.ls_serial_search.specs.Tree.{IsTree}
+use Rattle.ls_automaton.specs.Spots.{schedules_of}
 use Rattle.ls_automaton.proofs.Filled.{AreFilled}
 use Rattle.ls_automaton.proofs.table.table_of.Given as goal
 
@@ -13,6 +15,8 @@ invariant-loop-task l = record {
       l.spots.items l.rows.items;
   long : l.goes_on ≡ true →
       HasLongCall (plain_file l.task.file.now) (plain_program l.task.program.now) l.task.most_steps;
+  tree : IsTree (plain_file l.task.file.now) (plain_program l.task.program.now) (schedules_of l.spots.items)
+      (length l.rows.items) 0;
 }
 
 abbrev pub decreases-loop-task : goal.decreases-loop-task

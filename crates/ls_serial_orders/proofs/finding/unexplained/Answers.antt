@@ -2,5 +2,5 @@
 
 use Rattle.ls_serial_orders.proofs.finding.unexplained.Goals as goal
 
-pub returns : goal.returns
-returns c = c.unknown.ensures c.args.history.now
+pub returns-then-table : goal.returns-then-table
+returns-then-table c = (c.requires.known.long c.if-table.true, c.requires.within)

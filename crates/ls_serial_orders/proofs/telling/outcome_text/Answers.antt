@@ -7,7 +7,7 @@ use Rattle.ls_order_search.specs.OrderLines.{order_line}
 use Rattle.ls_order_search.specs.Telling.{hopeless_text}
 use Rattle.ls_serial.proofs.Lists.{is_get}
 use Rattle.ls_serial_orders.specs.Orders.{IsOutcome}
-use Rattle.ls_serial_orders.specs.Telling.{LongCall, ManyOrders, Ordered, Tells}
+use Rattle.ls_serial_orders.specs.Telling.{LongCall, ManyStates, Ordered, Tells}
 use Rattle.ls_serial_orders.proofs.TellingLemmas.{hopeless_told}
 use Rattle.ls_serial_orders.proofs.telling.outcome_text.Goals as goal
 
@@ -38,9 +38,9 @@ returns-in_ok-text-in-LongCall c = λ file events o named.
     subst (Tells file p h events) (sym c.in_ok-text-in-LongCall.ensures.ok)
     (LongCall (subst (IsOutcome file p h) c.in-LongCall.is o))
 
-pub returns-in_ok-text-in-ManyOrders : goal.returns-in_ok-text-in-ManyOrders
-returns-in_ok-text-in-ManyOrders c = λ file events o named.
+pub returns-in_ok-text-in-ManyStates : goal.returns-in_ok-text-in-ManyStates
+returns-in_ok-text-in-ManyStates c = λ file events o named.
     let p = plain_program c.args.program.now in
     let h = c.args.history.now in
-    subst (Tells file p h events) (sym c.in_ok-text-in-ManyOrders.ensures.ok)
-    (ManyOrders (subst (IsOutcome file p h) c.in-ManyOrders.is o))
+    subst (Tells file p h events) (sym c.in_ok-text-in-ManyStates.ensures.ok)
+    (ManyStates (subst (IsOutcome file p h) c.in-ManyStates.is o))
