@@ -5,7 +5,9 @@ Each case is a small class of `races.py`. Of it all programs with two threads of
 through. Their orders of whole calls are run by `trace`, one call after another, so no search is asked for them. What a thread waits for
 is read from `state`. Where `find` says `none`, the lines below it must count the programs in which a call ends by an exception, those in
 which one waits for ever, and those in which one never ends otherwise. They must name the first number of these, and a call that is so in
-its program. With `--strict` the first number of all must be found, with such a call. Where `explore --verdict` says `none` and `complete`
+its program. If no method gives back a lock that another call has taken, `find` must not say `none` where one waits; where it finds a lock
+that is never given back, that must be so in its number, and in none before. With `--strict` the first number of all must be found, with
+such a call. Where `explore --verdict` says `none` and `complete`
 of such a program, its lines must name such a call, or there is none. Ends with status 1 if something is wrong."""
 import argparse
 import collections
@@ -22,6 +24,8 @@ TRACED = re.compile(r"\d+ (\w+)\.(\d+) (call|return|trap)\b ?(.*)")
 KINDS = ("throws", "waits for ever", "never ends")
 ALONE_LINE = re.compile(rf"// a call ({'|'.join(KINDS)}) when calls run one at a time: (.*)")
 LINE = re.compile(rf"// in (at least )?(\d+) a call ({'|'.join(KINDS)}) when calls run one at a time: number (\d+), (.*)")
+KEPT_LINE = re.compile(r"// number (\d+) of (\d+): a lock is never given back: (.*)")
+METHOD = re.compile(r"^  (?:synchronized )?void \w+\(\) \{(.*)\}$", re.M)
 STRICT_LINE = re.compile(rf"// number (\d+) of \d+: a call ({'|'.join(KINDS)}) when calls run one at a time: (.*)")
 
 
@@ -88,10 +92,29 @@ def strict_wrong(program, classes, all_faults):
     return None
 
 
+def gives_back(case):
+    """Whether a method of a class unlocks and takes no lock. No method of such a class calls another."""
+    return any("unlock()" in it and not re.search(r"\b(lock|tryLock)\(\)", it) for it in METHOD.findall(case.text))
+
+
+def kept_wrong(program, classes, case, line):
+    """What is wrong with a lock that is told as never given back, or None."""
+    number = int(line[1])
+    known = [faults(program, joined(classes, run(program, ["find", "--print", str(n), *BOUNDS], classes).out)) for n in range(1, number + 1)]
+    if gives_back(case):
+        return f"says {line[0]!r}, and a method gives a lock back"
+    if any(it["waits for ever"] for it in known[:-1]) or line[3] not in known[-1]["waits for ever"]:
+        return f"says {line[0]!r}, and a call waits {[it['waits for ever'] for it in known]}"
+    return None
+
+
 def tried(program, case):
     """What is wrong with what is said of a class, or None; and a word on it."""
     classes = case.text.encode()
     told = run(program, ["find", *BOUNDS], classes, seconds=120).out.decode().split("\n")
+    kept = KEPT_LINE.fullmatch(told[0])
+    if kept:
+        return kept_wrong(program, classes, case, kept), "kept"
     if told[0] != "// none":
         return None, "not none"
     count = int(re.search(r" of (\d+) with ", told[1])[1])
@@ -100,6 +123,8 @@ def tried(program, case):
         return None, "not known"
     programs = [run(program, ["find", "--print", str(n), *BOUNDS], classes).out for n in range(1, count + 1)]
     all_faults = [faults(program, joined(classes, it)) for it in programs]
+    if not gives_back(case) and any(it["waits for ever"] for it in all_faults):
+        return "says none, a call waits for ever, and no method gives a lock back", ""
     for text, known in zip(programs, all_faults):
         wrong = verdict_wrong(program, joined(classes, text), known)
         if wrong:

@@ -30,6 +30,7 @@ const MEANINGS = [
   [/^not judged/, "", "This run isn't judged."],
   [/^not linearizable/, "bad", "No order of whole calls explains what these calls answer."],
   [/^no order of the set/, "bad", "No order of these calls explains their answers as those of a set."],
+  [/^a lock is never given back/, "bad", "A lock is never given back, and a thread waits for it for ever."],
   [/turn for ever/, "bad", "Threads turn for ever, and no schedule leads out."],
   [/wait/, "bad", "Threads wait for ever."],
 ];

@@ -14,6 +14,8 @@ use Rattle.ls_alone.specs.declared.telling.Faulty.{Faulty}
 use Rattle.ls_alone.specs.declared.telling.Tellings.{Tellings}
 use Rattle.ls_alone.specs.declared.telling.Told.{Told}
 use Rattle.ls_alone.specs.declared.telling.Told.TheVariants as told
+use Rattle.ls_alone.specs.declared.telling.Wanted.{Wanted}
+use Rattle.ls_alone.specs.declared.telling.Wanted.TheVariants as wanted
 
 -- what is told of one, in these words, and after this schedule of threads of these names
 pub record IsFaulty (words : Text) (threads : List Text) (steps : List ℕ) (t : Told) : Type 0 where
@@ -94,9 +96,15 @@ abbrev pub first_of : Option (Fault × Faulty) → Option (Fault × Faulty) → 
 first_of None second = second
 first_of (Some first) second = Some first
 
-abbrev pub first_fault : Tellings → Option (Fault × Faulty)
-first_fault t = first_of (so_of faults.Throws t.throws)
+abbrev pub first_of_all : Tellings → Option (Fault × Faulty)
+first_of_all t = first_of (so_of faults.Throws t.throws)
     (first_of (so_of faults.Waits t.waits) (so_of faults.Turns t.turns))
+
+-- of those that are looked for
+abbrev pub first_fault : Wanted → Tellings → Option (Fault × Faulty)
+first_fault wanted.Nothing t = None
+first_fault wanted.Waits t = so_of faults.Waits t.waits
+first_fault wanted.All t = first_of_all t
 
 -- ---- faults that were found of no call
 

@@ -17,6 +17,8 @@ use Rattle.ls_alone.specs.declared.telling.Fault.{Fault}
 use Rattle.ls_alone.specs.declared.telling.Fault.TheVariants as faults
 use Rattle.ls_alone.specs.declared.telling.Told.{Told}
 use Rattle.ls_alone.specs.declared.telling.Told.TheVariants as told
+use Rattle.ls_alone.specs.declared.telling.Wanted.{Wanted}
+use Rattle.ls_alone.specs.declared.telling.Wanted.TheVariants as wanted
 
 abbrev pub Text : Type 0
 Text = List ℕ
@@ -60,6 +62,12 @@ abbrev pub fault_words : Fault → Text
 fault_words faults.Throws = codes "a call throws when calls run one at a time"
 fault_words faults.Waits = codes "a call waits for ever when calls run one at a time"
 fault_words faults.Turns = codes "a call never ends when calls run one at a time"
+
+-- The same, where such calls are looked for. If only calls that wait are, it is for a lock that no call gives back.
+abbrev pub wanted_words : Wanted → Fault → Text
+wanted_words wanted.Nothing fault = fault_words fault
+wanted_words wanted.Waits fault = codes "a lock is never given back"
+wanted_words wanted.All fault = fault_words fault
 
 -- As `// a call never ends when calls run one at a time: s.size()`. If it isn't known, it is said. If no call has the
 -- fault, nothing is.

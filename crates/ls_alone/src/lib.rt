@@ -5,5 +5,5 @@ mod lines;
 mod telling;
 mod words;
 
-pub use lines::{fault_lines, fault_words};
-pub use telling::{Fault, Faulty, Tellings, Told, tell};
+pub use lines::{fault_lines, fault_words, wanted_words};
+pub use telling::{Fault, Faulty, Tellings, Told, Wanted, tell};

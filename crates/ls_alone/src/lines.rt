@@ -2,11 +2,11 @@
 
 ghost use Rattle.std.specs.Prelude.{◌≡◌, IfOk, string_bytes};
 ghost use Rattle.ls_alone.specs.Alone.{AreSaid};
-ghost use Rattle.ls_alone.specs.Words.{fault_line, fault_words};
+ghost use Rattle.ls_alone.specs.Words.{fault_line, fault_words, wanted_words};
 ghost use Rattle.ls_labels.specs.Names.{names_of};
 ghost use Rattle.ls_schedule.specs.Reading.{thread_names};
 
-use crate::telling::{Fault, Told, tell};
+use crate::telling::{Fault, Told, Wanted, tell};
 use ls_labels::names::Names;
 use std::alloc::{AllocError, Global};
 use std::fmt::Write;
@@ -19,6 +19,17 @@ pub fn fault_words(fault: Fault) -> &'static str
         Fault::Throws => "a call throws when calls run one at a time",
         Fault::Waits => "a call waits for ever when calls run one at a time",
         Fault::Turns => "a call never ends when calls run one at a time",
+    }
+}
+
+/// The same, where such calls are looked for. If only calls that wait are, each waits for a lock that is never given
+/// back.
+pub fn wanted_words(wanted: Wanted, fault: Fault) -> &'static str
+    ensures { result.now ≡ wanted_words wanted fault }
+{
+    match wanted {
+        Wanted::Waits => "a lock is never given back",
+        Wanted::Nothing | Wanted::All => fault_words(fault),
     }
 }
 

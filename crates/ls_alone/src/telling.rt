@@ -36,6 +36,23 @@ impl Clone for Fault {
     }
 }
 
+/// Which faults of calls are looked for.
+#[derive(Copy)]
+pub enum Wanted {
+    /// None.
+    Nothing,
+    /// That a thread waits for ever.
+    Waits,
+    /// Each.
+    All,
+}
+
+impl Clone for Wanted {
+    fn clone(&self) -> Result<Wanted, AllocError> {
+        Ok(*self)
+    }
+}
+
 /// A call that has a fault.
 #[derive(Drop)]
 pub struct Faulty {
@@ -66,7 +83,7 @@ pub struct Tellings {
 
 impl Tellings {
     ghost use Rattle.std.specs.Prelude.{◌≡◌, option_map};
-    ghost use Rattle.ls_alone.specs.Alone.{first_fault, told_by};
+    ghost use Rattle.ls_alone.specs.Alone.{first_fault, first_of_all, so_of, told_by};
 
     /// What is told of a fault.
     pub fn by(&self, fault: Fault) -> &Told
@@ -79,9 +96,19 @@ impl Tellings {
         }
     }
 
+    /// A call whose thread waits for ever.
+    fn first_waiting(&self) -> Option<(Fault, &Faulty)>
+        ensures { option_map (λ p. (p.0, p.1.now)) result ≡ so_of faults.Waits self.now.waits }
+    {
+        match &self.waits {
+            Told::So(faulty) => Some((Fault::Waits, faulty)),
+            Told::Never | Told::Unknown => None,
+        }
+    }
+
     /// The first fault that a call has, and that call.
-    pub fn first(&self) -> Option<(Fault, &Faulty)>
-        ensures { option_map (λ p. (p.0, p.1.now)) result ≡ first_fault self.now }
+    fn first_of_all(&self) -> Option<(Fault, &Faulty)>
+        ensures { option_map (λ p. (p.0, p.1.now)) result ≡ first_of_all self.now }
     {
         if let Told::So(faulty) = &self.throws {
             return Some((Fault::Throws, faulty));
@@ -93,6 +120,17 @@ impl Tellings {
             return Some((Fault::Turns, faulty));
         }
         None
+    }
+
+    /// The first fault of those that are looked for that a call has, and that call.
+    pub fn first(&self, wanted: Wanted) -> Option<(Fault, &Faulty)>
+        ensures { option_map (λ p. (p.0, p.1.now)) result ≡ first_fault wanted self.now }
+    {
+        match wanted {
+            Wanted::Nothing => None,
+            Wanted::Waits => self.first_waiting(),
+            Wanted::All => self.first_of_all(),
+        }
     }
 }
 

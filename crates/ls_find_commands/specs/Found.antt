@@ -4,6 +4,7 @@ use Rattle.std.specs.Prelude.{Some, Result, Ok, Err}
 use Rattle.std.specs.Prelude.{length, min}
 use Rattle.std.specs.Prelude.{slice_get}
 use Rattle.std.specs.Prelude.{string_bytes}
+use Rattle.ls_alone.specs.declared.telling.Wanted.{Wanted}
 use Rattle.ls_any_size.specs.Alone.{RunsAlone, whole_text}
 use Rattle.ls_class_programs.specs.ClassPrograms.{AreProgramsOf, IsClassFault}
 use Rattle.ls_class_programs.specs.declared.choosing.Choosing.{Choosing}
@@ -22,7 +23,6 @@ use Rattle.ls_family_search.specs.declared.searching.Finding.{Finding}
 use Rattle.ls_faults.specs.Faults.{lifted_class, lifted_compile, lifted_entry, lifted_reference}
 use Rattle.ls_faults.specs.declared.fault.ToolFault.{ToolFault}
 use Rattle.ls_faults.specs.declared.fault.ToolFault.TheVariants as faults
-use Rattle.ls_find.specs.Family.{IsFound, PassedAreSound}
 use Rattle.ls_find.specs.declared.sought.Sought.{Sought}
 use Rattle.ls_find_races.specs.Family.{IsRaceFinding, PassedAreFree}
 use Rattle.ls_find_races.specs.declared.explorer.RaceWhy.{RaceWhy}
@@ -34,9 +34,9 @@ use Rattle.ls_report.specs.Events.{Text}
 use Rattle.ls_find_commands.specs.Lacking.{IsFirstFault, IsNoReference, LacksNone, no_calls}
 use Rattle.ls_find_commands.specs.Besides.{AreBeside}
 use Rattle.ls_find_commands.specs.Racing.{race_halted_answer}
-use Rattle.ls_find_commands.specs.Strict.{EndsAs, IsFirstFaulty, searched_to}
+use Rattle.ls_find_commands.specs.Faulty.{IsFoundAmong}
+use Rattle.ls_find_commands.specs.Giving.{IsWanted}
 use Rattle.ls_find_commands.specs.declared.command.Range.{Range}
-use Rattle.ls_find_commands.specs.declared.strict.FaultyProgram.{FaultyProgram}
 
 -- no program, of so many, has the first number, or the last comes before it
 abbrev pub IsBadRange : Range → ℕ → Type 0
@@ -77,21 +77,19 @@ abbrev pub IsAskedBeside : Range → Option (Halted Why) → Bool → Type 0
 IsAskedBeside r halted asked = (asked ≡ true) ↔ (AreAllNumbers r × (halted ≡ None))
 
 -- What is found among programs: what a search of the numbers of a range says, by a reference if one is given. Each
--- program that it has passed is good for what is looked for, if none up to that one is cut. If it is strict, it goes up
--- to the first program with a call that has a fault when calls run one at a time: that one is found if no other is.
+-- program that it has passed is good for what is looked for, if none up to that one is cut. The first program with a
+-- call that has a fault when calls run one at a time is found too, if no other is before it: each fault, if it is
+-- strict; else a wait for a lock that no call of the menu gives back.
 -- Beside `none` it is said what calls do that run one at a time, and what a search for data races says; or such a
 -- search alone is asked for.
 pub data FindsIn (reference : Option Text) (classes : Text) (p : Programs) (r : Range) : Result Text ToolFault → Type 0
   where
     NoNumbers : IsBadRange r (length (plans p.family)) → FindsIn reference classes p r (Err faults.BadNumbers)
-    Searched : (faulty : Option FaultyProgram) (f g : Finding Why) (asked : Bool) (beside : Text) →
+    Searched : (wanted : Wanted) (g : Finding Why) (asked : Bool) (beside : Text) →
         ¬ IsBadRange r (length (plans p.family)) →
         r.races ≡ false →
-        IsFirstFaulty r.strict classes p (r.from - 1) (min r.to (length (plans p.family))) faulty →
-        IsFound r.sought r.states reference classes p (r.from - 1)
-        (searched_to faulty (min r.to (length (plans p.family)))) f →
-        PassedAreSound r.sought reference classes p (r.from - 1) f →
-        EndsAs f faulty g →
+        IsWanted r.strict r.sought.waiting classes p wanted →
+        IsFoundAmong wanted r.sought r.states reference classes p (r.from - 1) (min r.to (length (plans p.family))) g →
         IsAskedBeside r g.halted asked →
         AreBeside asked r.states classes p beside →
         FindsIn reference classes p r

@@ -2,6 +2,8 @@ pub mod Found
 pub mod Ranges
 pub mod Lacking
 pub mod Racing
-pub mod Strict
+pub mod Faulty
+pub mod Entries
+pub mod Giving
 pub mod Silent
 pub mod Besides

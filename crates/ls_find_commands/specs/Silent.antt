@@ -1,39 +1,29 @@
 -- Whether a menu has a call that answers a value. Without one, each history is of calls that answer nothing.
-use Rattle.std.specs.Prelude.{◌≡◌, ◌⊎◌, ℕ, Bool, true, false, List, [], Option, Some, None, Err, codes, is_some}
+use Rattle.std.specs.Prelude.{◌≡◌, ◌⊎◌, ℕ, Bool, true, false, [], Some, codes, is_some}
 use Rattle.std.specs.Prelude.{slice_get}
 use Rattle.std.specs.List.{list_any}
-use Rattle.ls_checked.specs.CheckedProgram.{Calling, Making, Program, ProgramCall, ThreadProgram}
+use Rattle.ls_checked.specs.CheckedProgram.{Calling, Making, Program, ProgramCall}
 use Rattle.ls_checked.specs.PlainProgram.{plain_program}
-use Rattle.ls_compiler.specs.Answers.{CompilesTo}
-use Rattle.ls_compiler.specs.declared.fault.CompileFault.{CompileFault}
-use Rattle.ls_families.specs.Texts.{alone_text}
 use Rattle.ls_family_search.specs.Judged.{Programs, making_of}
-use Rattle.ls_image.specs.Images.{Compiles, program_of_image}
+use Rattle.ls_image.specs.Images.{program_of_image}
 use Rattle.ls_image.specs.declared.image.Image.{Image}
 use Rattle.ls_report.specs.Events.{Text}
+use Rattle.ls_find_commands.specs.Entries.{CompilesNot, IsEntry, setup_calls}
 
 -- whether a call is of a method that answers a value
 abbrev pub answers_value : ProgramCall → Bool
 answers_value (Making name class text values) = false
 answers_value (Calling name method text result values) = is_some result
 
-abbrev pub calls_in : Option ThreadProgram → List ProgramCall
-calls_in None = []
-calls_in (Some t) = t.calls
-
 -- whether a call of the setup does
 abbrev pub setup_answers : Program → Bool
-setup_answers p = list_any answers_value (calls_in (slice_get p.threads 0))
+setup_answers p = list_any answers_value (setup_calls p)
 
 -- A program that makes an object and then makes these calls compiles. Whether a call of it answers a value is this.
 abbrev pub Answer : Bool → Text → Text → Text → Type 0
 Answer some classes making calls =
-    (image : Image) × Compiles classes (alone_text making 0 calls) image ×
+    (image : Image) × IsEntry classes making calls image ×
     (setup_answers (plain_program (program_of_image image)) ≡ some)
-
--- it doesn't compile
-abbrev pub CompilesNot : Text → Text → Text → Type 0
-CompilesNot classes making calls = (f : CompileFault) × CompilesTo classes (alone_text making 0 calls) (Err f)
 
 -- no entry of threads has a call that answers a value
 abbrev pub IsSilent : Text → Programs → Type 0

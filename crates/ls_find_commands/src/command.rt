@@ -10,11 +10,12 @@ ghost use Rattle.ls_items.specs.Cutting.{plain_text};
 ghost use Rattle.ls_find_commands.specs.Found.{FindsIn, FindsTo, IsAskedBeside, IsBadRange, PrintsTo};
 ghost use Rattle.ls_find_commands.specs.Found.{answer_beside, why_answer};
 
-use crate::besides::said_beside;
+use crate::among::{Asked, Outcome, found_among};
+use crate::besides::{Beside, said_beside};
+use crate::giving::wanted_of;
 use crate::menus::{Texts, programs_for};
 use crate::noting::searched;
 use crate::racing::told_finding;
-use crate::strict::{ended, first_faulty_program, searched_to};
 use crate::whole::{are_all_numbers, at_once};
 use ls_class_programs::Choosing;
 use ls_explore::{ExploreFault, MOST_STATES, Watch};
@@ -177,27 +178,47 @@ fn found<W: Watch>(
 {
     let count = programs.family().count();
     let numbers = numbers_of(range, count);
-    let Numbers { from, to } = numbers;
+    let Texts { classes, .. } = texts;
+    let Range {
+        states,
+        sought,
+        strict,
+        ..
+    } = range;
     let explorer = Explorer {
         specification: texts.reference,
-        classes: texts.classes,
-        states: range.states,
-        sought: range.sought,
+        classes,
+        states,
+        sought,
     };
-    let faulty = first_faulty_program(rt, alloc, range.strict, texts.classes, programs, numbers)?;
-    let before = Numbers {
-        from,
-        to: searched_to(&faulty, to),
+    let asked = Asked {
+        explorer: &explorer,
+        wanted: wanted_of(alloc, strict, sought.waiting, classes, programs)?,
+        programs,
+        numbers,
+        all: are_all_numbers(range),
     };
-    let passed = searched(rt, &explorer, alloc, programs, before, watch)?;
-    let finding = ended(passed, faulty);
-    let asked = is_asked_beside(range, &finding);
-    let races = RaceExplorer {
-        classes: texts.classes,
-        states: range.states,
+    let Outcome {
+        finding,
+        told,
+        free,
+    } = found_among(rt, alloc, &asked, watch)?;
+    let beside = Beside {
+        asked: is_asked_beside(range, &finding),
+        races: &RaceExplorer { classes, states },
+        from: numbers.from,
+        told: told.as_slice(),
+        free,
     };
-    let said = said_beside(rt, alloc, asked, &races, programs, watch)?;
-    finding_text(alloc, from, to, count, finding, said.as_str())
+    let said = said_beside(rt, alloc, &beside, programs, watch)?;
+    finding_text(
+        alloc,
+        numbers.from,
+        numbers.to,
+        count,
+        finding,
+        said.as_str(),
+    )
 }
 
 /// What is found of data races among programs of a class text.

@@ -1,15 +1,19 @@
 //! The command `find`: what it says of a class text.
 #![tactic(auto)]
 
+mod among;
 mod besides;
 mod command;
+mod entries;
+mod faulty;
+mod giving;
 mod lacking;
 pub mod laws;
+mod looking;
 mod menus;
 mod noting;
 mod racing;
 mod silent;
-mod strict;
 mod whole;
 
 pub use command::{Range, find, print_program};

@@ -8,12 +8,14 @@ ghost use Rattle.ls_report.specs.Events.{Text};
 ghost use Rattle.ls_find_commands.specs.Found.{AreTold, halted_answer, why_answer};
 ghost use Rattle.ls_find_commands.specs.Racing.{IsBeside, beside_text, free_text, race_answer, race_halted_answer};
 ghost use Rattle.ls_find_commands.specs.Racing.{race_reason, race_text, raced_text};
+ghost use Rattle.ls_find_races.specs.Quiet.{FirstAreFree};
 
+use crate::besides::Beside;
 use crate::noting::searched;
 use ls_explore::Watch;
 use ls_family_search::{Finding, Halted, Numbers, Programs};
 use ls_find::Why;
-use ls_find_races::{RaceExplorer, RaceFound, RaceWhy};
+use ls_find_races::{RaceFound, RaceWhy, with_free};
 use ls_find_reports::figures_of;
 use ls_race_reports::has_try_lock;
 use std::alloc::{AllocError, Global};
@@ -122,26 +124,30 @@ fn words_of(alloc: Global, tries: bool, finding: &Finding<RaceWhy>) -> Result<St
     }
 }
 
-/// What is said of data races beside `none`, where that is asked: what a search of all programs for them says.
-pub(crate) fn beside<W: Watch>(
+/// What is said of data races beside `none`, where that is asked: what a search of all programs for them says. Those of
+/// the first that are known to have none are passed.
+pub(crate) fn races_beside<W: Watch>(
     rt: &(impl Threads + Sync),
     alloc: Global,
-    asked: bool,
-    explorer: &RaceExplorer<'_>,
+    beside: &Beside<'_>,
     programs: &Programs<'_>,
     watch: &mut W,
 ) -> Result<String, AllocError>
-    ensures beside { IfOk result (λ text.
-        IsBeside asked explorer.now.states explorer.now.classes.now programs.now (string_bytes text)) }
+    requires { FirstAreFree beside.now.races.now.classes.now programs.now beside.now.free }
+    ensures beside { IfOk result (λ text. IsBeside beside.now.asked beside.now.races.now.states
+        beside.now.races.now.classes.now programs.now (string_bytes text)) }
     ensures watched { GoesOn W.Since watch.old watch.new }
 {
-    if !asked {
+    if !beside.asked {
         return Ok(String::new(alloc));
     }
+    let count = programs.family().count();
+    let known = beside.free.min(count);
     let numbers = Numbers {
-        from: 0,
-        to: programs.family().count(),
+        from: known,
+        to: count,
     };
-    let finding = searched(rt, explorer, alloc, programs, numbers, watch)?;
-    words_of(alloc, has_try_lock(explorer.classes), &finding)
+    let left = searched(rt, beside.races, alloc, programs, numbers, watch)?;
+    let finding = with_free(alloc, known, left)?;
+    words_of(alloc, has_try_lock(beside.races.classes), &finding)
 }

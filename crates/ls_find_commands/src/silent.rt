@@ -3,14 +3,13 @@
 ghost use Rattle.std.specs.Prelude.{◌≡◌, ◌⊎◌, IfOk, false, map, string_bytes, true};
 ghost use Rattle.std.specs.List.{list_any};
 ghost use Rattle.ls_checked.specs.PlainProgram.{plain_call, plain_program};
-ghost use Rattle.ls_find_commands.specs.Silent.{Answer, CompilesNot, IsNotSilent, IsSilent, IsSilentBeside};
-ghost use Rattle.ls_find_commands.specs.Silent.{answers_value, setup_answers};
+ghost use Rattle.ls_find_commands.specs.Entries.{CompilesNot};
+ghost use Rattle.ls_find_commands.specs.Silent.{Answer, IsNotSilent, IsSilent, IsSilentBeside, answers_value};
+ghost use Rattle.ls_find_commands.specs.Silent.{setup_answers};
 
+use crate::entries::{compiled_entry, setup_calls};
 use ls_checked::program::{Program, ProgramCall};
-use ls_compiler::compile;
-use ls_families::print_alone;
 use ls_family_search::Programs;
-use ls_faults::fault::ToolFault;
 use std::alloc::{AllocError, Global};
 
 /// Whether a call is of a method that answers a value.
@@ -39,10 +38,7 @@ fn any_answers(calls: &[ProgramCall]) -> bool
 fn setup_answers(program: &Program) -> bool
     ensures { result ≡ setup_answers (plain_program program.now) }
 {
-    match program.threads.first() {
-        Some(setup) => any_answers(setup.calls.as_slice()),
-        None => false,
-    }
+    any_answers(setup_calls(program))
 }
 
 /// Whether one of the calls of an entry answers a value, or the entry doesn't compile.
@@ -51,13 +47,9 @@ fn answers(alloc: Global, classes: &str, making: &str, calls: &str) -> Result<bo
     ensures one { IfOk result (λ some. some ≡ true →
         Answer true classes.now making.now calls.now ⊎ CompilesNot classes.now making.now calls.now) }
 {
-    let program = print_alone(alloc, making, 0, calls)?;
-    match compile(alloc, classes, program.as_str()) {
-        Ok(image) => Ok(setup_answers(image.program())),
-        Err(fault) => match ToolFault::from(fault) {
-            ToolFault::Memory => Err(AllocError),
-            _ => Ok(true),
-        },
+    match compiled_entry(alloc, classes, making, calls)? {
+        Some(image) => Ok(setup_answers(image.program())),
+        None => Ok(true),
     }
 }
 

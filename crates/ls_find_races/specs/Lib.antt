@@ -1,3 +1,4 @@
 pub mod Raced
 pub mod Doubles
 pub mod Family
+pub mod Quiet

@@ -3,6 +3,8 @@
 
 mod explorer;
 mod laws;
+mod quiet;
 
 pub use explorer::{RaceExplorer, RaceFound, RaceWhy};
 pub use laws::race_free_follows;
+pub use quiet::{QuietExplorer, Unsettled, with_free};

@@ -9,6 +9,8 @@ use Rattle.ls_alone.specs.declared.telling.Fault.TheVariants as faults
 use Rattle.ls_alone.specs.declared.telling.Tellings.{Tellings}
 use Rattle.ls_alone.specs.declared.telling.Told.{Told}
 use Rattle.ls_alone.specs.declared.telling.Told.TheVariants as told
+use Rattle.ls_alone.specs.declared.telling.Wanted.{Wanted}
+use Rattle.ls_alone.specs.declared.telling.Wanted.TheVariants as wanted
 use Rattle.ls_family_search.specs.Judged.{Text}
 
 abbrev pub is_so : Told → Bool
@@ -77,3 +79,9 @@ serial_text ts = fault_line faults.Throws ts ++ (fault_line faults.Waits ts ++ f
 
 abbrev pub has_some : Tellings → Bool
 has_some t = has faults.Throws t || (has faults.Waits t || has faults.Turns t)
+
+-- of those that are looked for
+abbrev pub has_wanted : Wanted → Tellings → Bool
+has_wanted wanted.Nothing t = false
+has_wanted wanted.Waits t = has faults.Waits t
+has_wanted wanted.All t = has_some t

@@ -1,10 +1,11 @@
 // What is said of all programs of a family.
 
 ghost use Rattle.std.specs.Prelude.{◌≡◌, ◌<◌, ◌||◌, IfOk, IfSome, count_by, length, position, slice_get, string_bytes};
-ghost use Rattle.ls_find_serial.specs.Lines.{at_least, fault_line, found_line, has, has_some, is_so, is_unknown, lacks};
-ghost use Rattle.ls_find_serial.specs.Lines.{serial_text, unknown_line, unknown_text, words_in, words_of};
+ghost use Rattle.ls_find_serial.specs.Lines.{at_least, fault_line, found_line, has, has_some, has_wanted, is_so};
+ghost use Rattle.ls_find_serial.specs.Lines.{is_unknown, lacks, serial_text, unknown_line, unknown_text, words_in};
+ghost use Rattle.ls_find_serial.specs.Lines.{words_of};
 
-use ls_alone::{Fault, Tellings, Told, fault_words};
+use ls_alone::{Fault, Tellings, Told, Wanted, fault_words};
 use std::alloc::{AllocError, Global};
 use std::fmt::Write;
 
@@ -166,10 +167,21 @@ fn has_some(told: &Tellings) -> bool
     has(Fault::Throws, told) || has(Fault::Waits, told) || has(Fault::Turns, told)
 }
 
-/// The place of the first program in which a call has a fault.
-pub fn first_faulty(told: &[Tellings]) -> Option<usize>
-    ensures is { result ≡ position has_some told.now }
+/// Whether a call has a fault that is looked for.
+fn has_wanted(wanted: Wanted, told: &Tellings) -> bool
+    ensures { result ≡ has_wanted wanted told.now }
+{
+    match wanted {
+        Wanted::Nothing => false,
+        Wanted::Waits => has(Fault::Waits, told),
+        Wanted::All => has_some(told),
+    }
+}
+
+/// The place of the first program in which a call has a fault that is looked for.
+pub fn first_faulty(wanted: Wanted, told: &[Tellings]) -> Option<usize>
+    ensures is { result ≡ position (has_wanted wanted) told.now }
     ensures within { IfSome result (λ i. i < length told.now) }
 {
-    told.iter().position(|one| has_some(one))
+    told.iter().position(|one| has_wanted(wanted, one))
 }

@@ -4,3 +4,4 @@ pub mod Methods
 pub mod Guards
 pub mod Shapes
 pub mod Reasons
+pub mod Giving

@@ -4,6 +4,7 @@
 
 pub mod clean;
 mod forms;
+pub mod giving;
 pub mod guard;
 pub mod laws;
 pub mod marks;

@@ -7,7 +7,8 @@ use Rattle.std.specs.Prelude.{option_map, slice_get}
 use Rattle.ls_class_programs.proofs.EntrySteps.{all_items, one_item}
 use Rattle.ls_family_search.specs.Judged.{making_of}
 use Rattle.ls_report.specs.Events.{Text}
-use Rattle.ls_find_commands.specs.Silent.{Answer, CompilesNot}
+use Rattle.ls_find_commands.specs.Entries.{CompilesNot}
+use Rattle.ls_find_commands.specs.Silent.{Answer}
 use Rattle.ls_find_commands.proofs.silent.is_silent.Goals as goal
 
 pub returns-then-branch-clause-one : goal.returns-then-branch-clause-one
