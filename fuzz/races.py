@@ -6,7 +6,8 @@ are those of a page of choices, which tells objects by class and number. Over al
 after: program order, locks, monitors, markable references and volatile fields order them, as happens-before does. `explore --races` must tell
 a race exactly if there are two accesses to one variable that isn't volatile, one a write, that aren't ordered so. It must name the variables
 that two threads are about to access in one state, and no others. The last two steps of the schedule that it prints are two such accesses.
-Beside `none` of `explore --verdict` a line must say so too. The page of the schedule marks the two accesses, if there is Node.
+Beside `none` of `explore --verdict` a line must say so too. The page of the schedule marks the two accesses, if there is Node. Where a
+method or a line of the class text is told of an access, the page must mark it there.
 Where a `tryLock()` fails, it counts as one that sees what the owner of its lock did before it took the lock.
 
 Of so many classes all programs with two threads of one call are looked at one by one. The first of which `explore --races` tells a race must
@@ -57,7 +58,7 @@ class Case:
         methods = "fgh"[:rng.choice((1, 2, 2, 3))]
         texts = []
         for name in methods:
-            body = " ".join(self.statement(0) for _ in range(rng.choice((1, 2, 2, 3))))
+            body = "\n    ".join(self.statement(0) for _ in range(rng.choice((1, 2, 2, 3))))
             texts.append(f"  {'synchronized ' if rng.random() < 0.12 else ''}void {name}() {{ {body} }}")
         made = self.field("D", "int n;", often)
         self.text = f"class D {{ {made} D(int a) {{ n = a; }} }}\nclass S {{\n  {' '.join(fields)}\n" + "\n".join(texts) + "\n}\n"
@@ -213,17 +214,46 @@ def wrong_run(program, case, text, told):
         return f"the last steps of the schedule aren't accesses that conflict: {last}"
     if not all(any(line.endswith(it) for line in told) for it in last):
         return f"the last steps aren't told: {last}"
-    return wrong_mark(program, text, told[1], last)
+    return wrong_mark(program, text, told[1], last, told)
 
 
-def wrong_mark(program, text, schedule, last):
+def wrong_mark(program, text, schedule, last, told):
     """What is wrong with the accesses that the page of a schedule marks, by its last two steps; None where there is no Node."""
     if not shutil.which("node"):
         return None
     data = run(program, ["page"], joined(text, schedule.encode()), seconds=60).out
-    marked = subprocess.run(["node", MARKED], input=data, capture_output=True, check=True).stdout.decode().split("\n")[:-1]
-    is_so = len(marked) == 2 and all(any(it.startswith(words) for words in marked) for it in last)
-    return None if is_so else f"the page marks {marked}, and the last steps are {last}"
+    marks = subprocess.run(["node", MARKED], input=data, capture_output=True, check=True).stdout.decode().split("\n")[:-1]
+    marked = [it.split(" ", 1) for it in marks]
+    if len(marked) != 2 or not all(any(it.startswith(words) for _, words in marked) for it in last):
+        return f"the page marks {marks}, and the last steps are {last}"
+    return wrong_places(text, told, marked, last)
+
+
+PLACE = re.compile(r"  (\w+) (reads|writes) it(?: in (?:new )?(\w+)(?:\.(\w+))?(?:, line (\d+))?)?")
+
+
+def wrong_places(text, told, marked, last):
+    """What is wrong with the places of the first race that is told, by the lines that the page marks. Of elements none are told."""
+    at = next((number for number, it in enumerate(told) if it.startswith("race on ")), 0)
+    if told[at] == ITEMS:
+        return f"places of elements: {told}" if told[at + 1].startswith("  ") else None
+    places = [PLACE.fullmatch(it) for it in told[at + 1:at + 3] if it.startswith("  ")]
+    if len(places) != 2 or not all(places):
+        return f"no places of accesses: {told}"
+    for place, access_told in zip(places, last):
+        thread, does = access_told.split(".")[0], access_told.split(" ")[1]
+        if (place[1], place[2]) != (thread, does):
+            return f"places of {place[1]}, and {thread} {does}"
+        line = next(int(number) for number, words in marked if access_told.startswith(words))
+        if place[5] and int(place[5]) != line or place[4] and method_of(text, line) != place[4]:
+            return f"says {place[0]!r}, and the page marks line {line}"
+    return None
+
+
+def method_of(text, line):
+    """The method of a line of a class text, whose methods begin with `void` on lines of their own."""
+    heads = [re.search(r"void (\w+)\(", it) for it in text.decode().split("\n")[:line]]
+    return next((it[1] for it in reversed(heads) if it), None)
 
 
 RACED = re.compile(r"// data race on (.*): Java allows more than is shown here")
@@ -236,16 +266,17 @@ def wrong_beside(program, text, meets):
     told = run(program, ["explore", "--verdict"], text, seconds=60).out.decode().split("\n")
     if told[0] != "none" or not told[-2].endswith(" complete"):
         return None
-    found = RACED.fullmatch(told[1])
-    is_so = found[1].replace("an element of ", "") in meets if found else not meets and told[1] in FREE
-    return None if is_so else f"says {told[1]!r} beside none, and accesses meet on {sorted(meets)}"
+    line = told[-3]
+    found = RACED.fullmatch(line)
+    is_so = found[1].replace("an element of ", "") in meets if found else not meets and line in FREE
+    return None if is_so else f"says {line!r} beside none, and accesses meet on {sorted(meets)}"
 
 
 def tried(program, case):
     """What is wrong with what is told of a program, and a word on it."""
     text = joined(case.text.encode(), case.program.encode())
     page = run(program, ["page", "--states", STATES], text, seconds=60)
-    if page.status:
+    if page.status or not page.out:
         return None, "refused"
     data = json.loads(page.out)
     if not data["complete"]:

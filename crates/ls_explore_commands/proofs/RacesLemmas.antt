@@ -6,6 +6,7 @@ use Rattle.ls_explore.specs.Faults.{AreBadStates}
 use Rattle.ls_image.specs.declared.image.Image.{Image}
 use Rattle.ls_report.specs.Events.{Text}
 use Rattle.ls_labels.specs.Names.{Names}
+use Rattle.ls_lexer.specs.declared.token.Token.{Token}
 use Rattle.ls_race_laws.specs.Accesses.{Volatile}
 use Rattle.ls_race_laws.specs.declared.access.Kind.{Kind}
 use Rattle.ls_races.specs.Races.{AreRaces}
@@ -40,13 +41,13 @@ pub tells : (classes : Text) (i : Image) (limit : ℕ) (t u : Text) → t ≡ u 
 tells classes i limit t u e d = subst (λ x. Raced classes i limit (Ok x)) (sym e) d
 
 -- of equal names and programs an equal text is made
-pub same_races : (t : Text) (ns ns' : Names) (p p' : Program) (flags : List (List Bool)) (races : List Race)
-    (states : ℕ) (complete tries : Bool) →
-    ns ≡ ns' → p ≡ p' → t ≡ races_text ns (thread_names p) flags races states complete tries →
-    t ≡ races_text ns' (thread_names p') flags races states complete tries
-same_races t ns ns' p p' flags races states complete tries names program is =
-    subst (λ x. t ≡ races_text x (thread_names p') flags races states complete tries) names
-    (subst (λ x. t ≡ races_text ns (thread_names x) flags races states complete tries) program is)
+pub same_races : (t : Text) (ns ns' : Names) (p p' : Program) (text : Text) (tokens : List Token)
+    (flags : List (List Bool)) (races : List Race) (states : ℕ) (complete tries : Bool) →
+    ns ≡ ns' → p ≡ p' → t ≡ races_text ns text tokens (thread_names p) flags races states complete tries →
+    t ≡ races_text ns' text tokens (thread_names p') flags races states complete tries
+same_races t ns ns' p p' text tokens flags races states complete tries names program is =
+    subst (λ x. t ≡ races_text x text tokens (thread_names p') flags races states complete tries) names
+    (subst (λ x. t ≡ races_text ns text tokens (thread_names x) flags races states complete tries) program is)
 
 -- where the number of states isn't bad, some may be kept
 pub some_kept : (limit : ℕ) → ¬ AreBadStates limit → 1 ≤ limit

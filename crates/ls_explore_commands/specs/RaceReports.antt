@@ -8,6 +8,8 @@ use Rattle.ls_race_laws.specs.declared.access.Kind.{Kind}
 use Rattle.ls_race_laws.specs.declared.access.Kind.TheVariants.{Field, Element}
 use Rattle.ls_races.specs.declared.finding.Race.{Race}
 use Rattle.ls_races.specs.Volatile.{is_unsure}
+use Rattle.ls_lexer.specs.declared.token.Token.{Token}
+use Rattle.ls_race_places.specs.Places.{last_lines}
 use Rattle.ls_race_reports.specs.Sure.{first_sure}
 use Rattle.ls_race_reports.specs.Words.{fields_text}
 use Rattle.ls_explore_commands.specs.Reports.{run_report}
@@ -32,9 +34,17 @@ kind_line names classes Element =
 kind_line names classes (Field fields field) =
     field_line (is_unsure classes (Field fields field)) (fields_text names fields field 0 false classes)
 
-abbrev pub kinds_text : Names → List (List Bool) → List Race → Text
-kinds_text names classes [] = []
-kinds_text names classes (r ∷ races) = kind_line names classes r.on ++ kinds_text names classes races
+abbrev pub lines_unless : Bool → Text → Text
+lines_unless true lines = []
+lines_unless false lines = lines
+
+-- of each race that, and then where the class text has the accesses, unless it isn't known to be one
+abbrev pub kinds_text : Names → Text → List Token → List (List Bool) → List Race → Text
+kinds_text names text tokens classes [] = []
+kinds_text names text tokens classes (r ∷ races) =
+    kind_line names classes r.on
+    ++ (lines_unless (is_unsure classes r.on) (last_lines names text tokens r.schedule)
+    ++ kinds_text names text tokens classes races)
 
 -- the lines of the trace of the last two steps
 abbrev pub accesses_text : Names → List ℕ → Text
@@ -64,9 +74,11 @@ whole_text false = codes " cut\n"
 abbrev pub extent_text : ℕ → Bool → Text
 extent_text states complete = codes "states " ++ (decimal states ++ whole_text complete)
 
--- A run with a data race, if there is one, a line for each kind of variable on which accesses race, and how many states
--- were kept. It is told whether all kinds were found, and whether the class text has a call of `tryLock`.
-abbrev pub races_text : Names → List Text → List (List Bool) → List Race → ℕ → Bool → Bool → Text
-races_text names threads classes races states complete tries =
+-- A run with a data race, if there is one. A line for each kind of variable on which accesses race, with the places of
+-- the accesses in the class text, whose tokens are given. And how many states were kept. It is told whether all kinds
+-- were found, and whether the class text has a call of `tryLock`.
+abbrev pub races_text : Names → Text → List Token → List Text → List (List Bool) → List Race → ℕ → Bool → Bool →
+    Text
+races_text names text tokens threads classes races states complete tries =
     head_text names threads (first_sure classes races) (none_text races complete tries)
-    ++ (kinds_text names classes races ++ extent_text states complete)
+    ++ (kinds_text names text tokens classes races ++ extent_text states complete)

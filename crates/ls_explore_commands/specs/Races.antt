@@ -14,6 +14,8 @@ use Rattle.ls_races.specs.Extents.{IsRaceExtent}
 use Rattle.ls_races.specs.Races.{AllAreOn, AreRaces, kinds_of}
 use Rattle.ls_races.specs.Volatile.{volatile_by}
 use Rattle.ls_races.specs.declared.finding.Race.{Race}
+use Rattle.ls_lexer.specs.declared.token.Token.{Token}
+use Rattle.ls_race_places.specs.Places.{AreTokens}
 use Rattle.ls_race_reports.specs.ClassFlags.{AreFlags}
 use Rattle.ls_explore_commands.specs.RaceReports.{races_text}
 use Rattle.ls_explore_commands.specs.Readable.{IsReadBack}
@@ -26,18 +28,21 @@ AreRead i (r ∷ races) = IsReadBack i r.schedule × AreRead i races
 -- The text of a program's data races, or why there is none. Each that is told is one by happens-before: its last two
 -- steps are the accesses. If it is said that these are all, accesses meet on variables of no other kind, after no
 -- schedule of any length. If it isn't, so many states were kept as may be, or they have too many objects, or accesses
--- meet too late for a schedule. The states that are told are those to which so many schedules lead.
+-- meet too late for a schedule. The states that are told are those to which so many schedules lead. The places of the
+-- accesses are by the tokens of the class text.
 pub data Raced (classes : Text) (i : Image) (limit : ℕ) : Result Text ToolFault → Type 0 where
   NoStates : AreBadStates limit → Raced classes i limit (Err (faults.Explore explore.BadStates))
-  Tells : (flags : List (List Bool)) (races : List Race) (states : ℕ) (complete tries : Bool) →
+  Tells : (tokens : List Token) (flags : List (List Bool)) (races : List Race) (states : ℕ) (complete tries : Bool) →
       ¬ AreBadStates limit →
+      AreTokens classes tokens →
       AreFlags classes flags →
       (tries ≡ true) ↔ HasSubslice classes (codes "tryLock") →
       AreRaces (volatile_by flags) [] (file_of i) (program_of i) races →
       (complete ≡ true → AllAreOn (volatile_by flags) (kinds_of races) (file_of i) (program_of i)) →
       IsRaceExtent (volatile_by flags) (kinds_of races) (file_of i) (program_of i) limit states complete →
       AreRead i races →
-      Raced classes i limit (Ok (races_text (names_in i) (names_of_image i) flags races states complete tries))
+      Raced classes i limit
+      (Ok (races_text (names_in i) classes tokens (names_of_image i) flags races states complete tries))
 
 abbrev pub RacesTo : ℕ → Text → Text → Result Text ToolFault → Type 0
 RacesTo limit classes program answer = AnswersOn classes program (λ i. Raced classes i limit) answer

@@ -6,22 +6,25 @@ ghost use Rattle.ls_labels.specs.Names.{names_of};
 ghost use Rattle.ls_schedule.specs.Reading.{thread_names};
 ghost use Rattle.ls_explore_commands.specs.RaceReports.{accesses_text, extent_text, kind_line, whole_text};
 ghost use Rattle.ls_explore_commands.specs.RaceReports.{after_fields, before_fields, field_line, head_text, kinds_text};
-ghost use Rattle.ls_explore_commands.specs.RaceReports.{none_found, none_text, races_text};
+ghost use Rattle.ls_explore_commands.specs.RaceReports.{lines_unless, none_found, none_text, races_text};
+ghost use Rattle.ls_race_places.specs.Places.{last_lines};
 
 use crate::reporting::push_run;
 use ls_fewest_switches::SimpleRun;
 use ls_labels::names::Names;
 use ls_race_laws::access::Kind;
+use ls_race_places::{ClassText, push_last_lines};
 use ls_race_reports::{first_sure, kind_words};
 use ls_races::{Race, Races, is_unsure};
 use ls_trace::trace;
 use std::alloc::{AllocError, Global};
 use std::fmt::Write;
 
-/// What is told of races: the flags of the classes' fields, what was found, and whether the class text has a call of
-/// `tryLock`.
+/// What is told of races: the class text, the flags of the classes' fields, what was found, and whether the class text
+/// has a call of `tryLock`.
 #[derive(Copy)]
 pub(crate) struct Told<'a> {
+    pub text: ClassText<'a>,
     pub flags: &'a [Vec<bool>],
     pub found: &'a Races,
     pub tries: bool,
@@ -80,22 +83,44 @@ fn push_kind(
     }
 }
 
-/// Adds a line for each kind of variable on which accesses race.
+/// Adds where the class text has the accesses of a race, unless it isn't known to be one.
+fn push_places(
+    alloc: Global,
+    out: &mut String,
+    names: Names<'_>,
+    text: ClassText<'_>,
+    unsure: bool,
+    steps: &[u8],
+) -> Result<(), AllocError>
+    ensures { OnOk result (string_bytes out.new ≡ string_bytes out.old ++
+        lines_unless unsure (last_lines (names_of names.entry) text.entry.text.now text.entry.tokens.now steps.now)) }
+{
+    if unsure {
+        return Ok(());
+    }
+    push_last_lines(alloc, out, names, text, steps)
+}
+
+/// Adds a line for each kind of variable on which accesses race, and where the class text has the accesses.
 fn push_kinds(
     alloc: Global,
     out: &mut String,
     names: Names<'_>,
+    text: ClassText<'_>,
     flags: &[Vec<bool>],
     races: &[Race],
 ) -> Result<(), AllocError>
     ensures { OnOk result (string_bytes out.new ≡ string_bytes out.old ++
-        kinds_text (names_of names.entry) (map (λ v. v.items) flags.now) races.now) }
+        kinds_text (names_of names.entry) text.entry.text.now text.entry.tokens.now (map (λ v. v.items) flags.now)
+        races.now) }
 {
     match races {
         [] => Ok(()),
         [race, rest @ ..] => {
             push_kind(alloc, out, names, flags, race.on)?;
-            push_kinds(alloc, out, names, flags, rest)
+            let unsure = is_unsure(flags, race.on);
+            push_places(alloc, out, names, text, unsure, race.schedule.steps())?;
+            push_kinds(alloc, out, names, text, flags, rest)
         }
     }
 }
@@ -192,7 +217,8 @@ pub(crate) fn print_races(
     told: Told<'_>,
 ) -> Result<String, AllocError>
     ensures { IfOk result (λ text. string_bytes text ≡
-        races_text (names_of names.entry) (thread_names names.entry.program.now)
+        races_text (names_of names.entry) told.entry.text.text.now told.entry.text.tokens.now
+        (thread_names names.entry.program.now)
         (map (λ v. v.items) told.entry.flags.now) told.entry.found.now.races.items told.entry.found.now.states
         told.entry.found.now.complete told.entry.tries) }
 {
@@ -207,7 +233,7 @@ pub(crate) fn print_races(
         first_sure(told.flags, races),
         otherwise,
     )?;
-    push_kinds(alloc, &mut out, names, told.flags, races)?;
+    push_kinds(alloc, &mut out, names, told.text, told.flags, races)?;
     push_extent(&mut out, told.found.states, complete)?;
     Ok(out)
 }

@@ -12,6 +12,7 @@ use ls_explore::ExploreFault;
 use ls_explore_reports::names_in;
 use ls_faults::fault::ToolFault;
 use ls_image::image::Image;
+use ls_race_places::{ClassText, tokens_in};
 use ls_race_reports::{flags_in, has_try_lock, races_of};
 use std::alloc::Global;
 
@@ -25,8 +26,13 @@ fn raced(alloc: Global, image: &Image, states: usize, classes: &str) -> Result<S
     }
     let declared = flags_in(alloc, classes)?;
     let flags = declared.as_slice();
+    let tokens = tokens_in(alloc, classes)?;
     let found = races_of(alloc, image, states, flags)?;
     let told = Told {
+        text: ClassText {
+            text: classes,
+            tokens: tokens.as_slice(),
+        },
         flags,
         found: &found,
         tries: has_try_lock(classes),
