@@ -25,7 +25,7 @@ KINDS = ("throws", "waits for ever", "never ends")
 ALONE_LINE = re.compile(rf"// a call ({'|'.join(KINDS)}) when calls run one at a time: (.*)")
 LINE = re.compile(rf"// in (at least )?(\d+) a call ({'|'.join(KINDS)}) when calls run one at a time: number (\d+), (.*)")
 KEPT_LINE = re.compile(r"// number (\d+) of (\d+): a lock is never given back: (.*)")
-METHOD = re.compile(r"^  (?:synchronized )?void \w+\(\) \{(.*)\}$", re.M)
+METHOD = re.compile(r"^  (?:synchronized )?void \w+\(\) \{(.*?)\}\n(?=  (?:synchronized )?void|\})", re.M | re.S)
 STRICT_LINE = re.compile(rf"// number (\d+) of \d+: a call ({'|'.join(KINDS)}) when calls run one at a time: (.*)")
 
 
