@@ -281,6 +281,9 @@ fn found_in<W: Watch>(
 /// decides what is looked for, this is said at once, whatever the bounds. It isn't, if calls are looked for that throw
 /// or never end when calls run one at a time: then the first program with such a call is found, too.
 ///
+/// Without that, if threads that wait are looked for and no call of the menu may give back a lock that another call has
+/// taken, the first program is found in which a call waits for ever when calls run one at a time.
+///
 /// If no range is asked for and none is found, lines say of calls that run one at a time in how many programs one
 /// throws, waits for ever or never ends, and in which first. A last line says of data races what a search for them
 /// says: that there is none, or the first program with one and the variable. If data races are looked for, nothing else
