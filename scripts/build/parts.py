@@ -1,10 +1,47 @@
-"""Cuts the code of a program, as text of LLVM, into parts that can be compiled side by side."""
+"""Cuts the code of a program, as text of LLVM, into parts that can be compiled side by side. Of functions that are alike one is compiled."""
 import re
 
 NAME = re.compile(r'@(?:"[^"\n]+"|[\w.$-]+)')
 WHOLE = re.compile(r'^define [^\n]*?(@(?:"[^"\n]+"|[\w.$-]+))\([^\n]*\{\n.*?^\}\n', re.M | re.S)
 # A function of so few bytes of text is copied into each part that calls it, so that it can be inlined there.
 SHORT = 6000
+
+
+def kinds(bodies):
+    """Returns a number for each function. Two have the same one only if their texts are the same but for their own names, and for names of
+    functions that have the same number in turn. So a call of one does what a call of the other does."""
+    texts, uses, found = {}, {}, {}
+    for name, body in bodies.items():
+        uses[name] = [None if it == name else it for it in NAME.findall(body)]
+        found[name] = texts.setdefault(NAME.sub("@", body), len(texts))
+    count = len(texts)
+    while True:
+        numbers = {}
+        found = {name: numbers.setdefault((found[name], *(found.get(it, it) for it in used)), len(numbers)) for name, used in uses.items()}
+        if len(numbers) == count:
+            return found
+        count = len(numbers)
+
+
+def merged(text):
+    """Returns the text with one function in the place of all that are alike. It makes no difference which of them is called, as long as the
+    program compares no two places of functions."""
+    bodies = {it[1]: it[0] for it in WHOLE.finditer(text)}
+    first, found = {}, kinds(bodies)
+    for name, kind in found.items():
+        first.setdefault(kind, name)
+    meant = {name: first[kind] for name, kind in found.items()}
+
+    def renamed(it):
+        return NAME.sub(lambda name: meant.get(name[0], name[0]), it)
+
+    rest, at = [], 0
+    for it in WHOLE.finditer(text):
+        rest.append(renamed(text[at : it.start()]))
+        at = it.end()
+        if meant[it[1]] == it[1]:
+            rest.append(renamed(it[0]))
+    return "".join([*rest, renamed(text[at:])])
 
 
 def reached(uses, roots):
