@@ -1,0 +1,239 @@
+// New objects and arrays, with their arguments (JLS 15.9, 15.10).
+
+use crate::arrays::{add_item, begin_items, sized};
+use crate::creations::{
+    by_constructor, chosen, class_type, delegate_of, each_thread, enter_delegate, leave_delegate,
+    made_kind, new_library, new_thread_local, without_constructor,
+};
+use crate::expressions::{expression, operands, part_as, parts};
+use crate::parts::as_kind;
+use crate::writing::emit;
+use ls_java_tables::constants::fold;
+use ls_java_tables::finding::class_here;
+use ls_java_tables::kinds::kind_of_element;
+use ls_java_tables::remarks::{Stop, Why};
+use ls_java_tables::restater::{Restater, is_named, name_of, refuse};
+use ls_java_tables::ropes::Text;
+use ls_java_tables::types::{kind_here, kind_with_brackets};
+use ls_java_tables::values::{Constant, Kind, Value};
+use ls_java_tree::declarations::{Body, Member};
+use ls_java_tree::expressions::{Expression, ExpressionKind, Literal};
+use ls_java_tree::statements::StatementKind;
+use ls_java_tree::types::Type;
+
+/// A new object (JLS 15.9).
+#[cycle(expressions)]
+pub(crate) fn creation<'a>(
+    restater: &mut Restater<'a>,
+    out: &mut Text,
+    tree: &'a Expression,
+    wanted: Option<Kind>,
+    limit: usize,
+) -> Result<Value, Stop> {
+    let at = tree.span.first;
+    let ExpressionKind::New {
+        class,
+        arguments,
+        body,
+    } = &tree.kind
+    else {
+        return refuse(restater, at, Why::Other);
+    };
+    let Some(named) = class_type(class) else {
+        return refuse(restater, at, Why::UnknownClass);
+    };
+    let wanted_class = name_of(restater, &named.name);
+    let found = class_here(restater, wanted_class);
+    if found.is_none() && is_named(&named.name, "ThreadLocal") {
+        let first = initial_value(restater, *body);
+        return thread_local(restater, out, at, wanted, first, limit);
+    }
+    if body.is_some() {
+        return refuse(restater, at, Why::Anonymous);
+    }
+    let values = operands(restater, out, at, arguments, limit)?;
+    match found {
+        Some(class) => object(restater, out, at, class, values, limit),
+        None => {
+            let kind = made_kind(restater, class, wanted)?;
+            new_library(restater, at, &named.name, kind, &values)
+        }
+    }
+}
+
+// A new object of a class of the file. A constructor that only calls another one by `this(..)` is restated as that
+// call.
+#[cycle(expressions)]
+fn object<'a>(
+    restater: &mut Restater<'a>,
+    out: &mut Text,
+    at: usize,
+    class: usize,
+    arguments: Vec<Value>,
+    limit: usize,
+) -> Result<Value, Stop> {
+    let mut values = arguments;
+    for _ in 0..=restater.tables.constructors.len() {
+        let Some(number) = chosen(restater, at, class, &values)? else {
+            return without_constructor(restater, at, class, &values);
+        };
+        let Some(others) = delegate_of(restater, number) else {
+            return by_constructor(restater, out, at, class, number, &values);
+        };
+        let outside = enter_delegate(restater, out, at, number, &values)?;
+        values = operands(restater, out, at, others, limit)?;
+        leave_delegate(restater, outside);
+    }
+    refuse(restater, at, Why::ThisCircle)
+}
+
+// The value that `initialValue` returns in the body of an anonymous ThreadLocal.
+fn initial_value<'a>(restater: &Restater<'a>, body: Option<usize>) -> Option<&'a Expression> {
+    let file = restater.file;
+    let Body::Class(members) = file.bodies.get(body?)? else {
+        return None;
+    };
+    members.iter().find_map(|member| returned(member))
+}
+
+// The value that a method of one `return` returns.
+fn returned(member: &Member) -> Option<&Expression> {
+    let Member::Method(method) = member else {
+        return None;
+    };
+    match method.body.as_ref()?.statements.first()? {
+        statement => match &statement.kind {
+            StatementKind::Return(value) => value.as_ref(),
+            _ => None,
+        },
+    }
+}
+
+// Whether a value can be made for all threads at once: a constant, `null`, or a new object of constants.
+fn is_simple(restater: &Restater, tree: &Expression) -> bool {
+    match &tree.kind {
+        ExpressionKind::Literal(_) => true,
+        ExpressionKind::New {
+            arguments,
+            body,
+            ..
+        } => {
+            body.is_none()
+                && arguments
+                    .iter()
+                    .all(|argument| fold(restater, argument).is_some())
+        }
+        _ => fold(restater, tree).is_some(),
+    }
+}
+
+// Whether a new array has this value everywhere.
+fn is_default(restater: &Restater, tree: &Expression) -> bool {
+    match &tree.kind {
+        ExpressionKind::Literal(Literal::Null) => true,
+        _ => match fold(restater, tree) {
+            Some(Constant::Int(number)) => number == 0,
+            Some(Constant::Boolean(truth)) => !truth,
+            None => false,
+        },
+    }
+}
+
+/// A new ThreadLocal: an array by the thread's number, with the value that each thread finds first.
+#[cycle(expressions)]
+pub(crate) fn thread_local<'a>(
+    restater: &mut Restater<'a>,
+    out: &mut Text,
+    at: usize,
+    wanted: Option<Kind>,
+    first: Option<&'a Expression>,
+    limit: usize,
+) -> Result<Value, Stop> {
+    let Some(Kind::ThreadLocal(element)) = wanted else {
+        return refuse(restater, at, Why::LocalThreadLocal);
+    };
+    let array = new_thread_local(restater, out, at, Kind::ThreadLocal(element))?;
+    let Some(first) = first else {
+        return Ok(array);
+    };
+    if is_default(restater, first) {
+        return Ok(array);
+    }
+    if !is_simple(restater, first) {
+        return refuse(restater, at, Why::Other);
+    }
+    let index = each_thread(restater, out, at)?;
+    let value = expression(restater, out, first, limit)?;
+    let value = as_kind(restater, at, value, kind_of_element(element))?;
+    let parts = [array.text, index.text, value.text];
+    emit(restater, out, at, "# . set ( # , # ) ; }", &parts)?;
+    Ok(array)
+}
+
+// The kind of a new array: that which is wanted, else the one that is written.
+fn array_kind(
+    restater: &mut Restater,
+    item: &Type,
+    dimensions: usize,
+    wanted: Option<Kind>,
+) -> Result<Kind, Stop> {
+    match wanted {
+        Some(Kind::Array(element)) => Ok(Kind::Array(element)),
+        _ => kind_with_brackets(restater, item, dimensions),
+    }
+}
+
+/// A new array, by its lengths or by its items (JLS 15.10, 10.6).
+#[cycle(expressions)]
+pub(crate) fn array<'a>(
+    restater: &mut Restater<'a>,
+    out: &mut Text,
+    tree: &'a Expression,
+    wanted: Option<Kind>,
+    limit: usize,
+) -> Result<Value, Stop> {
+    let at = tree.span.first;
+    match &tree.kind {
+        ExpressionKind::NewArray {
+            item,
+            lengths,
+            open,
+        } => {
+            let mut all = Vec::new(restater.alloc);
+            parts(restater, &mut all, lengths, limit)?;
+            let dimensions = lengths.len().saturating_add(*open);
+            let kind = array_kind(restater, item, dimensions, wanted)?;
+            sized(restater, out, at, kind, &all)
+        }
+        ExpressionKind::Items { array, items } => {
+            let kind = match (array, wanted) {
+                (Some(written), _) => kind_here(restater, written)?,
+                (None, Some(kind)) => kind,
+                (None, None) => return refuse(restater, at, Why::ItemsHere),
+            };
+            with_items(restater, out, at, kind, items, limit)
+        }
+        _ => refuse(restater, at, Why::Other),
+    }
+}
+
+// A new array with these items.
+#[cycle(expressions)]
+fn with_items<'a>(
+    restater: &mut Restater<'a>,
+    out: &mut Text,
+    at: usize,
+    kind: Kind,
+    items: &'a [Expression],
+    limit: usize,
+) -> Result<Value, Stop> {
+    let Kind::Array(element) = kind else {
+        return refuse(restater, at, Why::ItemsHere);
+    };
+    let array = begin_items(restater, out, at, kind, items.len())?;
+    for (place, item) in items.iter().enumerate() {
+        let one = part_as(restater, item, kind_of_element(element), limit)?;
+        add_item(restater, out, array, place, one)?;
+    }
+    Ok(array)
+}

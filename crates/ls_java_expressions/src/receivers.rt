@@ -1,0 +1,107 @@
+// What stands before the name of a method that is called.
+
+use crate::members::type_name;
+use ls_java_tables::restater::{Restater, is_named, local_of, name_of};
+use ls_java_tree::expressions::{Expression, ExpressionKind};
+use ls_java_tree::names::Name;
+use std::alloc::AllocError;
+
+/// What a call is of: a method by its name alone; a static one of a class; what prints; the thread itself; a condition,
+/// with its lock; one lock of a ReadWriteLock; or an object.
+#[derive(Copy)]
+pub enum Receiver<'t> {
+    Own,
+    Class(&'t Name),
+    Printing,
+    ThisThread,
+    Condition(&'t Expression),
+    Half {
+        lock: &'t Expression,
+        of_write: bool,
+    },
+    Object(&'t Expression),
+}
+
+impl<'t> Clone for Receiver<'t> {
+    fn clone(&self) -> Result<Receiver<'t>, AllocError> {
+        Ok(*self)
+    }
+}
+
+// The name that an expression is, alone or behind `this`.
+fn own_name(target: &Expression) -> Option<&Name> {
+    match &target.kind {
+        ExpressionKind::Name(name) => Some(name),
+        ExpressionKind::Field { target, name } => match &target.kind {
+            ExpressionKind::This(None) => Some(name),
+            _ => None,
+        },
+        _ => None,
+    }
+}
+
+// The lock of the condition that an expression is.
+fn condition_lock<'a>(restater: &Restater<'a>, target: &Expression) -> Option<&'a Expression> {
+    let name = name_of(restater, own_name(target)?);
+    if local_of(restater, name).is_some() {
+        return None;
+    }
+    let class = restater.place.class;
+    let conditions = &restater.tables.conditions;
+    let found = conditions
+        .iter()
+        .find(|one| one.class == class && one.name == name)?;
+    Some(found.lock)
+}
+
+// What a call is of whose target is a field of something: `System.out`, `TimeUnit.SECONDS`.
+fn library_field(restater: &Restater, target: &Expression) -> bool {
+    let ExpressionKind::Field { target, .. } = &target.kind else {
+        return false;
+    };
+    match type_name(restater, target) {
+        Some(name) => is_named(name, "System") || is_named(name, "TimeUnit"),
+        None => false,
+    }
+}
+
+// What a call is of whose target is a call: `currentThread()`, `readLock()`, `writeLock()`.
+fn called(target: &Expression) -> Option<Receiver<'_>> {
+    let ExpressionKind::Call {
+        target: lock,
+        name,
+        ..
+    } = &target.kind
+    else {
+        return None;
+    };
+    if is_named(name, "currentThread") {
+        return Some(Receiver::ThisThread);
+    }
+    let lock = lock.as_deref()?;
+    let of_write = is_named(name, "writeLock");
+    if of_write || is_named(name, "readLock") {
+        return Some(Receiver::Half { lock, of_write });
+    }
+    None
+}
+
+/// What a call is of.
+pub fn receiver_of<'a>(restater: &Restater<'a>, target: Option<&'a Expression>) -> Receiver<'a> {
+    let Some(target) = target else {
+        return Receiver::Own;
+    };
+    if let Some(lock) = condition_lock(restater, target) {
+        return Receiver::Condition(lock);
+    }
+    if library_field(restater, target) {
+        return Receiver::Printing;
+    }
+    if let Some(found) = called(target) {
+        return found;
+    }
+    match type_name(restater, target) {
+        Some(class) => Receiver::Class(class),
+        None => Receiver::Object(target),
+    }
+}

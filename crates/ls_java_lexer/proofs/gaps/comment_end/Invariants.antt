@@ -1,0 +1,10 @@
+-- What the loop `end` of `comment_end` in src/gaps.rt keeps, and why the loop ends.
+
+use Rattle.std.proofs.Common.{◌-◌, ◌≤◌, length}
+use Rattle.ls_java_lexer.proofs.gaps.comment_end.Given as goal
+
+abbrev pub invariant-loop-end : goal.invariant-loop-end
+invariant-loop-end l = l.at ≤ l.end
+
+abbrev pub decreases-loop-end : goal.decreases-loop-end
+decreases-loop-end l = length l.bytes - l.end

@@ -1,0 +1,10 @@
+-- What the loop `end` of `number_end` in src/numbers.rt keeps, and why the loop ends.
+
+use Rattle.std.proofs.Common.{◌-◌, ◌≤◌, ◌<◌, length}
+use Rattle.ls_java_lexer.proofs.numbers.number_end.Given as goal
+
+abbrev pub invariant-loop-end : goal.invariant-loop-end
+invariant-loop-end l = (l.at < l.end) × (l.end ≤ length l.bytes)
+
+abbrev pub decreases-loop-end : goal.decreases-loop-end
+decreases-loop-end l = length l.bytes - l.end

@@ -1,0 +1,123 @@
+// Classes (JLS 8.1): each stands beside the others.
+
+use crate::constructors::{Head, all_constructors, plain_constructor, written_class};
+use crate::fields::all_fields;
+use crate::methods::all_methods;
+use crate::places::{handed, keep_unless_refused, next_sign, say_handed_fields, say_modifiers};
+use ls_java_expressions::writing::emit;
+use ls_java_tables::finding::{is_split, outer_of};
+use ls_java_tables::remarks::{Stop, What};
+use ls_java_tables::restater::{Restater, is_handed_outer, is_waited_on, note_word};
+use ls_java_tables::ropes::Text;
+use ls_java_tables::spelling::{append, say, say_word, word};
+use ls_java_tables::values::Kind;
+use ls_java_tree::declarations::TypeDeclaration;
+use ls_lexer::sign::Sign;
+
+// The head of a class: modifiers, `class`, its name and a brace.
+fn say_class(
+    restater: &mut Restater,
+    out: &mut Text,
+    kind: Kind,
+    tree: &TypeDeclaration,
+    inner: bool,
+) -> Result<(), Stop> {
+    let token = tree.head.name.token;
+    if !inner {
+        say_modifiers(restater, out, &tree.head.modifiers, "private")?;
+    }
+    say(restater, out, "class", token.saturating_sub(1))?;
+    let name = written_class(restater, kind);
+    say_word(restater, out, name, token)?;
+    let brace = next_sign(restater, token, Sign::OpenBrace);
+    say(restater, out, "{", brace)?;
+    if is_waited_on(restater, kind) {
+        let monitor = word(restater, restater.added.monitor, brace)?;
+        emit(
+            restater,
+            out,
+            brace,
+            "Lock # = new ReentrantLock ( ) ;",
+            &[monitor],
+        )?;
+    }
+    Ok(())
+}
+
+// A class that isn't split, or the class of the objects of one that is.
+fn objects(
+    restater: &mut Restater,
+    out: &mut Text,
+    class: usize,
+    tree: &TypeDeclaration,
+) -> Result<(), Stop> {
+    let kind = Kind::Class(class);
+    let token = tree.head.name.token;
+    let inner = outer_of(restater, class).is_some();
+    let handed = handed(restater, class)?;
+    if is_handed_outer(restater, class) {
+        let name = written_class(restater, kind);
+        note_word(restater, token, name, What::HandsOuter)?;
+    }
+    say_class(restater, out, kind, tree, inner)?;
+    say_handed_fields(restater, out, &handed, token)?;
+    let fields = all_fields(restater, class, false, !handed.is_empty())?;
+    append(restater, out, fields.declared)?;
+    let head = Head {
+        class,
+        name: written_class(restater, kind),
+        token,
+        handed: &handed,
+        fields,
+    };
+    all_constructors(restater, out, head)?;
+    all_methods(restater, out, class, false)?;
+    say(restater, out, "}", tree.span.last)
+}
+
+// The class of the static members of a class that is split.
+fn statics(
+    restater: &mut Restater,
+    out: &mut Text,
+    class: usize,
+    tree: &TypeDeclaration,
+) -> Result<(), Stop> {
+    let kind = Kind::Statics(class);
+    let inner = outer_of(restater, class).is_some();
+    say_class(restater, out, kind, tree, inner)?;
+    let fields = all_fields(restater, class, true, false)?;
+    append(restater, out, fields.declared)?;
+    let head = Head {
+        class,
+        name: written_class(restater, kind),
+        token: tree.head.name.token,
+        handed: &[],
+        fields,
+    };
+    plain_constructor(restater, out, head)?;
+    all_methods(restater, out, class, true)?;
+    say(restater, out, "}", tree.span.last)
+}
+
+// The class of a number.
+fn class(restater: &mut Restater, out: &mut Text, number: usize) -> Result<(), Stop> {
+    let Some(known) = restater.tables.classes.get(number) else {
+        return Ok(());
+    };
+    let tree = known.tree;
+    if is_split(restater, number) {
+        statics(restater, out, number, tree)?;
+    }
+    objects(restater, out, number, tree)
+}
+
+/// All classes of the file, in its order.
+pub fn all_classes(restater: &mut Restater) -> Result<Text, Stop> {
+    let mut out = Text::EMPTY;
+    for number in 0..restater.tables.classes.len() {
+        let before = out;
+        let done = class(restater, &mut out, number);
+        keep_unless_refused(done, &mut out, before)?;
+    }
+    Ok(out)
+}

@@ -1,0 +1,177 @@
+// Fields and initialisers (JLS 8.3, 8.6, 12.5).
+
+use crate::places::{enter_member, keep_unless_refused, say_modifiers};
+use ls_java_expressions::expressions::expression_as;
+use ls_java_expressions::writing::emit;
+use ls_java_statements::bodies::body;
+use ls_java_tables::collecting::has_static;
+use ls_java_tables::finding::is_split;
+use ls_java_tables::remarks::{Stop, What};
+use ls_java_tables::restater::{Restater, note_word};
+use ls_java_tables::ropes::Text;
+use ls_java_tables::spelling::{append, say, say_word, word};
+use ls_java_tables::tables::Field;
+use ls_java_tables::types::type_text;
+use ls_java_tables::values::{Kind, Value};
+use ls_java_tree::declarations::{Initializer, Member};
+use ls_java_tree::statements::Declaration;
+
+/// What is written of a class's fields: their declarations, and what goes to the head of the constructor. Once one
+/// initialiser goes there, all later ones do.
+#[derive(Clone, Copy)]
+pub(crate) struct Fields {
+    pub declared: Text,
+    pub late: Text,
+    pub moved: bool,
+}
+
+// The field that a name at a token declares.
+fn field_at<'a>(restater: &Restater<'a>, token: usize) -> Option<Field<'a>> {
+    restater
+        .tables
+        .fields
+        .iter()
+        .find(|field| field.declarator.name.token == token)
+        .copied()
+}
+
+// A field that isn't written: a constant, a condition, or chance.
+fn why_left_out(field: &Field) -> Option<What> {
+    if field.constant.is_some() {
+        return Some(What::ConstantInPlace);
+    }
+    match field.kind {
+        Kind::Condition | Kind::Random => Some(What::FieldLeftOut),
+        _ => None,
+    }
+}
+
+// The declaration of a field, with a value or without.
+fn say_field(
+    restater: &mut Restater,
+    out: &mut Text,
+    field: &Field,
+    value: Option<Value>,
+) -> Result<(), Stop> {
+    let name = &field.declarator.name;
+    say_modifiers(restater, out, &field.tree.modifiers, "")?;
+    let text = type_text(restater, field.kind, field.tree.type_name.span.first)?;
+    append(restater, out, text)?;
+    say_word(restater, out, field.name, name.token)?;
+    if let Some(value) = value {
+        say(restater, out, "=", name.token.saturating_add(1))?;
+        append(restater, out, value.text)?;
+    }
+    say(restater, out, ";", field.tree.span.last)
+}
+
+// A field with its value: where it is declared, or in the constructor if an earlier initialiser is there or the value
+// needs statements.
+fn valued_field<'a>(
+    restater: &mut Restater<'a>,
+    fields: &mut Fields,
+    field: &Field<'a>,
+) -> Result<(), Stop> {
+    let Some(tree) = &field.declarator.value else {
+        return say_field(restater, &mut fields.declared, field, None);
+    };
+    let mut before = Text::EMPTY;
+    let value = expression_as(restater, &mut before, tree, field.kind)?;
+    if before == Text::EMPTY && !fields.moved {
+        return say_field(restater, &mut fields.declared, field, Some(value));
+    }
+    say_field(restater, &mut fields.declared, field, None)?;
+    fields.moved = true;
+    append(restater, &mut fields.late, before)?;
+    let token = field.declarator.name.token;
+    let name = word(restater, field.name, token)?;
+    emit(
+        restater,
+        &mut fields.late,
+        token,
+        "# = # ;",
+        &[name, value.text],
+    )
+}
+
+// One field of a declaration.
+fn field<'a>(
+    restater: &mut Restater<'a>,
+    fields: &mut Fields,
+    field: &Field<'a>,
+) -> Result<(), Stop> {
+    if let Some(what) = why_left_out(field) {
+        return note_word(restater, field.declarator.name.token, field.name, what);
+    }
+    enter_member(restater, field.class, field.is_static)?;
+    valued_field(restater, fields, field)
+}
+
+// The fields of a declaration.
+fn declared<'a>(
+    restater: &mut Restater<'a>,
+    fields: &mut Fields,
+    tree: &'a Declaration,
+) -> Result<(), Stop> {
+    for declarator in &tree.declarators {
+        let Some(one) = field_at(restater, declarator.name.token) else {
+            continue;
+        };
+        let before = *fields;
+        let done = field(restater, fields, &one);
+        let mut declared = fields.declared;
+        keep_unless_refused(done, &mut declared, before.declared)?;
+        fields.declared = declared;
+    }
+    Ok(())
+}
+
+// An initialiser goes to the head of the constructor.
+fn initialiser<'a>(
+    restater: &mut Restater<'a>,
+    fields: &mut Fields,
+    class: usize,
+    tree: &'a Initializer,
+) -> Result<(), Stop> {
+    enter_member(restater, class, tree.of_static)?;
+    fields.moved = true;
+    say(restater, &mut fields.late, "{", tree.body.span.first)?;
+    body(restater, &mut fields.late, &tree.body)?;
+    say(restater, &mut fields.late, "}", tree.body.span.last)
+}
+
+/// The fields and initialisers of a class; where it is split, of its static part or of its objects. If objects are
+/// handed others, all initialisers go to the constructor.
+pub(crate) fn all_fields(
+    restater: &mut Restater,
+    class: usize,
+    is_static: bool,
+    is_handed: bool,
+) -> Result<Fields, Stop> {
+    let mut fields = Fields {
+        declared: Text::EMPTY,
+        late: Text::EMPTY,
+        moved: is_handed,
+    };
+    let split = is_split(restater, class);
+    let Some(known) = restater.tables.classes.get(class) else {
+        return Ok(fields);
+    };
+    let tree = known.tree;
+    for member in &tree.members {
+        match member {
+            Member::Field(one) if !split || has_static(&one.modifiers) == is_static => {
+                declared(restater, &mut fields, one)?;
+            }
+            Member::Initializer(one) if !split || one.of_static == is_static => {
+                let before = fields.late;
+                let done = initialiser(restater, &mut fields, class, one);
+                let mut late = fields.late;
+                keep_unless_refused(done, &mut late, before)?;
+                fields.late = late;
+            }
+            _ => {}
+        }
+    }
+    Ok(fields)
+}

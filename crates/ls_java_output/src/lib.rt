@@ -1,0 +1,11 @@
+//! The class text of what was restated, laid out as the Java file, with its comments, and where its words come from.
+#![tactic(auto)]
+
+mod comments;
+mod gaps;
+pub mod layout;
+mod leaves;
+pub mod lines;
+mod page;
+pub mod place;
+mod spacing;

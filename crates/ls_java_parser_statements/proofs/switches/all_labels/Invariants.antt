@@ -1,0 +1,10 @@
+-- What the loop `reader` of `all_labels` in src/switches.rt keeps, and why the loop ends.
+
+use Rattle.std.proofs.Common.{◌≤◌}
+use Rattle.ls_java_parser_statements.proofs.switches.all_labels.Given as goal
+
+abbrev pub invariant-loop-reader : goal.invariant-loop-reader
+invariant-loop-reader l = l.reader.left ≤ l.initial.reader.left
+
+abbrev pub decreases-loop-reader : goal.decreases-loop-reader
+decreases-loop-reader l = l.reader.left

@@ -1,0 +1,123 @@
+// `if` (JLS 14.9) and `try` (JLS 14.20).
+
+use crate::statements::{block, body};
+use ls_java_expressions::expressions::{EXPRESSION_LIMIT, part};
+use ls_java_expressions::writing::emit;
+use ls_java_tables::remarks::{Stop, What, Why};
+use ls_java_tables::restater::{Around, Restater, deeper, note, refuse};
+use ls_java_tables::ropes::Text;
+use ls_java_tables::spelling::{append, say};
+use ls_java_tables::values::Value;
+use ls_java_tree::statements::{Catch, Statement, StatementKind};
+use ls_java_tree::types::{Type, TypeKind};
+
+/// `if`.
+#[cycle(statements)]
+pub(crate) fn if_statement<'a>(
+    restater: &mut Restater<'a>,
+    out: &mut Text,
+    tree: &'a Statement,
+    limit: usize,
+) -> Result<(), Stop> {
+    let StatementKind::If { condition, .. } = &tree.kind else {
+        return refuse(restater, tree.span.first, Why::Other);
+    };
+    let test = part(restater, condition, EXPRESSION_LIMIT)?;
+    append(restater, out, test.before)?;
+    branches(restater, out, tree, test.value, limit)
+}
+
+// The branches of an `if` whose condition is restated.
+#[cycle(statements)]
+fn branches<'a>(
+    restater: &mut Restater<'a>,
+    out: &mut Text,
+    tree: &'a Statement,
+    test: Value,
+    limit: usize,
+) -> Result<(), Stop> {
+    let at = tree.span.first;
+    let StatementKind::If {
+        then,
+        otherwise,
+        ..
+    } = &tree.kind
+    else {
+        return refuse(restater, at, Why::Other);
+    };
+    emit(restater, out, at, "if ( # )", &[test.text])?;
+    body(restater, out, then, Around::If, limit)?;
+    match otherwise {
+        Some(otherwise) => else_branch(restater, out, otherwise, limit),
+        None => Ok(()),
+    }
+}
+
+// `else`. An `if` follows it as it is, if its condition needs no statements.
+#[cycle(statements)]
+fn else_branch<'a>(
+    restater: &mut Restater<'a>,
+    out: &mut Text,
+    tree: &'a Statement,
+    limit: usize,
+) -> Result<(), Stop> {
+    let at = tree.span.first;
+    say(restater, out, "else", at)?;
+    let StatementKind::If { condition, .. } = &tree.kind else {
+        return body(restater, out, tree, Around::If, limit);
+    };
+    let inner = deeper(limit)?;
+    let test = part(restater, condition, EXPRESSION_LIMIT)?;
+    if test.before == Text::EMPTY {
+        return branches(restater, out, tree, test.value, inner);
+    }
+    emit(restater, out, at, "{ #", &[test.before])?;
+    branches(restater, out, tree, test.value, inner)?;
+    say(restater, out, "}", tree.span.last)
+}
+
+// Whether a type is InterruptedException, which no thread throws.
+fn is_interrupt(written: &Type) -> bool {
+    match &written.kind {
+        TypeKind::Class(class) => class.name.text.as_str() == "InterruptedException",
+        _ => false,
+    }
+}
+
+// The catches of a `try` are left out if none of them is reached.
+fn check_catches(restater: &mut Restater, catches: &[Catch]) -> Result<(), Stop> {
+    for one in catches {
+        if !one.types.iter().all(|written| is_interrupt(written)) {
+            return refuse(restater, one.span.first, Why::Catch);
+        }
+        note(restater, one.span.first, What::CatchInterrupted)?;
+    }
+    Ok(())
+}
+
+/// `try`.
+#[cycle(statements)]
+pub(crate) fn try_statement<'a>(
+    restater: &mut Restater<'a>,
+    out: &mut Text,
+    tree: &'a Statement,
+    limit: usize,
+) -> Result<(), Stop> {
+    let at = tree.span.first;
+    let StatementKind::Try {
+        body,
+        catches,
+        finally,
+    } = &tree.kind
+    else {
+        return refuse(restater, at, Why::Other);
+    };
+    check_catches(restater, catches)?;
+    let Some(finally) = finally else {
+        return block(restater, out, body, Around::Block, limit);
+    };
+    say(restater, out, "try", at)?;
+    block(restater, out, body, Around::Block, limit)?;
+    say(restater, out, "finally", finally.span.first)?;
+    block(restater, out, finally, Around::Block, limit)
+}

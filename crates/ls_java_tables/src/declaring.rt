@@ -1,0 +1,390 @@
+// The members of the classes: fields, methods and constructors.
+
+use crate::collecting::{has_final, has_static, has_synchronized, unless_refused};
+use crate::constants::{fold, may_be_constant};
+use crate::remarks::{Stop, What};
+use crate::restater::{Restater, fresh, is_named, name_of, note, note_word};
+use crate::scanning::is_made;
+use crate::tables::{Condition, Constructor, Field, Method, Start};
+use crate::types::{Site, kind_at, kind_of};
+use crate::values::{Constant, Kind};
+use crate::words::WordId;
+use ls_java_tree::declarations::{Constructor as ConstructorTree, Member, Method as MethodTree};
+use ls_java_tree::expressions::{Expression, ExpressionKind, Parameter};
+use ls_java_tree::statements::{Block, Declaration, Declarator, StatementKind};
+use ls_java_tree::types::TypeParameter;
+
+// The kind of a field. If it is refused, so is the name.
+fn field_kind(
+    restater: &mut Restater,
+    class: usize,
+    tree: &Declaration,
+    declarator: &Declarator,
+) -> Result<Kind, Stop> {
+    let site = Site {
+        class,
+        variables: &[],
+    };
+    let kind = kind_at(restater, site, &tree.type_name, declarator.brackets);
+    if kind == Err(Stop::Refused) {
+        let name = name_of(restater, &declarator.name);
+        restater.tables.broken.push(name)?;
+    }
+    kind
+}
+
+// The lock whose `newCondition()` an expression is.
+fn lock_of(expression: &Expression) -> Option<&Expression> {
+    match &expression.kind {
+        ExpressionKind::Call {
+            target: Some(target),
+            name,
+            ..
+        } if is_named(name, "newCondition") => Some(target),
+        ExpressionKind::Paren(inner) => lock_of(inner),
+        _ => None,
+    }
+}
+
+// One field.
+fn add_field<'a>(
+    restater: &mut Restater<'a>,
+    class: usize,
+    tree: &'a Declaration,
+    declarator: &'a Declarator,
+) -> Result<(), Stop> {
+    let kind = field_kind(restater, class, tree, declarator)?;
+    let name = name_of(restater, &declarator.name);
+    restater.tables.fields.push(Field {
+        class,
+        name,
+        tree,
+        declarator,
+        is_static: has_static(&tree.modifiers),
+        is_final: has_final(&tree.modifiers),
+        kind,
+        constant: None,
+    })?;
+    if let Some(value) = &declarator.value {
+        if let Some(lock) = lock_of(value) {
+            restater
+                .tables
+                .conditions
+                .push(Condition { class, name, lock })?;
+        }
+    }
+    Ok(())
+}
+
+// The fields of a declaration.
+fn add_fields<'a>(
+    restater: &mut Restater<'a>,
+    class: usize,
+    tree: &'a Declaration,
+) -> Result<(), Stop> {
+    for declarator in &tree.declarators {
+        unless_refused(add_field(restater, class, tree, declarator))?;
+    }
+    Ok(())
+}
+
+// The kinds of parameters.
+fn parameter_kinds(
+    restater: &mut Restater,
+    class: usize,
+    variables: &[TypeParameter],
+    parameters: &[Parameter],
+) -> Result<Vec<Kind>, Stop> {
+    let mut kinds = Vec::new(restater.alloc);
+    let site = Site { class, variables };
+    for parameter in parameters {
+        let kind = match &parameter.type_name {
+            Some(written) => kind_of(restater, site, written)?,
+            None => Kind::Item,
+        };
+        kinds.push(kind)?;
+    }
+    Ok(kinds)
+}
+
+// The name that a method gets: its own, if it is the first of the class.
+fn method_name(restater: &mut Restater, class: usize, tree: &MethodTree) -> Result<WordId, Stop> {
+    let name = name_of(restater, &tree.name);
+    let before = restater
+        .tables
+        .methods
+        .iter()
+        .filter(|method| method.class == class && method.name == name)
+        .count();
+    if before == 0 {
+        return Ok(name);
+    }
+    let number = before.saturating_add(1);
+    let base = format!(in restater.alloc; "{}{number}", tree.name.text.as_str())?;
+    let out = fresh(restater, base.as_str())?;
+    note_word(restater, tree.name.token, out, What::MethodRenamed)?;
+    Ok(out)
+}
+
+// Whether a method is `static void main(String[] args)`, or the like.
+fn is_main(tree: &MethodTree) -> bool {
+    is_named(&tree.name, "main") && has_static(&tree.modifiers)
+}
+
+/// Whether a method is left out: `toString()`.
+pub fn is_left_out(tree: &MethodTree) -> bool {
+    is_named(&tree.name, "toString") && tree.parameters.is_empty()
+}
+
+// The kinds of a method's parameters and of what it gives.
+fn signature(
+    restater: &mut Restater,
+    class: usize,
+    tree: &MethodTree,
+) -> Result<(Vec<Kind>, Kind), Stop> {
+    if is_main(tree) {
+        return Ok((Vec::new(restater.alloc), Kind::Void));
+    }
+    let variables = &tree.type_parameters;
+    let parameters = parameter_kinds(restater, class, variables, &tree.parameters)?;
+    let result = kind_of(restater, Site { class, variables }, &tree.result)?;
+    Ok((parameters, result))
+}
+
+// A method goes into the table.
+fn add_method<'a>(
+    restater: &mut Restater<'a>,
+    class: usize,
+    tree: &'a MethodTree,
+) -> Result<(), Stop> {
+    let name = name_of(restater, &tree.name);
+    if is_left_out(tree) {
+        return note(restater, tree.name.token, What::MethodLeftOut);
+    }
+    let kinds = signature(restater, class, tree);
+    if kinds.is_err() {
+        restater.tables.broken.push(name)?;
+    }
+    let (parameters, result) = kinds?;
+    let out = method_name(restater, class, tree)?;
+    let number = restater.tables.methods.len();
+    let me = if restater.facts.numbered.contains(&number) {
+        Some(restater.added.me)
+    } else {
+        None
+    };
+    restater.tables.methods.push(Method {
+        class,
+        name,
+        out,
+        tree,
+        is_static: has_static(&tree.modifiers),
+        is_synchronized: has_synchronized(&tree.modifiers),
+        parameters,
+        result,
+        me,
+        is_main: is_main(tree),
+    })?;
+    Ok(())
+}
+
+/// The arguments of the `this(..)` that a body is, if it is nothing else.
+pub fn delegate_of(body: &Block) -> Option<&[Expression]> {
+    if body.statements.len() != 1 {
+        return None;
+    }
+    match &body.statements.first()?.kind {
+        StatementKind::Expression(expression) => match &expression.kind {
+            ExpressionKind::ConstructorCall {
+                of_super: false,
+                arguments,
+            } => Some(arguments),
+            _ => None,
+        },
+        _ => None,
+    }
+}
+
+// The field that an assignment in a constructor means: `name` or `this.name`.
+fn assigned_name(target: &Expression) -> Option<&ls_java_tree::names::Name> {
+    match &target.kind {
+        ExpressionKind::Name(name) => Some(name),
+        ExpressionKind::Field { target, name } => match &target.kind {
+            ExpressionKind::This(None) => Some(name),
+            _ => None,
+        },
+        _ => None,
+    }
+}
+
+// The conditions that a constructor makes.
+fn add_conditions<'a>(
+    restater: &mut Restater<'a>,
+    class: usize,
+    body: &'a Block,
+) -> Result<(), Stop> {
+    for statement in &body.statements {
+        if let StatementKind::Expression(expression) = &statement.kind {
+            if let ExpressionKind::Assign { target, value, .. } = &expression.kind {
+                if let (Some(name), Some(lock)) = (assigned_name(target), lock_of(value)) {
+                    let name = name_of(restater, name);
+                    restater
+                        .tables
+                        .conditions
+                        .push(Condition { class, name, lock })?;
+                }
+            }
+        }
+    }
+    Ok(())
+}
+
+// A constructor goes into the table.
+fn add_constructor<'a>(
+    restater: &mut Restater<'a>,
+    class: usize,
+    tree: &'a ConstructorTree,
+) -> Result<(), Stop> {
+    let variables = &tree.type_parameters;
+    let parameters = parameter_kinds(restater, class, variables, &tree.parameters)?;
+    let out = name_of(restater, &tree.name);
+    add_conditions(restater, class, &tree.body)?;
+    restater.tables.constructors.push(Constructor {
+        class,
+        out,
+        tree,
+        parameters,
+        delegate: delegate_of(&tree.body),
+    })?;
+    Ok(())
+}
+
+/// The fields and initialisers of a class.
+pub fn declare_fields(restater: &mut Restater, class: usize) -> Result<(), Stop> {
+    let Some(known) = restater.tables.classes.get(class) else {
+        return Ok(());
+    };
+    let tree = known.tree;
+    for member in &tree.members {
+        match member {
+            Member::Field(field) => add_fields(restater, class, field)?,
+            Member::Initializer(tree) => restater.tables.starts.push(Start { class, tree })?,
+            _ => {}
+        }
+    }
+    Ok(())
+}
+
+/// The methods and constructors of a class.
+pub fn declare_methods(restater: &mut Restater, class: usize) -> Result<(), Stop> {
+    let Some(known) = restater.tables.classes.get(class) else {
+        return Ok(());
+    };
+    let tree = known.tree;
+    for member in &tree.members {
+        let done = match member {
+            Member::Method(method) => add_method(restater, class, method),
+            Member::Constructor(constructor) => add_constructor(restater, class, constructor),
+            _ => Ok(()),
+        };
+        unless_refused(done)?;
+    }
+    Ok(())
+}
+
+// The constant that a field is, as far as the constants are known that it names.
+fn field_constant(restater: &mut Restater, number: usize) -> Option<Constant> {
+    let field = restater.tables.fields.get(number).copied()?;
+    if field.constant.is_some() || !may_be_constant(&field) {
+        return None;
+    }
+    restater.place.class = field.class;
+    let constant = fold(restater, field.declarator.value.as_ref()?)?;
+    match (constant, field.kind) {
+        (Constant::Int(_), Kind::Int) | (Constant::Boolean(_), Kind::Boolean) => Some(constant),
+        _ => None,
+    }
+}
+
+// All fields, once. The answer is whether one more is known to be a constant.
+fn more_constants(restater: &mut Restater) -> bool {
+    let mut more = false;
+    for number in 0..restater.tables.fields.len() {
+        if let Some(constant) = field_constant(restater, number) {
+            if let Some(field) = restater.tables.fields.get_mut(number) {
+                field.constant = Some(constant);
+                more = true;
+            }
+        }
+    }
+    more
+}
+
+/// Which fields are constants (JLS 15.28).
+pub fn find_constants(restater: &mut Restater) {
+    for _ in 0..=restater.tables.fields.len() {
+        if !more_constants(restater) {
+            break;
+        }
+    }
+}
+
+/// Which classes are split: they have a static field that isn't a constant, and objects of them are made.
+pub fn find_split(restater: &mut Restater, class: usize) -> Result<(), Stop> {
+    let Some(known) = restater.tables.classes.get(class) else {
+        return Ok(());
+    };
+    let name = known.name;
+    let token = known.tree.head.name.token;
+    let fields = &restater.tables.fields;
+    let mutable = fields.iter().any(|field| field.class == class
+        && field.is_static
+        && field.constant.is_none());
+    if !mutable {
+        return Ok(());
+    }
+    if !is_made(restater, name) {
+        return note_word(restater, token, name, What::StaticMembers);
+    }
+    let base = format!(in restater.alloc; "{}Object", restater.words.text(name))?;
+    let out = fresh(restater, base.as_str())?;
+    if let Some(known) = restater.tables.classes.get_mut(class) {
+        known.is_split = true;
+        known.out = out;
+    }
+    note_word(restater, token, out, What::Split)
+}
+
+// The constructors of a class get names of methods.
+fn name_constructors(restater: &mut Restater, class: usize) -> Result<(), Stop> {
+    for number in 0..restater.tables.constructors.len() {
+        let Some(constructor) = restater.tables.constructors.get(number) else {
+            break;
+        };
+        if constructor.class != class {
+            continue;
+        }
+        let token = constructor.tree.name.token;
+        let out = fresh(restater, "make")?;
+        if let Some(constructor) = restater.tables.constructors.get_mut(number) {
+            constructor.out = out;
+        }
+        note_word(restater, token, out, What::ConstructorMethod)?;
+    }
+    Ok(())
+}
+
+/// Which constructors a class has: one, others that only call it, or several.
+pub fn find_constructors(restater: &mut Restater, class: usize) -> Result<(), Stop> {
+    let own = restater.tables.constructors.iter();
+    let real = own
+        .filter(|one| one.class == class && one.delegate.is_none())
+        .count();
+    if real < 2 {
+        return Ok(());
+    }
+    if let Some(known) = restater.tables.classes.get_mut(class) {
+        known.several_constructors = true;
+    }
+    name_constructors(restater, class)
+}

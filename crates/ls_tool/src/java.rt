@@ -1,0 +1,134 @@
+// A Java file, restated as a class text.
+
+ghost use Rattle.std.specs.Prelude.{◌≡◌, Err, IfOk, List, Some, map, string_bytes};
+ghost use Rattle.ls_command_line.specs.declared.words.Request.TheVariants as requests;
+ghost use Rattle.ls_files.specs.Names.{file_names_in};
+ghost use Rattle.ls_items.specs.Cutting.{plain_text};
+ghost use Rattle.ls_items.specs.Parts.{parts_of};
+ghost use Rattle.ls_report.specs.Events.{Text};
+ghost use Rattle.ls_tool.specs.Output.{Asks, Decides, IsTaken, names_of, read_as};
+ghost use Rattle.ls_tool.specs.Restated.{Restates, RestatesParts};
+
+use crate::explained::refusal_of;
+use crate::refusal::Refusal;
+use crate::said::Said;
+use ls_command_line::CommandLine;
+use ls_faults::fault::ToolFault;
+use ls_files::unmarked;
+use ls_items::{parts_of, text_of};
+use ls_java::fault::NotRestated;
+use ls_java::restating::{Restated, restate};
+use ls_java::told::{notes_told, refusal_told};
+use std::alloc::{AllocError, Global};
+
+/// The name of the file, if it has one.
+fn name_of(names: Option<&[String]>) -> Option<&str> {
+    match names {
+        Some([name, ..]) => Some(name.as_str()),
+        _ => None,
+    }
+}
+
+/// The class text, and what is told of how it was restated.
+fn said_of_java(alloc: Global, name: Option<&str>, made: Restated) -> Result<Said, AllocError>
+    ensures { IfOk result (λ s. (s.status ≡ 0) × (s.text ≡ made.text)) }
+{
+    let beside = notes_told(alloc, name, &made.notes)?;
+    Ok(Said {
+        text: made.text,
+        beside,
+        status: 0,
+    })
+}
+
+/// What is told of a file that isn't restated.
+fn refusal_of_java(alloc: Global, name: Option<&str>, file: &str, why: &NotRestated) -> Refusal
+    ensures { Restates (Err result) }
+{
+    match why {
+        NotRestated::Memory => Refusal::Fault(ToolFault::Memory),
+        other => match refusal_told(alloc, name, file, other) {
+            Ok(told) => Refusal::Explained(told.into_bytes()),
+            Err(_) => Refusal::Fault(ToolFault::Memory),
+        },
+    }
+}
+
+/// One Java file.
+fn on_file(alloc: Global, name: Option<&str>, file: &str) -> Result<Said, Refusal>
+    ensures { Restates result }
+{
+    match restate(alloc, file) {
+        Ok(made) => match said_of_java(alloc, name, made) {
+            Ok(said) => Ok(said),
+            Err(_) => Err(Refusal::Fault(ToolFault::Memory)),
+        },
+        Err(why) => Err(refusal_of_java(alloc, name, file, &why)),
+    }
+}
+
+/// The text that is read: the input, or where files are named, these as one text.
+fn read_as(alloc: Global, names: Option<&[String]>, text: &str) -> Result<String, AllocError>
+    ensures { IfOk result (λ s. string_bytes s ≡ read_as (names_of names.entry) text.now) }
+{
+    match names {
+        Some(_) => unmarked(alloc, text),
+        None => String::from_str(alloc, text),
+    }
+}
+
+/// What is answered of the parts of a text, if they are one Java file.
+fn on_parts(alloc: Global, name: Option<&str>, parts: &[&str]) -> Option<Result<Said, Refusal>>
+    ensures { RestatesParts (map plain_text parts.now) result }
+{
+    match parts {
+        [file] => Some(on_file(alloc, name, file)),
+        _ => None,
+    }
+}
+
+/// The same of a text.
+fn in_text(
+    alloc: Global,
+    name: Option<&str>,
+    text: &str,
+) -> Result<Option<Result<Said, Refusal>>, AllocError>
+    ensures { IfOk result (λ answer. RestatesParts (parts_of text.now) answer) }
+{
+    let parts = parts_of(alloc, text)?;
+    Ok(on_parts(alloc, name, parts.as_slice()))
+}
+
+/// The same of an input that is text.
+fn in_input(
+    alloc: Global,
+    names: Option<&[String]>,
+    text: &str,
+) -> Result<Option<Result<Said, Refusal>>, AllocError>
+    ensures { IfOk result (λ answer. RestatesParts (parts_of (read_as (names_of names.entry) text.now)) answer) }
+{
+    let read = read_as(alloc, names, text)?;
+    in_text(alloc, name_of(names), read.as_str())
+}
+
+/// What is answered of an input that is a Java file.
+pub(crate) fn on_java(
+    alloc: Global,
+    line: CommandLine,
+    names: Option<&[String]>,
+    input: &[u8],
+) -> Result<Said, Refusal>
+    requires { line.request ≡ requests.Java }
+    ensures decides { (words : List Text) → Asks words (Some line) → file_names_in words ≡ names_of names.entry →
+        Decides words input.now result }
+    ensures taken { IsTaken result }
+{
+    let Some(text) = text_of(input) else {
+        return Err(refusal_of(alloc, line, names, ToolFault::NotText, input));
+    };
+    match in_input(alloc, names, text) {
+        Ok(Some(answer)) => answer,
+        Ok(None) => Err(refusal_of(alloc, line, names, ToolFault::WrongParts, input)),
+        Err(_) => Err(Refusal::Fault(ToolFault::Memory)),
+    }
+}
