@@ -7,9 +7,10 @@ use Rattle.ls_report.specs.Events.{Text}
 use Rattle.ls_report.specs.Printing.{run_text}
 use Rattle.ls_end_reports.specs.declared.writing.CallText.{CallText}
 use Rattle.ls_end_reports.specs.declared.writing.FairText.{FairText}
-use Rattle.ls_end_reports.specs.declared.writing.FairText.TheVariants as fair
 use Rattle.ls_end_reports.specs.declared.writing.FreeText.{FreeText}
 use Rattle.ls_end_reports.specs.declared.writing.FreeText.TheVariants as free
+use Rattle.ls_end_reports.specs.declared.writing.GoingText.{GoingText}
+use Rattle.ls_end_reports.specs.declared.writing.GoingText.TheVariants as going
 
 abbrev pub bound_line : Text → ℕ → Text
 bound_line words most =
@@ -30,12 +31,31 @@ free_text (free.ObstructionFree most lasso) =
 free_text (free.Blocking lasso) = lasso_line (codes "blocking") (string_bytes lasso)
 free_text free.Unknown = codes "  not known\n"
 
+-- what doesn't hold though all threads go on: these words, or those if no lock passes over a thread for ever
+abbrev pub going_line : Text → Text → GoingText → Text
+going_line words by_locks going.Nothing = []
+going_line words by_locks (going.Fairly lasso) = lasso_line words (string_bytes lasso)
+going_line words by_locks (going.ByLocks lasso) = lasso_line by_locks (string_bytes lasso)
+
+-- the most that is left of deadlock-free and starvation-free, by whether no call may end, and whether this one may not
+abbrev pub left_line : GoingText → GoingText → Text
+left_line (going.ByLocks lasso) starving = []
+left_line (going.Fairly lasso) (going.ByLocks other) =
+    codes "  deadlock-free if its locks are fair, as far as was searched\n"
+left_line (going.Fairly lasso) (going.Fairly other) =
+    codes "  starvation-free if its locks are, as far as was searched\n"
+left_line (going.Fairly lasso) going.Nothing = codes "  starvation-free if its locks are, as far as was searched\n"
+left_line going.Nothing (going.ByLocks other) = codes "  deadlock-free as far as was searched\n"
+left_line going.Nothing (going.Fairly other) =
+    codes "  deadlock-free, and starvation-free if its locks are, as far as was searched\n"
+left_line going.Nothing going.Nothing = codes "  starvation-free as far as was searched\n"
+
 -- what is told of a call where all threads go on
 abbrev pub fair_text : FairText → Text
-fair_text (fair.Starves lasso) =
-    lasso_line (codes "not starvation-free") (string_bytes lasso) ++ codes "  deadlock-free as far as was searched\n"
-fair_text (fair.Stops lasso) = lasso_line (codes "not deadlock-free") (string_bytes lasso)
-fair_text fair.Nothing = codes "  starvation-free as far as was searched\n"
+fair_text f =
+    going_line (codes "not deadlock-free") (codes "not deadlock-free by fair locks") f.stopping ++
+    (going_line (codes "not starvation-free") (codes "not starvation-free by fair locks") f.starving ++
+    left_line f.stopping f.starving)
 
 -- it is told of calls that may not end where threads stop
 abbrev pub going_text : FreeText → FairText → Text

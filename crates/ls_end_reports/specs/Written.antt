@@ -3,16 +3,18 @@ use Rattle.std.specs.Prelude.{◌≡◌, ◌++◌, ℕ, List, Ok, Some, length, 
 use Rattle.ls_progress_laws.specs.Progress.{rounds}
 use Rattle.ls_progress.specs.declared.judging.CallEnds.{CallEnds}
 use Rattle.ls_progress.specs.declared.judging.Fair.{Fair}
-use Rattle.ls_progress.specs.declared.judging.Fair.TheVariants as fairs
 use Rattle.ls_progress.specs.declared.judging.Free.{Free}
 use Rattle.ls_progress.specs.declared.judging.Free.TheVariants as frees
+use Rattle.ls_progress.specs.declared.judging.Going.{Going}
+use Rattle.ls_progress.specs.declared.judging.Going.TheVariants as goings
 use Rattle.ls_progress.specs.declared.lassos.Lasso.{Lasso}
 use Rattle.ls_schedule.specs.Reading.{schedule_of}
 use Rattle.ls_end_reports.specs.declared.writing.CallText.{CallText}
 use Rattle.ls_end_reports.specs.declared.writing.FairText.{FairText}
-use Rattle.ls_end_reports.specs.declared.writing.FairText.TheVariants as fair
 use Rattle.ls_end_reports.specs.declared.writing.FreeText.{FreeText}
 use Rattle.ls_end_reports.specs.declared.writing.FreeText.TheVariants as free
+use Rattle.ls_end_reports.specs.declared.writing.GoingText.{GoingText}
+use Rattle.ls_end_reports.specs.declared.writing.GoingText.TheVariants as going
 
 -- the way, and ten times the cycle
 abbrev pub played : Lasso → List ℕ
@@ -32,11 +34,15 @@ IsWrittenFree names (frees.Blocking l) (free.Blocking text) = IsLassoText names 
 IsWrittenFree names frees.Unknown free.Unknown = Unit {0}
 IsWrittenFree names told written = ⊥
 
-abbrev pub IsWrittenFair : List (List ℕ) → Fair → FairText → Type 0
-IsWrittenFair names (fairs.Starves l) (fair.Starves text) = IsLassoText names l (string_bytes text)
-IsWrittenFair names (fairs.Stops l) (fair.Stops text) = IsLassoText names l (string_bytes text)
-IsWrittenFair names fairs.Nothing fair.Nothing = Unit {0}
-IsWrittenFair names told written = ⊥
+abbrev pub IsWrittenGoing : List (List ℕ) → Going → GoingText → Type 0
+IsWrittenGoing names goings.Nothing going.Nothing = Unit {0}
+IsWrittenGoing names (goings.Fairly l) (going.Fairly text) = IsLassoText names l (string_bytes text)
+IsWrittenGoing names (goings.ByLocks l) (going.ByLocks text) = IsLassoText names l (string_bytes text)
+IsWrittenGoing names told written = ⊥
+
+pub record IsWrittenFair (names : List (List ℕ)) (f : Fair) (w : FairText) : Type 0 where
+  pub starving : IsWrittenGoing names f.starving w.starving
+  pub stopping : IsWrittenGoing names f.stopping w.stopping
 
 pub record IsWritten (names : List (List ℕ)) (c : CallEnds) (w : CallText) : Type 0 where
   pub thread : w.thread ≡ c.thread

@@ -6,4 +6,4 @@ mod words;
 mod writing;
 
 pub use words::print_calls;
-pub use writing::{CallText, FairText, FreeText, written_calls};
+pub use writing::{CallText, FairText, FreeText, GoingText, written_calls};

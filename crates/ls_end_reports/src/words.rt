@@ -2,10 +2,10 @@
 
 ghost use Rattle.std.specs.Prelude.{◌≡◌, ◌++◌, IfOk, OnOk, string_bytes};
 ghost use Rattle.ls_checked.specs.PlainProgram.{plain_program};
-ghost use Rattle.ls_end_reports.specs.Words.{bound_line, call_text, calls_text, fair_text, free_text, going_text};
-ghost use Rattle.ls_end_reports.specs.Words.{head_line, lasso_line};
+ghost use Rattle.ls_end_reports.specs.Words.{bound_line, call_text, calls_text, fair_text, free_text, going_line};
+ghost use Rattle.ls_end_reports.specs.Words.{going_text, head_line, lasso_line, left_line};
 
-use crate::writing::{CallText, FairText, FreeText};
+use crate::writing::{CallText, FairText, FreeText, GoingText};
 use ls_checked::program::Program;
 use ls_events::event::{Event, Happening};
 use ls_report::print_history;
@@ -60,18 +60,63 @@ fn push_line(out: &mut String, line: &str) -> Result<(), AllocError>
     out.push_str(line)
 }
 
+/// Adds what doesn't hold though all threads go on, and the lasso that shows it.
+fn push_going_line(
+    out: &mut String,
+    words: &str,
+    by_locks: &str,
+    going: &GoingText,
+) -> Result<(), AllocError>
+    ensures { OnOk result (string_bytes out.new ≡ string_bytes out.old ++
+        going_line words.now by_locks.now going.now) }
+{
+    match going {
+        GoingText::Nothing => Ok(()),
+        GoingText::Fairly(lasso) => push_lasso(out, words, lasso.as_str()),
+        GoingText::ByLocks(lasso) => push_lasso(out, by_locks, lasso.as_str()),
+    }
+}
+
+/// The most that is left of deadlock-free and starvation-free.
+fn left_of(stopping: &GoingText, starving: &GoingText) -> &'static str
+    ensures { result.now ≡ left_line stopping.now starving.now }
+{
+    match stopping {
+        GoingText::ByLocks(_) => "",
+        GoingText::Fairly(_) => match starving {
+            GoingText::ByLocks(_) => {
+                "  deadlock-free if its locks are fair, as far as was searched\n"
+            }
+            GoingText::Fairly(_) => "  starvation-free if its locks are, as far as was searched\n",
+            GoingText::Nothing => "  starvation-free if its locks are, as far as was searched\n",
+        },
+        GoingText::Nothing => match starving {
+            GoingText::ByLocks(_) => "  deadlock-free as far as was searched\n",
+            GoingText::Fairly(_) => {
+                "  deadlock-free, and starvation-free if its locks are, as far as was searched\n"
+            }
+            GoingText::Nothing => "  starvation-free as far as was searched\n",
+        },
+    }
+}
+
 /// Adds what is told of a call where all threads go on.
 fn push_fair(out: &mut String, fair: &FairText) -> Result<(), AllocError>
     ensures { OnOk result (string_bytes out.new ≡ string_bytes out.old ++ fair_text fair.now) }
 {
-    match fair {
-        FairText::Starves(lasso) => {
-            push_lasso(out, "not starvation-free", lasso.as_str())?;
-            push_line(out, "  deadlock-free as far as was searched\n")
-        }
-        FairText::Stops(lasso) => push_lasso(out, "not deadlock-free", lasso.as_str()),
-        FairText::Nothing => push_line(out, "  starvation-free as far as was searched\n"),
-    }
+    push_going_line(
+        out,
+        "not deadlock-free",
+        "not deadlock-free by fair locks",
+        &fair.stopping,
+    )?;
+    push_going_line(
+        out,
+        "not starvation-free",
+        "not starvation-free by fair locks",
+        &fair.starving,
+    )?;
+    push_line(out, left_of(&fair.stopping, &fair.starving))
 }
 
 /// Adds what is told where all threads go on, of a call that may not end where they don't.

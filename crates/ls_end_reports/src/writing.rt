@@ -3,10 +3,11 @@
 ghost use Rattle.std.specs.Prelude.{IfOk};
 ghost use Rattle.ls_schedule.specs.Reading.{thread_names};
 ghost use Rattle.ls_end_reports.specs.Written.{AreWritten, IsWritten, IsWrittenFair, IsWrittenFree};
+ghost use Rattle.ls_end_reports.specs.Written.{IsWrittenGoing};
 
 use crate::lassos::lasso_text;
 use ls_checked::program::Program;
-use ls_progress::{CallEnds, Fair, Free};
+use ls_progress::{CallEnds, Fair, Free, Going};
 use std::alloc::{AllocError, Global};
 
 /// What is told of a call where no thread has to go on, with the text of the lasso that shows what it isn't.
@@ -19,12 +20,19 @@ pub enum FreeText {
     Unknown,
 }
 
-/// What is told of a call where all threads go on, with the text of a lasso.
+/// Whether a call may not end though all threads go on, with the text of a lasso.
 #[derive(Drop)]
-pub enum FairText {
-    Starves(String),
-    Stops(String),
+pub enum GoingText {
     Nothing,
+    Fairly(String),
+    ByLocks(String),
+}
+
+/// What is told of a call where all threads go on.
+#[derive(Drop)]
+pub struct FairText {
+    pub starving: GoingText,
+    pub stopping: GoingText,
 }
 
 /// What is told of a call of a thread.
@@ -57,20 +65,28 @@ fn written_free(alloc: Global, free: &Free, program: &Program) -> Result<FreeTex
     }
 }
 
+fn written_going(alloc: Global, going: &Going, program: &Program) -> Result<GoingText, AllocError>
+    ensures { IfOk result (IsWrittenGoing (thread_names program.now) going.now) }
+{
+    match going {
+        Going::Nothing => Ok(GoingText::Nothing),
+        Going::Fairly(lasso) => {
+            let text = lasso_text(alloc, lasso, program)?;
+            Ok(GoingText::Fairly(text))
+        }
+        Going::ByLocks(lasso) => {
+            let text = lasso_text(alloc, lasso, program)?;
+            Ok(GoingText::ByLocks(text))
+        }
+    }
+}
+
 fn written_fair(alloc: Global, fair: &Fair, program: &Program) -> Result<FairText, AllocError>
     ensures { IfOk result (IsWrittenFair (thread_names program.now) fair.now) }
 {
-    match fair {
-        Fair::Starves(lasso) => {
-            let text = lasso_text(alloc, lasso, program)?;
-            Ok(FairText::Starves(text))
-        }
-        Fair::Stops(lasso) => {
-            let text = lasso_text(alloc, lasso, program)?;
-            Ok(FairText::Stops(text))
-        }
-        Fair::Nothing => Ok(FairText::Nothing),
-    }
+    let starving = written_going(alloc, &fair.starving, program)?;
+    let stopping = written_going(alloc, &fair.stopping, program)?;
+    Ok(FairText { starving, stopping })
 }
 
 fn written(alloc: Global, ends: &CallEnds, program: &Program) -> Result<CallText, AllocError>

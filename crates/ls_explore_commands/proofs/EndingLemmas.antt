@@ -16,8 +16,9 @@ use Rattle.ls_explore_commands.specs.Endings.{Ended}
 use Rattle.ls_explore_commands.specs.Reports.{last_text}
 
 -- an equal text says the same
-pub says : (i : Image) (limit : ℕ) (t u : Text) → t ≡ u → Ended i limit (Ok u) → Ended i limit (Ok t)
-says i limit t u e d = subst (λ x. Ended i limit (Ok x)) (sym e) d
+pub says : (i : Image) (again : Bool) (limit : ℕ) (t u : Text) → t ≡ u → Ended i again limit (Ok u) →
+    Ended i again limit (Ok t)
+says i again limit t u e d = subst (λ x. Ended i again limit (Ok x)) (sym e) d
 
 -- of an equal program an equal text is made
 pub same_calls : (t : Text) (p : Program) (i : Image) (texts others : List CallText) (limit states : ℕ)

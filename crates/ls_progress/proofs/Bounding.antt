@@ -6,7 +6,6 @@ use Rattle.std.specs.Prelude.{nat_eq, slice_get, if◌then◌else◌}
 use Rattle.std.proofs.lemmas.Bool.{cases_lt}
 use Rattle.std.proofs.lemmas.Bool.Decides.{nat_tests}
 use Rattle.ls_checked.specs.CheckedTree.{File}
-use Rattle.ls_checked.specs.CheckedProgram.{Program}
 use Rattle.ls_graph.specs.Graph.{HasEdge, IsTold, IsWhole}
 use Rattle.ls_graph.specs.declared.closing.Edge.{Edge}
 use Rattle.ls_graph.proofs.Lists.{below, some_is}
@@ -15,8 +14,9 @@ use Rattle.ls_meaning.specs.declared.step.Did.TheVariants as did
 use Rattle.ls_meaning.specs.Still.{IsActing}
 use Rattle.ls_search_laws.specs.Configuration.{Configuration, stride}
 use Rattle.ls_search_laws.specs.Stepping.{events_of}
-use Rattle.ls_progress_laws.specs.Laws.{IsClosed, IsRanked, Leads, place_after}
-use Rattle.ls_progress_laws.specs.Progress.{IsBounded, Kind, counted, own, pending_after}
+use Rattle.ls_progress_laws.specs.Laws.{IsClosed, IsRanked, Leads}
+use Rattle.ls_progress_laws.specs.Progress.{Kind, counted, own, pending_after}
+use Rattle.ls_progress_laws.specs.From.{IsBoundedFrom}
 use Rattle.ls_progress_laws.proofs.Others.{other_same}
 use Rattle.ls_progress_laws.proofs.Ranks.{ranks_bound}
 use Rattle.ls_progress.specs.Kinds.{is_kept, is_own}
@@ -27,8 +27,8 @@ use Rattle.ls_progress.specs.Steps.{IsStates, Rests, StepsTo}
 use Rattle.ls_progress.proofs.Sorted.{sorted}
 use Rattle.ls_progress.proofs.Walking.{as_other, not_kept}
 
-module _ (file : File) (program : Program) (edges : List Edge) (count : ℕ) (looked : List Bool)
-    (found : IsStates file program edges count looked) where
+module _ (file : File) (threads : ℕ) (root : Configuration) (edges : List Edge) (count : ℕ) (looked : List Bool)
+    (found : IsStates file threads root edges count looked) where
   abbrev states : List Configuration
   states = found.states
 
@@ -63,13 +63,13 @@ module _ (file : File) (program : Program) (edges : List Edge) (count : ℕ) (lo
   module _ (whole : IsWhole count looked) where
     -- each thread does nothing there, or has an edge
     pub edged : (at : ℕ) (c : Configuration) (u : ℕ) → slice_get states at ≡ Some c → Rests file c u ⊎ Edged at c u
-    edged at c u here = by_thread (cases_lt u (length program.threads))
+    edged at c u here = by_thread (cases_lt u (threads))
       where
         by_edge : IsTold (Rests file) (λ k. ⊥) edges at c u → Rests file c u ⊎ Edged at c u
         by_edge (inl rests) = inl rests
         by_edge (inr h) = inr (edge_of at c u here h)
 
-        by_thread : (u < length program.threads) ⊎ (length program.threads ≤ u) → Rests file c u ⊎ Edged at c u
+        by_thread : (u < threads) ⊎ (threads ≤ u) → Rests file c u ⊎ Edged at c u
         by_thread (inl less) =
             let inside = below states at c here in
             let all = found.many in
@@ -181,9 +181,7 @@ module _ (file : File) (program : Program) (edges : List Edge) (count : ℕ) (lo
           free = λ at c here label may waits. own_waits at c label may waits (edged at c kind.thread here);
         }
 
-        pub bounded : kind.quiet kind.thread ≡ true → IsBounded kind file program call most
+        pub bounded : kind.quiet kind.thread ≡ true → IsBoundedFrom kind file root call most
         bounded quiet =
-            let same = other_same (place_after file program []) in
-            ranks_bound kind file program states (label_at labels) closed call (rank_at ranks) most ranked quiet
-            (record { to = 0; one = place_after file program []; here = found.graph.begins; other = same })
-            labelled.first
+            ranks_bound kind file root states (label_at labels) closed call (rank_at ranks) most ranked quiet
+            (record { to = 0; one = root; here = found.graph.begins; other = other_same root }) labelled.first

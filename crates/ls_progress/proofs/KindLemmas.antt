@@ -1,6 +1,6 @@
 -- Each kind is that of its thread, whose calls neither begin nor end meanwhile.
 use Rattle.std.proofs.Common.{◌≡◌, ◌⊎◌, inl, inr, ◌<◌, ◌≤◌, ℕ, true, Option, None, Some, refl, arith}
-use Rattle.std.specs.Prelude.{nat_eq, IfOk, IfSome, Result, Ok, Err}
+use Rattle.std.specs.Prelude.{nat_eq, IfNone, IfOk, IfSome, Result, Ok, Err}
 use Rattle.std.proofs.lemmas.Bool.Decides.{nat_tests}
 use Rattle.ls_progress.specs.Kinds.{kind_of}
 use Rattle.ls_progress.specs.declared.kinds.Kind.{Kind}
@@ -37,3 +37,17 @@ ok_both (Err e) P Q R f p q = tt
 pub by_place : {A : Type 0} {i n : ℕ} → (i < n) ⊎ (n ≤ i) → ((i < n) → A) → ((n ≤ i) → A) → A
 by_place (inl less) f g = f less
 by_place (inr past) f g = g past
+
+-- what is so of a value, if there is one, or if there is none, gives another fact
+pub ok_some : {A E : Type 0} (r : Result (Option A) E) (P Q : A → Type 0) → ((x : A) → P x → Q x) →
+    IfOk r (λ o. IfSome o P) →
+    IfOk r (λ o. IfSome o Q)
+ok_some (Ok None) P Q f p = tt
+ok_some (Ok (Some x)) P Q f p = f x p
+ok_some (Err e) P Q f p = tt
+
+pub ok_none : {A E : Type 0} (r : Result (Option A) E) (P Q : Type 0) → (P → Q) → IfOk r (λ o. IfNone o P) →
+    IfOk r (λ o. IfNone o Q)
+ok_none (Ok None) P Q f p = f p
+ok_none (Ok (Some x)) P Q f p = tt
+ok_none (Err e) P Q f p = tt

@@ -6,3 +6,7 @@ pub mod Leading
 pub mod Cycling
 pub mod KindLemmas
 pub mod Listing
+pub mod Weaker
+pub mod ThreadConstants
+pub mod Repeating
+pub mod Shown

@@ -3,9 +3,8 @@ use Rattle.std.proofs.Common.{◌≡◌, ◌⊎◌, inl, inr, ◌+◌, ℕ, zero
 use Rattle.std.proofs.Common.{refl, sym, ap}
 use Rattle.std.proofs.Common.{◌∙◌, subst, append_assoc, append-nil, add-one}
 use Rattle.std.specs.Prelude.{slice_get}
-use Rattle.ls_checked.specs.CheckedTree.{File}
-use Rattle.ls_checked.specs.CheckedProgram.{Program}
 use Rattle.ls_graph.proofs.Lists.{some_is}
+use Rattle.ls_progress_laws.specs.Progress.{Kind}
 use Rattle.ls_progress.specs.Ends.{AreEnds, IsCallEnds, calls_to, keys}
 use Rattle.ls_progress.specs.declared.judging.CallEnds.{CallEnds}
 
@@ -20,14 +19,15 @@ item_of [] x c (suc i) e = absurd (none e)
 item_of (y ∷ calls) x c zero e = inl e
 item_of (y ∷ calls) x c (suc i) e = item_of calls x c i e
 
-pub ends_more : (file : File) (program : Program) (calls : List CallEnds) (x : CallEnds) → AreEnds file program calls →
-    IsCallEnds file program x →
-    AreEnds file program (calls ++ x ∷ [])
-ends_more file program calls x are is i c here = by_item (item_of calls x c i here)
-  where
-    by_item : (slice_get calls i ≡ Some c) ⊎ (x ≡ c) → IsCallEnds file program c
-    by_item (inl there) = are i c there
-    by_item (inr same) = subst (IsCallEnds file program) same is
+module _ (Bounded : Kind → ℕ → ℕ → Type 0) (Round Fairly ByLocks : Kind → ℕ → List ℕ → List ℕ → Type 0) where
+  pub ends_more : (calls : List CallEnds) (x : CallEnds) → AreEnds Bounded Round Fairly ByLocks calls →
+      IsCallEnds Bounded Round Fairly ByLocks x →
+      AreEnds Bounded Round Fairly ByLocks (calls ++ x ∷ [])
+  ends_more calls x are is i c here = by_item (item_of calls x c i here)
+    where
+      by_item : (slice_get calls i ≡ Some c) ⊎ (x ≡ c) → IsCallEnds Bounded Round Fairly ByLocks c
+      by_item (inl there) = are i c there
+      by_item (inr same) = subst (IsCallEnds Bounded Round Fairly ByLocks) same is
 
 keys_more : (calls : List CallEnds) (x : CallEnds) → keys (calls ++ x ∷ []) ≡ keys calls ++ (x.thread, x.call) ∷ []
 keys_more [] x = refl

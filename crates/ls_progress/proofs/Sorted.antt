@@ -14,6 +14,7 @@ use Rattle.ls_events.specs.declared.action.Answer.{Answer}
 use Rattle.ls_meaning.specs.declared.step.Did.{Did}
 use Rattle.ls_meaning.specs.declared.step.Did.TheVariants as did
 use Rattle.ls_meaning.specs.Runs.{event_of}
+use Rattle.ls_meaning.specs.Still.{IsActing}
 use Rattle.ls_search_laws.specs.Stepping.{events_in, events_of}
 use Rattle.ls_progress_laws.specs.Progress.{counted, pending_after}
 use Rattle.ls_progress.specs.Sorts.{call_after, is_silent, sort_of, sort_of_action}
@@ -71,6 +72,8 @@ pub record Sorted (d : Did) (s : Sort) : Type 0 where
   pub loud : is_silent s ≡ false → (u : ℕ) → events_of u d ≡ [] → ⊥
   pub counts : counted d ≡ 1
   pub waits : d ≡ did.Waits → s ≡ sorts.Waits
+  pub acts : (s ≡ sorts.Waits → ⊥) → IsActing d
+  pub goes : IsActing d → s ≡ sorts.Waits → ⊥
 
 same_now : (u t : ℕ) (now : Option ℕ) → now ≡ (if nat_eq u t then now else now)
 same_now u t now = by (nat_eq u t)
@@ -86,6 +89,8 @@ by_form a x (Calls n is pends loud) = subst (Sorted (did.Acted a x)) (sym is) (r
   loud = λ e. loud;
   counts = refl;
   waits = λ e. absurd (cc);
+  acts = λ on. tt;
+  goes = λ on e. cc;
 })
 by_form a x (Finishes is pends loud) = subst (Sorted (did.Acted a x)) (sym is) (record {
   pends = pends;
@@ -93,6 +98,8 @@ by_form a x (Finishes is pends loud) = subst (Sorted (did.Acted a x)) (sym is) (
   loud = λ e. loud;
   counts = refl;
   waits = λ e. absurd (cc);
+  acts = λ on. tt;
+  goes = λ on e. cc;
 })
 by_form a x (Goes is none) = subst (Sorted (did.Acted a x)) (sym is) (record {
   pends = λ u t now. ap (fold (pending_after t) now) (none u) ∙ same_now u t now;
@@ -100,6 +107,8 @@ by_form a x (Goes is none) = subst (Sorted (did.Acted a x)) (sym is) (record {
   loud = λ e. absurd (cc);
   counts = refl;
   waits = λ e. absurd (cc);
+  acts = λ on. tt;
+  goes = λ on e. cc;
 })
 
 waiting : Sorted did.Waits sorts.Waits
@@ -109,6 +118,8 @@ waiting = record {
   loud = λ e. absurd (cc);
   counts = refl;
   waits = λ e. refl;
+  acts = λ on. on refl;
+  goes = λ on e. on;
 }
 
 pub sorted : (d : Did) (s : Sort) → sort_of d ≡ Some s → Sorted d s

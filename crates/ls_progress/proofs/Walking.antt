@@ -1,30 +1,29 @@
 -- Steps along edges of the graph of a program's states.
-use Rattle.std.proofs.Common.{◌≡◌, ℕ, ◌≤◌, Bool, true, false, List, [], ◌∷◌, ◌++◌, Option}
-use Rattle.std.proofs.Common.{None, Some, fold}
-use Rattle.std.proofs.Common.{refl, sym, ap, ◌∙◌, subst, arith, append-nil, append_assoc}
+use Rattle.std.proofs.Common.{◌≡◌, ◌⊎◌, inl, inr, ℕ, zero, suc, ◌≤◌, Bool, true, false, List, [], ◌∷◌, Option}
+use Rattle.std.proofs.Common.{Some, fold}
+use Rattle.std.proofs.Common.{refl, sym, ap, ◌∙◌, subst, arith}
 use Rattle.std.specs.Prelude.{not, nat_eq, ◌||◌, slice_get, if◌then◌else◌}
 use Rattle.std.proofs.lemmas.List.Sums.{fold-append}
 use Rattle.ls_checked.specs.CheckedTree.{File}
-use Rattle.ls_checked.specs.CheckedProgram.{Program}
 use Rattle.ls_graph.specs.Graph.{AreEdges}
-use Rattle.ls_graph.specs.Walks.{IsOne, Walks, actors_of}
+use Rattle.ls_graph.specs.Walks.{Walks, actors_of}
 use Rattle.ls_graph.specs.declared.closing.Edge.{Edge}
 use Rattle.ls_graph.proofs.Lists.{some_is}
-use Rattle.ls_meaning.specs.Runs.{State, source_history, source_run, step}
+use Rattle.ls_meaning.specs.declared.step.Did.{Did}
+use Rattle.ls_meaning.specs.declared.step.Did.TheVariants as did
+use Rattle.ls_meaning.specs.Still.{IsActing}
 use Rattle.ls_search.specs.Objects as objects
-use Rattle.ls_search_laws.specs.Configuration.{Configuration, configuration_of, stride}
+use Rattle.ls_search_laws.specs.Configuration.{Configuration, renamed_did, stride}
 use Rattle.ls_search_laws.specs.Stepping.{events_of}
-use Rattle.ls_search_laws.proofs.Renamed.{events_other, step_stride}
-use Rattle.ls_search_laws.proofs.Stepping.{one_more}
-use Rattle.ls_search_laws.proofs.Telling.{long_of_all}
-use Rattle.ls_progress_laws.specs.Laws.{IsOther, place_after}
-use Rattle.ls_progress_laws.specs.Progress.{Kind, counted, own, pending, pending_after}
-use Rattle.ls_progress_laws.specs.Strides.{AreWithin, end, own_strides}
-use Rattle.ls_progress_laws.proofs.Others.{counted_other, other_after, other_both, other_stride, silent_before}
-use Rattle.ls_progress_laws.proofs.Others.{silent_other}
+use Rattle.ls_search_laws.proofs.Renamed.{events_other}
+use Rattle.ls_progress_laws.specs.Laws.{IsOther}
+use Rattle.ls_progress_laws.specs.Progress.{Kind, counted, own, pending_after}
+use Rattle.ls_progress_laws.specs.Strides.{ActsAlong, AreWithin, end, events_along, own_strides}
+use Rattle.ls_progress_laws.proofs.Others.{acting_before, counted_other, other_after, other_both, other_stride}
+use Rattle.ls_progress_laws.proofs.Others.{silent_before, silent_other}
 use Rattle.ls_progress_laws.proofs.Others.{waits_before}
 use Rattle.ls_progress_laws.proofs.Pending.{pending_renamed}
-use Rattle.ls_progress.specs.Cycles.{AreKept, own_in}
+use Rattle.ls_progress.specs.Cycles.{Acts, AreKept, own_in}
 use Rattle.ls_progress.specs.Kinds.{is_kept, is_own}
 use Rattle.ls_progress.specs.Labels.{AreLabels, label_after, label_at}
 use Rattle.ls_progress.specs.Sorts.{is_silent, sort_at}
@@ -67,6 +66,11 @@ not_kept kind e kept may = by (kind.may e.actor) (is_silent (sort_at e.mark)) (k
     by true false false on s q h = absurd (cc)
     by false s q on is h k = absurd (cc)
 
+acting_other : (names : ℕ → ℕ) (d : Did) → IsActing d → IsActing (renamed_did names d)
+acting_other names (did.Acted a x) acts = tt
+acting_other names did.Waits acts = acts
+acting_other names did.Idle acts = acts
+
 module _ (file : File) (states : List Configuration) (edges : List Edge) (led : AreEdges (StepsTo file) states edges)
   where
     -- ---- one edge
@@ -94,6 +98,8 @@ module _ (file : File) (states : List Configuration) (edges : List Edge) (led : 
               (ap (events_of v) (sym go.did) ∙ none));
           counts = ap counted go.did ∙ counted_other h.names (stride file c u).did ∙ is.counts;
           waits = λ e. is.waits (waits_before h.names (stride file c u).did (sym go.did ∙ e));
+          acts = λ on. subst IsActing (sym go.did) (acting_other h.names (stride file c u).did (is.acts on));
+          goes = λ on. is.goes (acting_before h.names (stride file c u).did (subst IsActing go.did on));
         }
 
     pub along : (kind : Kind) (i : ℕ) (e : Edge) → slice_get edges i ≡ Some e → (c d : Configuration) →
@@ -121,7 +127,7 @@ module _ (file : File) (states : List Configuration) (edges : List Edge) (led : 
       pub record Walked (to : ℕ) (d : Configuration) (path : List Edge) : Type 0 where
         pub one : Configuration
         pub here : slice_get states to ≡ Some one
-        pub other : IsOther one (end kind file d (actors_of path))
+        pub other : IsOther one (end file d (actors_of path))
         pub within : AreKept kind path → AreWithin kind file d (actors_of path)
         pub own : own_in kind.thread path ≤ own_strides kind file d (actors_of path)
 
@@ -162,47 +168,44 @@ module _ (file : File) (states : List Configuration) (edges : List Edge) (led : 
             own = omega (arith, mine, others);
           }
 
-    -- ---- a schedule from before the first step on
+    -- ---- the call that is pending
 
-    module _ (kind : Kind) (program : Program) (labels : List (Option ℕ))
-        (labelled : AreLabels kind.thread edges labels) where
-      -- the schedule leads to the node, where that call is pending that is
-      pub record Reached (at : ℕ) (schedule : List ℕ) : Type 0 where
-        pub one : Configuration
-        pub here : slice_get states at ≡ Some one
-        pub other : IsOther one (place_after file program schedule)
-        pub label : label_at labels at ≡ pending kind.thread (source_history file program schedule)
-
-      reached_more : (e : Edge) (schedule : List ℕ) → IsOne edges e → Reached e.from schedule →
-          Reached e.to (schedule ++ e.actor ∷ [])
-      reached_more e schedule i r =
-          let s : State = source_run file program schedule in
-          let d : Configuration = place_after file program schedule in
+    module _ (kind : Kind) (labels : List (Option ℕ)) (labelled : AreLabels kind.thread edges labels) where
+      pub labels_along : (path : List Edge) (at to : ℕ) (c d : Configuration) → Walks edges at path to →
+          slice_get states at ≡ Some c →
+          IsOther c d →
+          label_at labels to ≡
+          fold (pending_after kind.thread) (label_at labels at) (events_along file d (actors_of path))
+      labels_along [] at to c d w here h = ap (label_at labels) (sym w)
+      labels_along (e ∷ path) at to c d w here h =
+          let i = w.0 in
+          let a = along kind i.0 e i.1 c d (subst (λ n. slice_get states n ≡ Some c) (sym w.1) here) h in
           let u = e.actor in
-          let a = along kind i.0 e i.1 r.one d r.here r.other in
-          let go = step_stride file program s (long_of_all file program schedule) u in
-          let more = one_more file program schedule u in
-          let now : Option ℕ = pending kind.thread (source_history file program schedule) in
-          let place : (stride file d u).after ≡ place_after file program (schedule ++ u ∷ []) =
-          sym go.1 ∙ ap (configuration_of file program) (sym more.state) in
-          record {
-            one = a.one;
-            here = a.here;
-            other = subst (IsOther a.one) place a.other;
-            label = labelled.each i.0 e i.1
-                ∙ ap (label_after kind.thread e) r.label
-                ∙ sym (a.sort.pends u kind.thread now)
-                ∙ ap (λ x. fold (pending_after kind.thread) now (events_of u x)) (sym go.0)
-                ∙ sym (fold-append (pending_after kind.thread) None (source_history file program schedule)
-                (events_of u (step file program s u).did))
-                ∙ ap (pending kind.thread) (sym more.history);
-          }
+          let now : Option ℕ = label_at labels at in
+          let later = events_along file (stride file d u).after (actors_of path) in
+          let one : label_at labels e.to ≡ fold (pending_after kind.thread) now (events_of u (stride file d u).did) =
+          labelled.each i.0 e i.1
+          ∙ ap (λ n. label_after kind.thread e (label_at labels n)) w.1
+          ∙ sym (a.sort.pends u kind.thread now) in
+          labels_along path e.to to a.one (stride file d u).after w.2 a.here a.other
+          ∙ ap (λ m. fold (pending_after kind.thread) m later) one
+          ∙ sym (fold-append (pending_after kind.thread) now (events_of u (stride file d u).did) later)
 
-      pub reached : (path : List Edge) (at to : ℕ) (schedule : List ℕ) → Walks edges at path to → Reached at schedule →
-          Reached to (schedule ++ actors_of path)
-      reached [] at to schedule w r =
-          subst (λ n. Reached n (schedule ++ [])) w (subst (Reached at) (sym (append-nil schedule)) r)
-      reached (e ∷ path) at to schedule w r =
-          subst (Reached to) (append_assoc schedule (e.actor ∷ []) (actors_of path))
-          (reached path e.to to (schedule ++ e.actor ∷ []) w.2
-          (reached_more e schedule w.0 (subst (λ n. Reached n schedule) (sym w.1) r)))
+    -- ---- a thread that acts
+
+    pub acts_along : (kind : Kind) (path : List Edge) (at to : ℕ) (c d : Configuration) → Walks edges at path to →
+        slice_get states at ≡ Some c →
+        IsOther c d →
+        (i : ℕ) (g : Edge) → slice_get path i ≡ Some g →
+        Acts g →
+        ActsAlong file d (actors_of path) g.actor
+    acts_along kind [] at to c d w here h i g there acts = absurd (cc)
+    acts_along kind (e ∷ path) at to c d w here h zero g there acts =
+        let k = w.0 in
+        let a = along kind k.0 e k.1 c d (subst (λ n. slice_get states n ≡ Some c) (sym w.1) here) h in
+        let same : e ≡ g = some_is there in
+        inl (ap (λ (x : Edge). x.actor) same, a.sort.acts (subst Acts (sym same) acts))
+    acts_along kind (e ∷ path) at to c d w here h (suc i) g there acts =
+        let k = w.0 in
+        let a = along kind k.0 e k.1 c d (subst (λ n. slice_get states n ≡ Some c) (sym w.1) here) h in
+        inr (acts_along kind path e.to to a.one (stride file d e.actor).after w.2 a.here a.other i g there acts)

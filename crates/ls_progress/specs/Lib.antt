@@ -1,5 +1,7 @@
+pub mod Constants
 pub mod Sorts
 pub mod Kinds
+pub mod Roots
 pub mod Steps
 pub mod Labels
 pub mod Ranks

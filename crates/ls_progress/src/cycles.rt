@@ -51,26 +51,26 @@ fn joins(own: bool, thread: u8, edge: Edge) -> bool
     own || is_own(thread, edge)
 }
 
-/// The threads whose steps lead along the edges at these places from a state to itself, if they do, with a step of the
-/// thread that has the call, and with none with which a call begins or ends that mustn't.
+/// The edges at these places, if they lead from a state to itself, one after another, with a step of the thread that
+/// has the call, and with none with which a call begins or ends that mustn't.
 pub(crate) fn cycle_along(
     alloc: Global,
     edges: &[Edge],
     start: usize,
     places: &[u32],
     wanted: Wanted,
-) -> Result<Option<Vec<u8>>, AllocError>
-    ensures { IfOk result (λ o. IfSome o (λ actors.
-        IsAlong (kind_of wanted.kind wanted.thread) edges.now start start actors.items true)) }
+) -> Result<Option<Vec<Edge>>, AllocError>
+    ensures { IfOk result (λ o. IfSome o (λ path.
+        IsAlong (kind_of wanted.kind wanted.thread) edges.now start start path.items true)) }
 {
     let mut at = start;
     let mut own = false;
-    let mut actors = Vec::new(alloc);
+    let mut path = Vec::new(alloc);
     for place in places {
         let Some(edge) = edge_from(edges, *place as usize, at, wanted) else {
             return Ok(None);
         };
-        actors.push(edge.actor)?;
+        path.push(edge)?;
         own = joins(own, wanted.thread, edge);
         at = edge.to as usize;
     }
@@ -80,7 +80,7 @@ pub(crate) fn cycle_along(
     if !own {
         return Ok(None);
     }
-    Ok(Some(actors))
+    Ok(Some(path))
 }
 
 /// Whether a thread takes one of these steps. True only where it does.

@@ -1,14 +1,13 @@
 // Lassos: a way to a state where a call is pending, and a cycle from there to there.
 
-ghost use Rattle.std.specs.Prelude.{◌≡◌, ◌≤◌, ◌+◌, ◌*◌, IfOk, IfSome, false, length};
+ghost use Rattle.std.specs.Prelude.{◌≡◌, ◌≤◌, ◌+◌, ◌*◌, IfOk, IfSome, false, length, true};
 ghost use Rattle.ls_events.specs.Limits.{most_steps};
 ghost use Rattle.ls_graph.specs.Found.{IsGrown};
 ghost use Rattle.ls_graph.specs.Walks.{actors_of};
-ghost use Rattle.ls_progress.specs.Cycles.{IsLed};
+ghost use Rattle.ls_progress.specs.Cycles.{IsAlong, IsLed};
 ghost use Rattle.ls_progress.specs.Ends.{IsShort};
 ghost use Rattle.ls_progress.specs.Kinds.{kind_of};
 
-use crate::cycles::{Round, cycle_along};
 use crate::ranks::{Wanted, is_in_call};
 use ls_events::schedule::MOST_STEPS;
 use ls_graph::closing::{Edge, Graph};
@@ -43,31 +42,30 @@ fn is_long(way: &[u8], cycle: &[u8]) -> bool
     way.len() > most || cycle.len() > most
 }
 
-/// The lasso with this cycle, if it is one, and ten rounds of it are no longer than a schedule may be.
+/// The lasso with this cycle, if the call is pending where it begins. Ten rounds of it must be no
+/// longer than a schedule may be.
 pub(crate) fn lasso_of(
     alloc: Global,
     graph: &Graph<Kept>,
     labels: &[Option<u32>],
     wanted: Wanted,
-    round: &Round,
+    at: usize,
+    cycle: &[Edge],
 ) -> Result<Option<Lasso>, AllocError>
-    requires { IsGrown graph.now }
+    requires grown { IsGrown graph.now }
+    requires along { IsAlong (kind_of wanted.kind wanted.thread) graph.now.edges.items at at cycle.now true }
     ensures led { IfOk result (λ o. IfSome o (IsLed (kind_of wanted.kind wanted.thread) graph.now.edges.items
-        labels.now wanted.call round.now.at)) }
+        labels.now wanted.call at cycle.now)) }
     ensures short { IfOk result (λ o. IfSome o IsShort) }
 {
-    if round.at >= graph.found.nodes.len() || !is_in_call(labels, round.at, wanted.call) {
+    if at >= graph.found.nodes.len() || !is_in_call(labels, at, wanted.call) {
         return Ok(None);
     }
-    match cycle_along(alloc, &graph.edges, round.at, &round.places, wanted)? {
-        None => Ok(None),
-        Some(cycle) => {
-            let path = edges_to(alloc, graph, round.at)?;
-            let way = steps_of(alloc, &path)?;
-            if is_long(&way, &cycle) {
-                return Ok(None);
-            }
-            Ok(Some(Lasso { way, cycle }))
-        }
+    let path = edges_to(alloc, graph, at)?;
+    let way = steps_of(alloc, &path)?;
+    let cycle = steps_of(alloc, cycle)?;
+    if is_long(&way, &cycle) {
+        return Ok(None);
     }
+    Ok(Some(Lasso { way, cycle }))
 }

@@ -3,17 +3,21 @@
 
 mod arrays;
 mod components;
+mod constants;
 mod cycles;
+mod fairness;
 mod judging;
 mod kinds;
+mod labelled;
 mod labels;
 mod lassos;
+mod passing;
 mod ranking;
 mod ranks;
 mod sorts;
 mod space;
 mod states;
 
-pub use judging::{CallEnds, Ends, Fair, Free, ends_of};
+pub use judging::{CallEnds, Ends, Fair, Free, Going, ends_of};
 pub use lassos::Lasso;
 pub use states::Scope;

@@ -4,7 +4,7 @@ use crate::arrays::{NONE, fill, filled, is_on, marks_of, number_at, put, set};
 use crate::components::{Components, View, components_of, is_inner, kept_at};
 use crate::cycles::Round;
 use crate::kinds::is_own;
-use crate::ranks::is_in_call;
+use crate::ranks::{is_in_call, is_waiting};
 use ls_graph::closing::{Edge, number_of};
 use std::alloc::AllocError;
 
@@ -39,11 +39,30 @@ pub(crate) fn ranks_of(view: View<'_>, components: &Components) -> Result<Vec<u3
     Ok(ranks)
 }
 
+/// Which steps a cycle is to have.
+#[derive(Copy)]
+pub(crate) enum Steps {
+    /// One of the thread that has the call.
+    Own,
+    /// One of each thread that has one in the component.
+    All,
+    /// One that acts of each thread that acts in the component, and one of each other.
+    Acting,
+}
+
+impl Clone for Steps {
+    fn clone(&self) -> Result<Steps, AllocError> {
+        Ok(*self)
+    }
+}
+
 /// What a way leads to.
 #[derive(Copy)]
 enum Goal {
     /// A step of a thread.
     Step(u8),
+    /// One that acts.
+    Act(u8),
     /// A node.
     Node(usize),
 }
@@ -57,6 +76,7 @@ impl Clone for Goal {
 fn is_goal(goal: Goal, edge: Edge) -> bool {
     match goal {
         Goal::Step(thread) => edge.actor == thread,
+        Goal::Act(thread) => edge.actor == thread && !is_waiting(edge),
         Goal::Node(at) => edge.to as usize == at,
     }
 }
@@ -170,12 +190,51 @@ fn go_on(
     Ok(())
 }
 
+/// The steps that threads have in a component: one of them, by their numbers.
+#[derive(Drop)]
+struct Threads {
+    step: Vec<bool>,
+    act: Vec<bool>,
+}
+
+/// No threads.
+fn no_threads(view: View<'_>) -> Result<Threads, AllocError> {
+    Ok(Threads {
+        step: marks_of(view.alloc, 256, false)?,
+        act: marks_of(view.alloc, 256, false)?,
+    })
+}
+
+/// Which threads have a step in the component of an edge. A thread whose step that edge is has been there, unless an
+/// acting step is wanted and it waits.
+fn threads_in(view: View<'_>, of: &[u32], edge: Edge, acting: bool) -> Result<Threads, AllocError> {
+    let part = number_at(of, edge.from as usize);
+    let mut threads = no_threads(view)?;
+    for place in 0..view.edges.len() {
+        let Some(other) = kept_at(view, place) else {
+            continue;
+        };
+        if is_inner(of, other) && number_at(of, other.from as usize) == part {
+            let actor = other.actor as usize;
+            set(&mut threads.step, actor, other.actor != edge.actor);
+            if acting && !is_waiting(other) {
+                set(
+                    &mut threads.act,
+                    actor,
+                    other.actor != edge.actor || is_waiting(edge),
+                );
+            }
+        }
+    }
+    Ok(threads)
+}
+
 /// A cycle in a component from where an edge leads off, with steps of all of these threads.
 fn round_by(
     view: View<'_>,
     of: &[u32],
     place: usize,
-    threads: &[bool],
+    threads: &Threads,
 ) -> Result<Round, AllocError> {
     let mut places = Vec::new(view.alloc);
     let start = match view.edges.get(place) {
@@ -183,8 +242,10 @@ fn round_by(
         Some(edge) => edge.from as usize,
     };
     places.push(number_of(place)?)?;
-    for thread in 1..threads.len() {
-        if is_on(threads, thread) && thread <= 0xff {
+    for thread in 1..256 {
+        if is_on(&threads.act, thread) && thread <= 0xff {
+            go_on(view, of, &mut places, start, Goal::Act(thread as u8))?;
+        } else if is_on(&threads.step, thread) && thread <= 0xff {
             go_on(view, of, &mut places, start, Goal::Step(thread as u8))?;
         }
     }
@@ -194,14 +255,13 @@ fn round_by(
     Ok(Round { at: start, places })
 }
 
-/// A cycle in a component, with a step of the thread while the call is pending. If that is asked, each thread that has
-/// a step in the component takes one.
+/// A cycle in a component, with these steps, one of them the thread's own while the call is pending.
 pub(crate) fn round_in(
     view: View<'_>,
     of: &[u32],
     labels: &[Option<u32>],
     call: u32,
-    all: bool,
+    steps: Steps,
 ) -> Result<Option<Round>, AllocError> {
     for place in 0..view.edges.len() {
         let Some(edge) = kept_at(view, place) else {
@@ -211,10 +271,10 @@ pub(crate) fn round_in(
             && is_inner(of, edge)
             && is_in_call(labels, edge.from as usize, call);
         if is_one {
-            let threads = if all {
-                threads_in(view, of, edge)?
-            } else {
-                Vec::new(view.alloc)
+            let threads = match steps {
+                Steps::Own => no_threads(view)?,
+                Steps::All => threads_in(view, of, edge, false)?,
+                Steps::Acting => threads_in(view, of, edge, true)?,
             };
             let round = round_by(view, of, place, &threads)?;
             return Ok(Some(round));
@@ -223,61 +283,57 @@ pub(crate) fn round_in(
     Ok(None)
 }
 
-/// Which other threads have a step in the component of an edge.
-fn threads_in(view: View<'_>, of: &[u32], edge: Edge) -> Result<Vec<bool>, AllocError> {
-    let part = number_at(of, edge.from as usize);
-    let mut threads = marks_of(view.alloc, 256, false)?;
-    for place in 0..view.edges.len() {
-        let Some(other) = kept_at(view, place) else {
-            continue;
-        };
-        if is_inner(of, other) && number_at(of, other.from as usize) == part {
-            set(
-                &mut threads,
-                other.actor as usize,
-                other.actor != edge.actor,
-            );
-        }
-    }
-    Ok(threads)
+/// Where a mark stands for a component and a thread.
+fn key_of(part: u32, threads: usize, thread: u8) -> usize {
+    (part as usize)
+        .saturating_mul(threads)
+        .saturating_add(thread as usize)
 }
 
-/// Marks for each component and thread whether a step of the thread stays in the component.
-fn steps_in(view: View<'_>, of: &[u32], threads: usize) -> Result<Vec<bool>, AllocError> {
+/// Marks for each component and thread whether a step of the thread stays in the component. If that is asked, only
+/// steps count that act.
+fn steps_in(
+    view: View<'_>,
+    of: &[u32],
+    threads: usize,
+    acting: bool,
+) -> Result<Vec<bool>, AllocError> {
     let mut steps = marks_of(view.alloc, view.count.saturating_mul(threads), false)?;
     for place in 0..view.edges.len() {
         let Some(edge) = kept_at(view, place) else {
             continue;
         };
-        if is_inner(of, edge) {
-            let part = number_at(of, edge.from as usize) as usize;
-            let key = part
-                .saturating_mul(threads)
-                .saturating_add(edge.actor as usize);
-            set(&mut steps, key, true);
+        if is_inner(of, edge) && !(acting && is_waiting(edge)) {
+            let part = number_at(of, edge.from as usize);
+            set(&mut steps, key_of(part, threads, edge.actor), true);
         }
     }
     Ok(steps)
 }
 
-/// Turns nodes off from which a step of a thread leads that has none in the node's component. Answers whether there
-/// was one.
+/// Whether an edge leads from a node in whose component its thread has no step. If that is asked, a step that acts must
+/// have one that acts, and one that waits needs none.
+fn is_alone(of: &[u32], steps: &[bool], threads: usize, acting: bool, edge: Edge) -> bool {
+    if acting && is_waiting(edge) {
+        return false;
+    }
+    let part = number_at(of, edge.from as usize);
+    !is_on(steps, key_of(part, threads, edge.actor))
+}
+
+/// Turns nodes off from which such an edge leads. Answers whether there was one.
 fn prune(
     view: View<'_>,
     of: &[u32],
     threads: usize,
+    acting: bool,
     on: &mut Vec<bool>,
 ) -> Result<bool, AllocError> {
-    let steps = steps_in(view, of, threads)?;
+    let steps = steps_in(view, of, threads, acting)?;
     let mut changed = false;
-    for place in 0..view.edges.len() {
-        let edge = view.edges[place];
+    for edge in view.edges {
         let at = edge.from as usize;
-        let part = number_at(of, at) as usize;
-        let key = part
-            .saturating_mul(threads)
-            .saturating_add(edge.actor as usize);
-        if is_on(on, at) && !is_on(&steps, key) {
+        if is_on(on, at) && is_alone(of, &steps, threads, acting, *edge) {
             set(on, at, false);
             changed = true;
         }
@@ -285,14 +341,31 @@ fn prune(
     Ok(changed)
 }
 
-/// The components in which each thread has a step that isn't over there.
-pub(crate) fn fair_components(view: View<'_>, threads: usize) -> Result<Components, AllocError> {
+/// The components in which each thread has a step that isn't over there. If that is asked, each thread has one that
+/// acts there that could act at a node of it.
+pub(crate) fn fair_components(
+    view: View<'_>,
+    threads: usize,
+    kept: Steps,
+) -> Result<Components, AllocError> {
     let mut on = marks_of(view.alloc, view.count, true)?;
     for _ in 0..usize::MAX {
         let components = components_of(view, &on)?;
-        if !prune(view, &components.of, threads, &mut on)? {
+        let mut changed = prune(view, &components.of, threads, false, &mut on)?;
+        if is_by_acting(kept) {
+            changed = prune(view, &components.of, threads, true, &mut on)? || changed;
+        }
+        if !changed {
             return Ok(components);
         }
     }
     components_of(view, &on)
+}
+
+/// Whether steps that act are wanted.
+fn is_by_acting(steps: Steps) -> bool {
+    match steps {
+        Steps::Own | Steps::All => false,
+        Steps::Acting => true,
+    }
 }

@@ -39,7 +39,8 @@ fn rank_at(ranks: &[u32], at: usize) -> u32
 
 /// Whether an edge's step waits.
 pub(crate) fn is_waiting(edge: Edge) -> bool
-    ensures { result ≡ false → sort_at edge.mark ≡ Waits → ⊥ }
+    ensures on { IsTrue result → sort_at edge.mark ≡ Waits }
+    ensures off { result ≡ false → sort_at edge.mark ≡ Waits → ⊥ }
 {
     match sort_at(edge.mark) {
         Sort::Waits => true,

@@ -1,8 +1,10 @@
 // The states of a program as a space of a graph, in which also a step that waits is an edge.
 
-ghost use Rattle.std.specs.Prelude.{◌≡◌, ◌<◌, IfNone, IfOk, IfSome, IsTrue, length};
+ghost use Rattle.std.specs.Prelude.{◌≡◌, ◌≢◌, ◌<◌, IfNone, IfOk, IfSome, IsTrue, [], false, length, slice_get};
+ghost use Rattle.std.specs.Prelude.{slice_set, true};
 ghost use Rattle.ls_checked.specs.Plain.{plain_file};
 ghost use Rattle.ls_meaning.specs.Constants.{FileHasConstants};
+ghost use Rattle.ls_meaning.specs.Runs.{has_ended};
 ghost use Rattle.ls_search_laws.specs.Configuration.{Configuration, stride};
 ghost use Rattle.ls_transitions.specs.Tables.{Grows};
 ghost use Rattle.ls_transitions.specs.Seen.{table_of};
@@ -10,10 +12,12 @@ ghost use Rattle.ls_search.specs.Objects.{IsOther};
 ghost use Rattle.ls_search.specs.Places.{IsThere, configuration_of};
 ghost use Rattle.ls_search.specs.Strides.{ActsBy, IsStrideBy};
 ghost use Rattle.ls_progress.specs.Sorts.{sort_at, sort_of_action};
-ghost use Rattle.ls_progress.specs.Steps.{IsPlaced, NoEnd, Rests, StepsTo};
+ghost use Rattle.ls_progress.specs.Steps.{IsIn, IsPlaced, IsSetBack, NoEnd, Rests, StepsTo, file_in, first_in};
+ghost use Rattle.ls_progress.specs.Steps.{stands_in};
 ghost use Rattle.ls_progress.specs.declared.sorts.Sort.TheVariants.{Waits};
 
 use crate::sorts::{Sort, mark_of, sort_of};
+use ls_checked::program::Program;
 use ls_checked::tree::File;
 use ls_graph::marks::{is_marked, mark};
 use ls_graph::space::{Space, Step as Leading};
@@ -37,11 +41,15 @@ pub struct Tables<'a> {
     pub counted: Vec<bool>,
 }
 
-/// The states of a program of a file with so many threads.
+/// The states of a program of a file with so many threads. Where threads begin their calls again, one that has ended
+/// goes on as it does at the root, before the first step.
 #[derive(Drop)]
 pub struct EndsSpace<'a> {
     pub file: &'a File,
+    pub program: &'a Program,
     pub threads: u8,
+    pub again: bool,
+    pub root: NumberedState,
 }
 
 /// How many objects are counted for a state: those of its store, or none where they are counted for another state.
@@ -152,8 +160,8 @@ fn stay(alloc: Global, place: &NumberedState) -> Result<Leading<Kept>, AllocErro
     Ok(Leading { node, mark })
 }
 
-/// Where a thread leads from a state: what it does where it acts or waits.
-fn lead<'a>(
+/// Where a thread leads from a state of the program: what it does where it acts or waits.
+fn lead_once<'a>(
     space: &EndsSpace<'_>,
     alloc: Global,
     tables: &mut Tables<'a>,
@@ -187,6 +195,123 @@ fn lead<'a>(
     }
 }
 
+/// Whether a thread has ended without a trap.
+fn has_thread_ended<'a>(
+    alloc: Global,
+    transitions: &mut Transitions<'a>,
+    place: &NumberedState,
+    thread: usize,
+) -> Result<bool, AllocError>
+    requires there { IsThere (table_of transitions.old) place.now }
+    requires within { thread < length place.now.works.items }
+    ensures ended { IfOk result
+        (λ b. b ≡ has_ended ((configuration_of (table_of transitions.old) place.now).continues thread [])) }
+    ensures grows { Grows (table_of transitions.old) (table_of transitions.new) }
+{
+    let mut works = Vec::new(alloc);
+    works.push(place.works[thread])?;
+    let alone = NumberedState {
+        store: place.store,
+        works,
+        noted: 0,
+    };
+    has_setup_ended(alloc, transitions, &alone)
+}
+
+/// Puts the work of a thread.
+fn put_work(place: &mut NumberedState, thread: usize, work: usize)
+    requires { thread < length place.old.works.items }
+    ensures store { place.new.store ≡ place.old.store }
+    ensures works { place.new.works.items ≡ slice_set place.old.works.items thread work }
+{
+    place.works[thread] = work;
+}
+
+/// The work of a thread at a state, if it has one.
+fn work_at(place: &NumberedState, thread: usize) -> Option<usize>
+    ensures { result ≡ slice_get place.now.works.items thread }
+{
+    if thread >= place.works.len() {
+        return None;
+    }
+    Some(place.works[thread])
+}
+
+/// The state, where a thread that has ended is back at its first call.
+fn set_back<'a>(
+    space: &EndsSpace<'_>,
+    alloc: Global,
+    transitions: &mut Transitions<'a>,
+    place: &NumberedState,
+    thread: usize,
+) -> Result<NumberedState, AllocError>
+    requires known { IsIn space.now (table_of transitions.old) place.now }
+    requires within { thread < length place.now.works.items }
+    requires other { thread ≢ 0 }
+    ensures placed { IfOk result (λ p. IsPlaced (file_in space.now) space.now.threads (table_of transitions.new) p) }
+    ensures back { IfOk result (λ p. IsSetBack (first_in space.now)
+        (configuration_of (table_of transitions.old) place.now) (configuration_of (table_of transitions.new) p)
+        thread) }
+    ensures grows { Grows (table_of transitions.old) (table_of transitions.new) }
+{
+    let ended = has_thread_ended(alloc, transitions, place, thread)?;
+    let mut back = copy_place(alloc, place)?;
+    if ended {
+        let Some(work) = work_at(&space.root, thread) else {
+            return Err(AllocError);
+        };
+        put_work(&mut back, thread, work);
+        return Ok(back);
+    }
+    Ok(back)
+}
+
+/// Whether a thread begins its calls again.
+fn begins_again(space: &EndsSpace<'_>, thread: u8) -> bool
+    ensures on { IsTrue result → space.now.again ≡ true }
+    ensures other { IsTrue result → thread ≢ 0 }
+    ensures off { result ≡ false → space.now.again ≡ true → thread ≢ 0 → ⊥ }
+{
+    if !space.again {
+        return false;
+    }
+    thread != 0
+}
+
+/// Where a thread leads from a state.
+fn lead<'a>(
+    space: &EndsSpace<'_>,
+    alloc: Global,
+    tables: &mut Tables<'a>,
+    place: &NumberedState,
+    thread: u8,
+) -> Result<Option<Leading<Kept>>, AllocError>
+    requires { IsIn space.now (table_of tables.old.transitions) place.now }
+    ensures grows { Grows (table_of tables.old.transitions) (table_of tables.new.transitions) }
+    ensures rests { IfOk result (λ o. IfNone o (Rests (file_in space.now)
+        (stands_in space.now (configuration_of (table_of tables.old.transitions) place.now)) thread)) }
+    ensures known { IfOk result (λ o. IfSome o (λ s. IsPlaced (file_in space.now) space.now.threads
+        (table_of tables.new.transitions) s.node.place)) }
+    ensures leads { IfOk result (λ o. IfSome o (λ s. StepsTo (file_in space.now)
+        (stands_in space.now (configuration_of (table_of tables.old.transitions) place.now)) thread s.mark
+        (stands_in space.now (configuration_of (table_of tables.new.transitions) s.node.place)))) }
+{
+    if begins_again(space, thread) {
+        if thread as usize >= place.works.len() {
+            return Err(AllocError);
+        }
+        let back = set_back(
+            space,
+            alloc,
+            &mut tables.transitions,
+            place,
+            thread as usize,
+        )?;
+        return lead_once(space, alloc, tables, &back, thread);
+    }
+    lead_once(space, alloc, tables, place, thread)
+}
+
 /// Whether works are the same, one by one.
 fn are_same_works(works: &[usize], others: &[usize]) -> bool
     ensures { IsTrue result → works.now ≡ others.now }
@@ -216,9 +341,9 @@ fn hash_of(place: &NumberedState) -> u64 {
 impl<'a> Space for EndsSpace<'a> {
     ghost State = { Configuration };
 
-    ghost Rests = { λ s. Rests (plain_file s.file.now) };
+    ghost Rests = { λ s. Rests (file_in s) };
 
-    ghost Leads = { λ s. StepsTo (plain_file s.file.now) };
+    ghost Leads = { λ s. StepsTo (file_in s) };
 
     ghost Ends = { λ s. NoEnd };
 
@@ -226,9 +351,9 @@ impl<'a> Space for EndsSpace<'a> {
 
     type Node = Kept;
 
-    ghost IsKnown = { λ s t n. IsPlaced (plain_file s.file.now) s.threads (table_of t.transitions) n.place };
+    ghost IsKnown = { λ s t n. IsIn s (table_of t.transitions) n.place };
 
-    ghost stands = { λ s t n. configuration_of (table_of t.transitions) n.place };
+    ghost stands = { λ s t n. stands_in s (configuration_of (table_of t.transitions) n.place) };
 
     ghost weighs = { λ n. n.weight };
 

@@ -1,11 +1,11 @@
 // The graph of a program's states.
 
 ghost use Rattle.std.specs.Prelude.{◌≡◌, IfOk, length};
-ghost use Rattle.ls_checked.specs.Plain.{plain_file};
-ghost use Rattle.ls_checked.specs.PlainProgram.{plain_program};
 ghost use Rattle.ls_graph.specs.Found.{IsGrown};
+ghost use Rattle.ls_progress.specs.Judged.{file_in, root_in, threads_in};
 ghost use Rattle.ls_progress.specs.Steps.{IsStates};
 
+use crate::constants::program_has_constants;
 use crate::space::{EndsSpace, Tables};
 use ls_checked::program::Program;
 use ls_checked::tree::File;
@@ -17,6 +17,7 @@ use ls_renaming::renumbering::Renumbering;
 use ls_search::numbering::{Numbered, number};
 use ls_search::objects::MOST_OBJECTS;
 use ls_search::places::NumberedState;
+use ls_search::searching::copy_place;
 use ls_search::space::Kept;
 use ls_source::playing::Playing;
 use std::alloc::{AllocError, Global};
@@ -29,6 +30,8 @@ pub struct Scope<'a> {
     pub program: &'a Program,
     /// The most states. They have 4,194,304 objects together at most, but for the last of them.
     pub limit: usize,
+    /// Whether each thread begins its calls again when they have ended.
+    pub again: bool,
 }
 
 impl<'a> Clone for Scope<'a> {
@@ -60,15 +63,17 @@ fn plan_of(scope: Scope<'_>) -> Plan
     }
 }
 
-/// The graph of a program's states, from that before the first step on. It is refused too if a constant of the file
-/// names an object, which none does of a file that was read.
+/// The graph of a program's states, from that before the first step on. It is refused too if a constant of the file or
+/// of the program names an object, which none does of those that were read.
 pub(crate) fn states_of(scope: Scope<'_>) -> Result<Closing<Kept>, AllocError>
-    ensures states { IfOk result (λ c. IsStates (plain_file scope.entry.file.now)
-        (plain_program scope.entry.program.now) c.graph.edges.items (length c.graph.found.nodes.items)
-        c.looked.items) }
+    ensures states { IfOk result (λ c. IsStates (file_in scope.entry) (threads_in scope.entry) (root_in scope.entry)
+        c.graph.edges.items (length c.graph.found.nodes.items) c.looked.items) }
     ensures grown { IfOk result (λ c. IsGrown c.graph) }
 {
     if !file_has_constants(scope.file) {
+        return Err(AllocError);
+    }
+    if !program_has_constants(scope.program) {
         return Err(AllocError);
     }
     let plan = plan_of(scope);
@@ -84,18 +89,19 @@ pub(crate) fn states_of(scope: Scope<'_>) -> Result<Closing<Kept>, AllocError>
         renumbering: Renumbering::new(scope.alloc),
         counted: Vec::new(scope.alloc),
     };
-    let root = Kept {
-        place: NumberedState {
-            store,
-            works,
-            noted: 0,
-        },
-        weight: 0,
+    let root = NumberedState {
+        store,
+        works,
+        noted: 0,
     };
+    let place = copy_place(scope.alloc, &root)?;
     let space = EndsSpace {
         file: scope.file,
+        program: scope.program,
         threads: plan.actors,
+        again: scope.again,
+        root,
     };
-    let closing = close(&space, plan, &mut tables, root)?;
+    let closing = close(&space, plan, &mut tables, Kept { place, weight: 0 })?;
     Ok(closing)
 }

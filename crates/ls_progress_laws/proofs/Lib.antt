@@ -5,3 +5,5 @@ pub mod Others
 pub mod Rounds
 pub mod Ranks
 pub mod Following
+pub mod Starting
+pub mod Repeating

@@ -83,7 +83,7 @@ module _ (kind : Kind) (file : File) where
   -- ---- the same of paths
 
   pub end_other : (c d : Configuration) → IsOther c d → (path : List ℕ) →
-      IsOther (end kind file c path) (end kind file d path)
+      IsOther (end file c path) (end file d path)
   end_other c d h [] = h
   end_other c d h (u ∷ path) = end_other (stride file c u).after (stride file d u).after (other_after c d h u) path
 

@@ -1,29 +1,25 @@
 -- Where ranks sink, there is a bound.
 use Rattle.std.proofs.Common.{◌≡◌, ℕ, ◌+◌, ◌≤◌, Bool, true, false, List, [], ◌∷◌, ◌++◌, Option, None, Some, fold}
 use Rattle.std.proofs.Common.{refl, sym, ap}
-use Rattle.std.proofs.Common.{◌∙◌, subst, arith, append-nil, append_assoc}
+use Rattle.std.proofs.Common.{◌∙◌, subst, arith}
 use Rattle.std.specs.Prelude.{nat_eq, if◌then◌else◌}
 use Rattle.std.proofs.lemmas.List.Sums.{fold-append}
 use Rattle.std.proofs.lemmas.Bool.Decides.{nat_tests}
 use Rattle.ls_checked.specs.CheckedTree.{File}
-use Rattle.ls_checked.specs.CheckedProgram.{Program}
 use Rattle.ls_meaning.specs.declared.step.Did.{Did}
 use Rattle.ls_meaning.specs.declared.step.Did.TheVariants as did
-use Rattle.ls_meaning.specs.Runs.{State, source_history, source_run, step}
 use Rattle.ls_meaning.specs.Still.{IsActing, IsStill}
 use Rattle.ls_search_laws.specs.Stepping.{events_of}
-use Rattle.ls_search_laws.specs.Configuration.{Configuration, configuration_of, stride}
-use Rattle.ls_search_laws.proofs.Renamed.{events_other, step_stride}
-use Rattle.ls_search_laws.proofs.Stepping.{one_more}
-use Rattle.ls_search_laws.proofs.Telling.{long_of_all}
-use Rattle.ls_progress_laws.specs.Progress.{Kind, counted, own, pending, pending_after}
-use Rattle.ls_progress_laws.specs.Laws.{IsClosed, IsOther, IsRanked, Leads, RanksBound, place_after}
+use Rattle.ls_search_laws.specs.Configuration.{Configuration, stride}
+use Rattle.ls_search_laws.proofs.Renamed.{events_other}
+use Rattle.ls_progress_laws.specs.Progress.{Kind, counted, own, pending_after}
+use Rattle.ls_progress_laws.specs.Laws.{IsClosed, IsOther, IsRanked, Leads, RanksBound}
 use Rattle.ls_progress_laws.proofs.Others.{acting_before, other_after, other_both, other_stride, own_other}
 use Rattle.ls_progress_laws.proofs.Others.{silent_before}
 use Rattle.ls_progress_laws.proofs.Others.{waits_before}
 use Rattle.ls_progress_laws.proofs.Pending.{pending_quiet, pending_renamed}
-use Rattle.ls_progress_laws.proofs.Steps.{own_is, stride_still, within_is}
-use Rattle.ls_progress_laws.specs.Strides.{AreWithin, own_strides}
+use Rattle.ls_progress_laws.proofs.Steps.{stride_still}
+use Rattle.ls_progress_laws.specs.Strides.{AreWithin, end, events_along, own_strides}
 
 module _ (kind : Kind) (file : File) (list : List Configuration) (now : ℕ → Option ℕ)
     (closed : IsClosed kind.thread file list now) where
@@ -84,46 +80,28 @@ module _ (kind : Kind) (file : File) (list : List Configuration) (now : ℕ → 
 
   -- ---- a schedule
 
-  module _ (program : Program) where
-    -- the state after the schedule is one of the list, where that call is pending that is
-    pub record Reached (schedule : List ℕ) : Type 0 where
-      pub at : Leads list (place_after file program schedule)
-      pub now_is : now at.to ≡ pending kind.thread (source_history file program schedule)
+  next_any : (d : Configuration) (h : Leads list d) (u : ℕ) (x : Did) → (stride file d u).did ≡ x → Next d h u
+  next_any d h u (did.Acted a x) e = next_acting d h u (subst IsActing (sym e) tt)
+  next_any d h u did.Waits e = next_still d h u (subst IsStill (sym e) tt)
+  next_any d h u did.Idle e = next_still d h u (subst IsStill (sym e) tt)
 
-    next_any : (d : Configuration) (h : Leads list d) (u : ℕ) (x : Did) → (stride file d u).did ≡ x → Next d h u
-    next_any d h u (did.Acted a x) e = next_acting d h u (subst IsActing (sym e) tt)
-    next_any d h u did.Waits e = next_still d h u (subst IsStill (sym e) tt)
-    next_any d h u did.Idle e = next_still d h u (subst IsStill (sym e) tt)
+  -- steps lead to one of the list, where that call is pending that is
+  pub record Came (d : Configuration) (h : Leads list d) (path : List ℕ) : Type 0 where
+    pub at : Leads list (end file d path)
+    pub now_is : now at.to ≡ fold (pending_after kind.thread) (now h.to) (events_along file d path)
 
-    reached_more : (schedule : List ℕ) (u : ℕ) → Reached schedule → Reached (schedule ++ u ∷ [])
-    reached_more schedule u r =
-        let s : State = source_run file program schedule in
-        let d : Configuration = place_after file program schedule in
-        let go = step_stride file program s (long_of_all file program schedule) u in
-        let more = one_more file program schedule u in
-        let n = next_any d r.at u (stride file d u).did refl in
-        let place : (stride file d u).after ≡ place_after file program (schedule ++ u ∷ []) =
-        sym go.1 ∙ ap (configuration_of file program) (sym more.state) in
-        let events : fold (pending_after kind.thread) (pending kind.thread (source_history file program schedule))
-        (events_of u (stride file d u).did) ≡ pending kind.thread (source_history file program (schedule ++ u ∷ [])) =
-        ap (λ x. moved u (pending kind.thread (source_history file program schedule)) x) (sym go.0)
-        ∙ sym (fold-append (pending_after kind.thread) None (source_history file program schedule)
-        (events_of u (step file program s u).did))
-        ∙ ap (pending kind.thread) (sym more.history) in
-        record {
-          at = subst (Leads list) place n.to;
-          now_is = same_to _ _ place n.to ∙ n.now_is
-              ∙ ap (λ m. moved u m (stride file d u).did) r.now_is ∙ events;
-        }
-      where
-        same_to : (c e : Configuration) (p : c ≡ e) (h : Leads list c) → now (subst (Leads list) p h).to ≡ now h.to
-        same_to c e p h = refl
-
-    pub reached : (schedule more : List ℕ) → Reached schedule → Reached (schedule ++ more)
-    reached schedule [] r = subst Reached (sym (append-nil schedule)) r
-    reached schedule (u ∷ more) r =
-        subst Reached (append_assoc schedule (u ∷ []) more)
-        (reached (schedule ++ u ∷ []) more (reached_more schedule u r))
+  pub came : (d : Configuration) (h : Leads list d) (path : List ℕ) → Came d h path
+  came d h [] = record { at = h; now_is = refl }
+  came d h (u ∷ path) =
+      let n = next_any d h u (stride file d u).did refl in
+      let rest = came (stride file d u).after n.to path in
+      record {
+        at = rest.at;
+        now_is = rest.now_is
+            ∙ ap (λ m. fold (pending_after kind.thread) m (events_along file (stride file d u).after path)) n.now_is
+            ∙ sym (fold-append (pending_after kind.thread) (now h.to) (events_of u (stride file d u).did)
+            (events_along file (stride file d u).after path));
+      }
 
   -- ---- ranks
 
@@ -184,15 +162,10 @@ module _ (kind : Kind) (file : File) (list : List Configuration) (now : ℕ → 
         omega (arith, sunk, rest)
 
 pub ranks_bound : RanksBound
-ranks_bound kind file program list now closed call rank most ranked quiet_own first none before path in_call w =
-    let s : State = source_run file program before in
-    let long = long_of_all file program before in
-    let begins : Reached kind file list now closed program [] = record { at = first; now_is = none } in
-    let r = reached kind file list now closed program [] before begins in
-    let is : now r.at.to ≡ Some call = r.now_is ∙ in_call in
-    let place : Configuration = place_after file program before in
-    let steps = few kind file list now closed call rank most ranked quiet_own place r.at path is
-    (within_is kind file program s path long w) in
-    let low = ranked.low r.at.to r.at.one r.at.here is in
-    let same = own_is kind file program s path long in
-    omega (arith, steps, low, same)
+ranks_bound kind file root list now closed call rank most ranked quiet_own first none before path in_call w =
+    let c = came kind file list now closed root first before in
+    let is : now c.at.to ≡ Some call = c.now_is
+    ∙ ap (λ m. fold (pending_after kind.thread) m (events_along file root before)) none ∙ in_call in
+    let steps = few kind file list now closed call rank most ranked quiet_own (end file root before) c.at path is w in
+    let low = ranked.low c.at.to c.at.one c.at.here is in
+    omega (arith, steps, low)

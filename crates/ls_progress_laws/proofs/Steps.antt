@@ -21,12 +21,12 @@ use Rattle.ls_progress_laws.specs.Strides.{AreWithin, end, own_strides}
 module _ (kind : Kind) (file : File) where
   -- ---- steps after steps
 
-  pub end_both : (c : Configuration) (p q : List ℕ) → end kind file c (p ++ q) ≡ end kind file (end kind file c p) q
+  pub end_both : (c : Configuration) (p q : List ℕ) → end file c (p ++ q) ≡ end file (end file c p) q
   end_both c [] q = refl
   end_both c (u ∷ p) q = end_both (stride file c u).after p q
 
   pub own_both : (c : Configuration) (p q : List ℕ) →
-      own_strides kind file c (p ++ q) ≡ own_strides kind file c p + own_strides kind file (end kind file c p) q
+      own_strides kind file c (p ++ q) ≡ own_strides kind file c p + own_strides kind file (end file c p) q
   own_both c [] q = zero_first (own_strides kind file c q)
     where
       zero_first : (n : ℕ) → n ≡ 0 + n
@@ -35,13 +35,13 @@ module _ (kind : Kind) (file : File) where
       let more = own_both (stride file c u).after p q in
       let a : ℕ = own kind u (stride file c u).did in
       ap (λ n. a + n) more ∙ sum_of a (own_strides kind file (stride file c u).after p)
-      (own_strides kind file (end kind file (stride file c u).after p) q)
+      (own_strides kind file (end file (stride file c u).after p) q)
     where
       sum_of : (a b d : ℕ) → a + (b + d) ≡ (a + b) + d
       sum_of a b d = omega arith
 
   pub within_both : (c : Configuration) (p q : List ℕ) → AreWithin kind file c p →
-      AreWithin kind file (end kind file c p) q →
+      AreWithin kind file (end file c p) q →
       AreWithin kind file c (p ++ q)
   within_both c [] q w v = v
   within_both c (u ∷ p) q w v = (w.0, w.1, within_both (stride file c u).after p q w.2 v)
@@ -111,11 +111,11 @@ module _ (kind : Kind) (file : File) where
 
     -- where a schedule leads to
     pub end_is : (schedule path : List ℕ) →
-        end kind file (conf (source_run file program schedule)) path ≡
+        end file (conf (source_run file program schedule)) path ≡
         conf (source_run file program (schedule ++ path))
     end_is schedule [] = ap (λ s. conf (source_run file program s)) (sym (append-nil schedule))
     end_is schedule (u ∷ path) =
         let go = step_stride file program (source_run file program schedule) (long_of_all file program schedule) u in
-        ap (λ c. end kind file c path) (sym go.1 ∙ ap conf (sym (one_more file program schedule u).state))
+        ap (λ c. end file c path) (sym go.1 ∙ ap conf (sym (one_more file program schedule u).state))
         ∙ end_is (schedule ++ u ∷ []) path
         ∙ ap (λ s. conf (source_run file program s)) (append_assoc schedule (u ∷ []) path)

@@ -1,4 +1,6 @@
 pub mod Progress
 pub mod Strides
+pub mod From
+pub mod Again
 pub mod Laws
 pub mod Rows

@@ -18,6 +18,7 @@ returns c =
     let text = same_calls _ _ i _ texts c.args.states ends.states ends.complete
     c.program-2.ensures c.deref-2.ensures.value
     c.in_ok-text.ensures in
-    says i c.args.states _ _ text
+    says i c.args.again c.args.states _ _ text
     (Tells ends.calls.items texts ends.states ends.complete good c.in_ok-ends.ensures.listed c.in_ok-ends.ensures.ends
+    c.in_ok-ends.ensures.once
     (same_written _ i _ ends.calls.items texts c.program.ensures c.deref.ensures.value c.in_ok-texts.ensures))
