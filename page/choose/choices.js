@@ -97,18 +97,23 @@ const isHopeless = () => hopeless !== null && hopeless.step <= done();
 const right = given.reference === undefined ? "calls" : "calls of the reference";
 const ordered = order => order.length > 0 ? order.join(" ") : "that without any call";
 
+// Why it may not be known whether a history is linearizable.
+const UNKNOWN = {
+  "long call": "a call that runs alone takes more than 10,000 steps",
+  "many states": "calls that run one at a time lead to more than 10,000 states",
+};
 // What is said of the answers at an end, or of those so far.
 function saidOfAnswers(verdict, order) {
   if (verdict === "linearizable")
     return "The history is linearizable: " + right + " that run one at a time answer so too, in the order "
       + ordered(order) + ".";
-  if (verdict === "") return "Whether the history is linearizable isn't known: some serial histories weren't found.";
+  if (verdict === "") return "Whether the history is linearizable isn't known: " + UNKNOWN[given.why] + ".";
   return "From line " + hopeless.line + " of the history on, `" + hopeless.event + "`, no order of the " + right
     + " explains their answers. What came before has the order " + ordered(hopeless.order) + ".";
 }
 // What an end says, as [a short word for it, sentences, whether it is bad].
 function saidOf(end) {
-  const isWrong = end.verdict === "not linearizable", sentences = [saidOfAnswers(end.verdict, end.order)];
+  const isWrong = end.verdict === "not linearizable", sentences = [saidOfAnswers(end.verdict, walk.order(done()))];
   const word = isWrong || !end.waits ? end.verdict || "not judged" : "waits for ever";
   if (end.waits) sentences.unshift("No thread acts any more: " + end.status + ".");
   else sentences.unshift(end.status === "ended" ? "All threads have ended." : end.status + ".");

@@ -1,7 +1,7 @@
 // The graph of the states after the setup. The data have of each state and thread the line that its step has, and the
 // state to which that leads; a step that does nothing leads to its own state, which its line says. A node here is a
-// state with what may still explain the history, since what an end comes to depends on that: nodes are numbered as they
-// are found.
+// state with the pairs that are left after the history, since what an end comes to depends on these: nodes are numbered
+// as they are found.
 
 const NOT_EXPLORED = -1, MOST_NODES = 1000000;
 
@@ -13,7 +13,8 @@ class Graph {
     this.width = this.names.length;
     this.setup = given.setup.split("\n").filter(line => line !== "");
     this.rows = [];
-    this.serial = new SerialHistories(given.serial.map(run => run.map(at => given.texts[at])));
+    this.serial = new SerialStates(given);
+    this.events = this.setup.map(line => readRow(line.slice(line.indexOf(" ") + 1))).filter(isEvent);
     this.spread();
     this.findEnds();
     this.shapes = this.thingsOfEnds();
@@ -21,11 +22,10 @@ class Graph {
     this.leadsRound = this.sorted().length < this.count;
     this.goals = this.findGoals();
   }
-  // Nodes from states: { states, sets, targets }, where `sets` are those of the serial histories.
+  // Nodes from states: { states, sets, targets }, where `sets` are those of pairs.
   spread() {
     const { given, serial } = this, states = [0], targets = [], known = new Map();
-    const events = this.setup.map(line => readRow(line.slice(line.indexOf(" ") + 1))).filter(isEvent);
-    const sets = [events.reduce((set, row) => serial.after(set, row), serial.first)];
+    const sets = [this.events.reduce((set, row) => serial.after(set, row), serial.first)];
     const numberOf = (state, set) => {
       const key = set * given.to.length + state;
       if (!known.has(key)) {
@@ -44,22 +44,24 @@ class Graph {
       }
     Object.assign(this, { states, sets, targets, count: states.length });
   }
-  // Of each node in which no thread acts: { node, status, state, waits, verdict, order }. `verdict` is "" where it
-  // isn't known. `order` has the calls of a serial history that explains what was done, those of the setup left out.
+  // Of each node in which no thread acts: { node, status, state, waits, verdict }. `verdict` is "" where it isn't
+  // known.
   findEnds() {
     const ends = new Map(this.given.ends.map(([state, text, waits]) => [state, endOf(text, waits)]));
     this.ends = new Map();
     for (let node = 0; node < this.count; node++) {
       const end = ends.get(this.states[node]);
-      if (end) this.ends.set(node, { node, ...end, verdict: this.verdict(node), order: this.order(node) });
+      if (end) this.ends.set(node, { node, ...end, verdict: this.verdict(node) });
     }
   }
   verdict(node) {
     if (this.serial.explains(this.sets[node])) return "linearizable";
     return this.given.known ? "not linearizable" : "";
   }
-  order(node) {
-    const order = this.serial.order(this.sets[node]);
+  // The calls of a serial history that explains what the setup and these rows did, those of the setup left out; null
+  // where there is none.
+  order(rows) {
+    const order = this.serial.order([...this.events, ...rows.filter(isEvent)]);
     return order && order.filter(name => !name.startsWith("setup."));
   }
   // A thing of each class, for what its fields are: those at the ends, else by the class text.

@@ -1,68 +1,67 @@
-// The serial histories of the program, and which of their beginnings explain a history. They stand in a tree: a place
-// in it is a beginning, and leads on by a call with its end. The places that explain a history are kept as a set with
-// the calls that are pending; without any place the history isn't explained, and nor is any that begins so.
+// The states of the program between calls that run one at a time: of each state what its calls end with, and which
+// state each of them leaves. Who observes a history holds pairs of such a state and of what is noted there of each
+// pending call: the end with which it has taken effect, or that it hasn't. Without any pair the history isn't
+// explained, and nor is any that begins so.
 //
-// Where a call is called, what explains the longer history is what explained the shorter one, and what that leads to by
-// calls that are pending. Where a call ends, the places stay that have this end of it.
+// Where a call is called, each pair notes it. Where a call ends, pending calls take effect, one after another, up to
+// the one that ends and no further; the pairs stay in which it took effect with this end. A pair is left out if another
+// one becomes that pair where one pending call takes effect: what goes on from it goes on from the other, too.
 
 const nameOfEvent = row => row.thread + "." + row.call;
+const OPEN = "";             // noted of a call that hasn't taken effect
+const keyOf = ({ state, noted }) => [state, ...noted.flat()].join("\n");
 
-class SerialHistories {
-  // `runs` are lists of lines of events.
-  constructor(runs) {
-    this.places = [{ before: null, call: "", end: "", calls: 0, next: [] }];
-    for (const run of runs) this.grow(run.map(line => readRow(line.trim())));
+class SerialStates {
+  constructor({ outcomes, next, texts }) {
+    this.rows = outcomes.map((ends, state) => ends.map((text, at) => {
+      const row = readRow(texts[text].trim());
+      return { call: nameOfEvent(row), end: row.text, to: next[state][at] };
+    }));
+    this.start = [{ state: 0, noted: [], order: [] }];
     this.sets = [];
     this.numbers = new Map();
     this.known = new Map();
-    this.first = this.keep([0], []);
+    this.first = this.keep(this.start);
   }
-  grow(events) {
-    let at = 0;
-    for (let number = 0; number + 1 < events.length; number += 2) {
-      const call = nameOfEvent(events[number]), end = events[number + 1].text, { next } = this.places[at];
-      let to = next.find(place => this.places[place].call === call && this.places[place].end === end);
-      if (to === undefined) {
-        to = this.places.push({ before: at, call, end, calls: this.places[at].calls + 1, next: [] }) - 1;
-        next.push(to);
-      }
-      at = to;
-    }
-  }
-  // The number of a set of places with pending calls.
-  keep(places, pending) {
-    const sorted = [...places].sort((a, b) => a - b), key = sorted.join() + ";" + pending.join();
-    if (!this.numbers.has(key)) this.numbers.set(key, this.sets.push({ places: sorted, pending }) - 1);
+  // The number of a set of pairs.
+  keep(pairs) {
+    const key = pairs.map(keyOf).sort().join("\n\n");
+    if (!this.numbers.has(key)) this.numbers.set(key, this.sets.push(pairs) - 1);
     return this.numbers.get(key);
   }
   // The set after an event more.
   after(set, row) {
     const key = set + ":" + row.text;
-    if (!this.known.has(key)) this.known.set(key, row.kind === "call" ? this.called(set, row) : this.ended(set, row));
+    if (!this.known.has(key)) this.known.set(key, this.keep(this.moved(this.sets[set], row)));
     return this.known.get(key);
   }
-  called(set, row) {
-    const pending = [...this.sets[set].pending, nameOfEvent(row)].sort(), found = new Set(this.sets[set].places);
-    for (const place of found)
-      for (const next of this.places[place].next) if (pending.includes(this.places[next].call)) found.add(next);
-    return this.keep(found, pending);
+  moved(pairs, row) {
+    const call = nameOfEvent(row);
+    if (row.kind !== "call") return this.ended(pairs, call, row.text);
+    return pairs.map(pair => ({ ...pair, noted: [...pair.noted, [call, OPEN]].sort() }));
   }
-  ended(set, row) {
-    const { places, pending } = this.sets[set];
-    return this.keep(places.filter(place => this.hasEnd(place, row.text)),
-      pending.filter(name => name !== nameOfEvent(row)));
+  ended(pairs, call, end) {
+    const found = new Map(), reached = new Map(pairs.map(pair => [keyOf(pair), pair]));
+    const add = (map, pair) => { if (!map.has(keyOf(pair))) map.set(keyOf(pair), pair); };
+    for (const pair of reached.values()) {
+      const [, noted] = pair.noted.find(([name]) => name === call);
+      if (noted === OPEN) for (const taken of this.taken(pair)) add(reached, taken);
+      if (noted === end) add(found, { ...pair, noted: pair.noted.filter(([name]) => name !== call) });
+    }
+    const covered = new Set([...found.values()].flatMap(pair => this.taken(pair).map(keyOf)));
+    return [...found.values()].filter(pair => !covered.has(keyOf(pair)));
   }
-  hasEnd(place, end) {
-    for (let at = place; at > 0; at = this.places[at].before) if (this.places[at].end === end) return true;
-    return false;
+  // What a pair becomes where a pending call takes effect.
+  taken({ state, noted, order }) {
+    const isOpen = call => noted.some(it => it[0] === call && it[1] === OPEN);
+    return (this.rows[state] ?? []).filter(it => isOpen(it.call)).map(({ call, end, to }) =>
+      ({ state: to, noted: noted.map(it => it[0] === call ? [call, end] : it), order: [...order, call] }));
   }
-  explains(set) { return this.sets[set].places.length > 0; }
-  // The calls of a shortest serial history in a set, in its order; null where there is none.
-  order(set) {
-    const [first, ...rest] = this.sets[set].places, { places } = this, names = [];
+  explains(set) { return this.sets[set].length > 0; }
+  // The calls of a serial history that explains these events, in its order; null where there is none.
+  order(rows) {
+    const [first, ...rest] = rows.reduce((pairs, row) => this.moved(pairs, row), this.start);
     if (first === undefined) return null;
-    let at = rest.reduce((least, place) => places[place].calls < places[least].calls ? place : least, first);
-    for (; at > 0; at = places[at].before) names.push(places[at].call);
-    return names.reverse();
+    return rest.reduce((least, pair) => pair.order.length < least.order.length ? pair : least, first).order;
   }
 }

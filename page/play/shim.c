@@ -139,6 +139,7 @@ void _exit(int status) { host_end(status); }
 void abort(void) { host_end(134); }
 int open(const char *path, int how, ...) { return refused(ENOENT); }
 int close(int file) { return 0; }
+int isatty(int file) { return 0; }
 long syscall(long number, void *a, long b, long c, void *d, void *e) { return refused(ENOSYS); }
 long __sysv_signal(int signal, long handler) { return 0; }
 

@@ -60,7 +60,7 @@ function shortened(words, most) {
 // What the page found wrong with itself.
 function showNotes() {
   const notes = [];
-  if (data.listset !== (graph === null ? 2 : 1))
+  if (data.listset !== 2)
     notes.push("These data have another format than this page reads. Don't trust it.");
   if (run.disagrees)
     notes.push("The page's own count of the objects differs from the last state: it has " + run.disagrees

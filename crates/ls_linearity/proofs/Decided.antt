@@ -1,8 +1,10 @@
 -- What it means that no pair is left after a history, by the table of a program.
-use Rattle.std.proofs.Common.{◌≡◌, true, false, List, subst}
+use Rattle.std.proofs.Common.{◌≡◌, ◌∙◌, ◌||◌, Bool, true, false, not, List, [], ◌∷◌, ap, refl, subst}
 use Rattle.ls_events.specs.declared.event.Event.{Event}
 use Rattle.ls_checked.specs.CheckedTree.{File}
 use Rattle.ls_checked.specs.CheckedProgram.{Program}
+use Rattle.ls_automaton.specs.Held.{first_held, goes_along}
+use Rattle.ls_automaton.proofs.Ending.{noted_leaves}
 use Rattle.ls_linearizable.specs.Linearizable.{IsLinearizable}
 use Rattle.ls_linearizable.specs.Resting.{AreOnce}
 use Rattle.ls_serial_search.specs.Told.{usual}
@@ -12,6 +14,7 @@ use Rattle.ls_specification.specs.Specification.{spec_file, spec_program}
 use Rattle.ls_specification.specs.declared.Specification.{Specification}
 use Rattle.ls_linearity.specs.Followed.{is_lost}
 use Rattle.ls_linearity.specs.Judges.{Judges}
+use Rattle.ls_linearity.specs.Laws.{IsDecided}
 use Rattle.ls_linearity.specs.Tabled.{IsTableOf}
 use Rattle.ls_linearity.specs.declared.judging.SerialJudge.{SerialJudge}
 use Rattle.ls_linearity.specs.declared.table.SerialTable.{SerialTable}
@@ -41,3 +44,19 @@ module _ (file : File) (program : Program) (t : SerialTable) (is : IsTableOf fil
     unexplained =
         bad_not_within file program usual.steps t.goes_on is.outcomes is.are t.rows.items is.merged h each lost;
   }
+
+  -- whether none is left, by whether one is
+  lost_by : (b : Bool) → goes_along t.rows.items h first_held ≡ b → is_lost t.rows.items h ≡ not (b || false)
+  lost_by b along = noted_leaves t.rows.items (first_held ∷ []) h ∙ ap (λ x. not (x || false)) along
+
+  pub decided : IsDecided file program t h
+  decided = record {
+    left = λ along. left_is (lost_by true along);
+    exact = λ known linear. by_left known linear (goes_along t.rows.items h first_held) refl;
+    within = λ long none. lost_within long (lost_by false none);
+  }
+    where
+      by_left : t.goes_on ≡ false → IsLinearizable file program h → (b : Bool) →
+          goes_along t.rows.items h first_held ≡ b → goes_along t.rows.items h first_held ≡ true
+      by_left known linear true along = along
+      by_left known linear false none = absurd (lost_is_not known (lost_by false none) linear)

@@ -10,7 +10,7 @@ use std::alloc::{AllocError, Global};
 
 /// The place, from 0, of the first event of a history with which no pair is left. None if one is left after all events.
 /// The only refusal is that memory ran out.
-pub(crate) fn lost_at(
+pub fn lost_at(
     alloc: Global,
     rows: &[Vec<Outcome>],
     history: &[Event],

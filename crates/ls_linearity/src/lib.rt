@@ -2,8 +2,9 @@
 //! once, and each history is followed through them, event by event.
 #![tactic(auto)]
 
-mod following;
+pub mod following;
 pub mod judging;
+pub mod laws;
 pub mod table;
 
 pub use judging::{SerialJudge, judge_for, linearity_by, own_judge};

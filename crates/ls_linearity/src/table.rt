@@ -1,8 +1,8 @@
 // The states of a specification between its calls, as a table.
 
-ghost use Rattle.std.specs.Prelude.{◌≡◌, true, IfOk, IfSome};
+ghost use Rattle.std.specs.Prelude.{◌≡◌, true, IfNone, IfOk, IfSome};
 ghost use Rattle.ls_automaton.specs.Tables.{AreOutcomes};
-ghost use Rattle.ls_serial_search.specs.Open.{HasLongCall};
+ghost use Rattle.ls_serial_search.specs.Open.{HasLongCall, HasManyOrders};
 ghost use Rattle.ls_serial_search.specs.Told.{usual};
 ghost use Rattle.ls_specification.specs.Specification.{spec_file, spec_program};
 ghost use Rattle.ls_linearity.specs.Tabled.{IsTableOf};
@@ -17,13 +17,13 @@ use std::alloc::{AllocError, Global};
 /// The states of a specification between calls that run one at a time, by number, with what each call does there.
 #[derive(Drop)]
 pub struct SerialTable {
-    pub(crate) rows: Vec<Vec<Outcome>>,
+    pub rows: Vec<Vec<Outcome>>,
     /// Whether a call alone doesn't end within the bound.
-    pub(crate) goes_on: bool,
+    pub goes_on: bool,
 }
 
-/// A table has at most so many states.
-const MOST_STATES: usize = 32_000;
+/// A table has at most so many states where histories are judged one by one.
+pub const MOST_STATES: usize = 32_000;
 
 /// A program has at most so many threads, the setup with them. Of calls that are pending at once each set may have
 /// taken effect, so more threads would lead to too many pairs.
@@ -48,25 +48,42 @@ fn merged_table(
     Ok(SerialTable { rows, goes_on })
 }
 
-/// The table of a specification, in which each call is followed for at most 10,000 steps. None if it would have over
-/// 32,000 states, or if there are over 8 threads beside the setup. The only refusal is that memory ran out.
-pub fn table_for(
+/// The table of a specification, in which each call is followed for at most 10,000 steps. None if it would have more
+/// states than so many: then there are more serial histories than so many, too. The only refusal is that memory ran
+/// out.
+pub fn serial_table(
     alloc: Global,
     specification: Specification<'_>,
+    most_states: usize,
 ) -> Result<Option<SerialTable>, AllocError>
-    ensures { IfOk result (λ some. IfSome some
+    ensures table { IfOk result (λ some. IfSome some
         (IsTableOf (spec_file specification.entry) (spec_program specification.entry) usual)) }
+    ensures many { IfOk result (λ some. IfNone some
+        (HasManyOrders (spec_file specification.entry) (spec_program specification.entry) most_states)) }
 {
     let Specification { file, program } = specification;
-    if program.threads.len() > MOST_THREADS {
-        return Ok(None);
-    }
     let bounds = Bounds::usual();
-    match table_of(alloc, file, program, bounds.steps, MOST_STATES)? {
+    match table_of(alloc, file, program, bounds.steps, most_states)? {
         Some(table) => {
             let merged = merged_table(alloc, specification, &bounds, table)?;
             Ok(Some(merged))
         }
         None => Ok(None),
     }
+}
+
+/// The table for many histories. None if it would have over 32,000 states, or if there are over 8 threads beside the
+/// setup. The only refusal is that memory ran out.
+pub(crate) fn table_for(
+    alloc: Global,
+    specification: Specification<'_>,
+) -> Result<Option<SerialTable>, AllocError>
+    ensures { IfOk result (λ some. IfSome some
+        (IsTableOf (spec_file specification.entry) (spec_program specification.entry) usual)) }
+{
+    if specification.program.threads.len() > MOST_THREADS {
+        return Ok(None);
+    }
+    let table = serial_table(alloc, specification, MOST_STATES)?;
+    Ok(table)
 }

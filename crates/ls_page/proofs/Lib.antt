@@ -3,7 +3,6 @@ pub mod Changing
 pub mod Filling
 pub mod Numbered
 pub mod Numbering
-pub mod Doubting
 pub mod Joined
 pub mod Once
 pub mod SettingUp

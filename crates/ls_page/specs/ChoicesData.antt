@@ -1,17 +1,20 @@
 -- The data of a page on which one chooses, as one JSON text.
-use Rattle.std.specs.Prelude.{◌≡◌, ◌≢◌, ◌↔◌, ◌≤◌, ℕ, ◌+◌, List, [], ◌++◌, AllPairs, IfNone, IfSome, Option, None, Some}
+use Rattle.std.specs.Prelude.{◌≡◌, ◌≢◌, ◌≤◌, ℕ, ◌+◌, if◌then◌else◌, List, [], ◌++◌, AllPairs, Option, None, Some}
 use Rattle.std.specs.Prelude.{codes, length, map}
+use Rattle.std.specs.declared.vec.Vec.{Vec}
+use Rattle.std.specs.declared.alloc.Global.{Global}
 use Rattle.std.specs.Fmt.{decimal}
 use Rattle.ls_events.specs.declared.event.Event.{Event}
 use Rattle.ls_checked.specs.CheckedTree.{File}
 use Rattle.ls_checked.specs.CheckedProgram.{Program}
 use Rattle.ls_report.specs.Events.{Text}
-use Rattle.ls_serial.specs.Serial.{IsExplainedBy}
-use Rattle.ls_linearizable.specs.Linearizable.{AreTrue, IsLinearizable, TellSerial}
-use Rattle.ls_serial_search.specs.Histories.{AreSerialRuns}
-use Rattle.ls_serial_search.specs.Told.{IsDoubt, usual}
-use Rattle.ls_serial_search.specs.declared.telling.Doubt.{Doubt}
-use Rattle.ls_serial_search.specs.declared.telling.Doubt.TheVariants as doubts
+use Rattle.ls_meaning.specs.Runs.{source_history}
+use Rattle.ls_automaton.specs.declared.outcome.Outcome.{Outcome}
+use Rattle.ls_linearity.specs.Laws.{IsDecided}
+use Rattle.ls_linearity.specs.Tabled.{IsTableOf}
+use Rattle.ls_linearity.specs.declared.table.SerialTable.{SerialTable}
+use Rattle.ls_serial_search.specs.Open.{HasManyOrders}
+use Rattle.ls_serial_search.specs.Told.{usual}
 use Rattle.ls_labels.specs.Names.{Names}
 use Rattle.ls_state.specs.State.{state_text}
 use Rattle.ls_page.specs.Data.{Texts, field, texts_text}
@@ -25,7 +28,7 @@ use Rattle.ls_choices.specs.Reaching.{IsReach, TellsLeftOut}
 use Rattle.ls_choices.specs.declared.reach.Reach.{Reach}
 use Rattle.ls_choices.specs.declared.reach.Reach.TheVariants as reaches
 use Rattle.ls_page.specs.Lists.{listed, lists_text}
-use Rattle.ls_page.specs.Numbers.{AreAllNumbers, event_lines, row_words}
+use Rattle.ls_page.specs.Numbers.{AreAllNumbers, after_rows, lines_of_ends, row_words}
 use Rattle.ls_page.specs.States.{ends_text, targets_text}
 
 -- a reference: its class text, and the file and the program whose calls, run one at a time, are right
@@ -54,13 +57,14 @@ abbrev pub reach_text : Reach → Text
 reach_text reaches.All = codes ",\"complete\":true"
 reach_text (reaches.UpTo steps) = codes ",\"complete\":false,\"steps\":" ++ decimal steps
 
--- Texts by number; the numbers of the words of each row, and those of the lines of serial histories; and why these may
--- not be all serial histories, if that isn't known.
+-- Texts by number; the numbers of the words of each row; of each state between calls the numbers of the lines of the
+-- ends of its calls, and the states after them; and the table of these states, if there aren't too many.
 pub record Tables : Type 0 where
   pub texts : List Text
   pub lines : List (List ℕ)
-  pub serial : List (List ℕ)
-  pub doubt : Option Doubt
+  pub ends : List (List ℕ)
+  pub next : List (List ℕ)
+  pub serial : Option SerialTable
 
 -- the texts, and the lines of the rows
 abbrev pub lines_text : Tables → Text
@@ -71,18 +75,19 @@ abbrev pub graph_text : Names → Graph → Reach → Text
 graph_text names g reach =
     codes ",\"to\":" ++ (targets_text g.rows ++ (codes ",\"ends\":" ++ (ends_text names g ++ reach_text reach)))
 
--- whether the serial histories are all
-abbrev pub doubt_text : Option Doubt → Text
-doubt_text None = codes ",\"known\":true"
-doubt_text (Some doubts.LongCall) = codes ",\"known\":false,\"why\":\"long call\""
-doubt_text (Some doubts.ManyOrders) = codes ",\"known\":false,\"why\":\"many orders\""
+-- what calls do in each state between calls
+abbrev pub outcomes_text : Tables → Text
+outcomes_text t = codes ",\"outcomes\":" ++ (lists_text t.ends ++ (codes ",\"next\":" ++ lists_text t.next))
 
--- the serial histories
-abbrev pub serial_text : Tables → Text
-serial_text t = codes ",\"serial\":" ++ (lists_text t.serial ++ doubt_text t.doubt)
+-- whether that is all that they do
+abbrev pub known_text : Option SerialTable → Text
+known_text None = codes ",\"known\":false,\"why\":\"many states\""
+known_text (Some t) =
+    if t.goes_on then codes ",\"known\":false,\"why\":\"long call\"" else codes ",\"known\":true"
 
 abbrev pub tables_text : Names → Graph → Reach → Tables → Text
-tables_text names g reach t = lines_text t ++ (graph_text names g reach ++ serial_text t)
+tables_text names g reach t =
+    lines_text t ++ (graph_text names g reach ++ (outcomes_text t ++ known_text t.serial))
 
 -- the text of a reference, if one is given
 abbrev pub reference_text : Option Reference → Text
@@ -91,7 +96,7 @@ reference_text (Some r) = field (codes "reference") r.text
 
 abbrev pub head_text : Names → Texts → Option Reference → List ℕ → Text
 head_text names texts reference first =
-    codes "{\"listset\":1,\"choose\":1" ++ (texts_text texts ++ (reference_text reference ++ first_text names first))
+    codes "{\"listset\":2,\"choose\":1" ++ (texts_text texts ++ (reference_text reference ++ first_text names first))
 
 abbrev pub data_text : Names → Texts → Option Reference → List ℕ → Graph → Reach → Tables → Text
 data_text names texts reference first g reach t =
@@ -99,17 +104,26 @@ data_text names texts reference first g reach t =
 
 -- ---- what it says
 
--- Serial histories of a program of a file. If there is no doubt, they are all, and a history is linearizable exactly if
--- a beginning of one of them explains it. A doubt is so.
-pub record AreSerialHistories (file : File) (program : Program) (histories : List (List Event)) (doubt : Option Doubt)
-    : Type 0 where
-  pub serial : AreSerialRuns histories
-  pub truth : AreTrue file program histories
-  pub all : IfNone doubt (TellSerial file program histories)
-  pub decide : IfNone doubt ((h : List Event) → IsLinearizable file program h ↔ IsExplainedBy histories h)
-  pub why : IfSome doubt (IsDoubt file program usual)
+-- the table has at most so many states
+abbrev pub most_serial_states : ℕ
+most_serial_states = 10000
 
--- whose these are: the reference's, if one is given, and else the program's own
+-- The table of a program of a file, whose calls run one at a time. There is none if they lead to too many states: then
+-- there are more serial histories than so many, too.
+abbrev pub IsSerialTable : File → Program → Option SerialTable → Type 0
+IsSerialTable file program None = HasManyOrders file program most_serial_states
+IsSerialTable file program (Some t) = IsTableOf file program usual t
+
+-- what the pairs of the table's states and of calls say of a history
+abbrev pub IsDecidedBy : File → Program → Option SerialTable → List Event → Type 0
+IsDecidedBy file program None h = Unit {0}
+IsDecidedBy file program (Some t) h = IsDecided file program t h
+
+abbrev pub rows_of : Option SerialTable → List (Vec Outcome Global)
+rows_of None = []
+rows_of (Some t) = t.rows.items
+
+-- whose the table is: the reference's, if one is given, and else the program's own
 abbrev pub serial_file : Option Reference → Names → File
 serial_file None names = names.file
 serial_file (Some r) names = r.file
@@ -135,21 +149,23 @@ pub record IsChoice (names : Names) (first : List ℕ) (most : ℕ) (g : Graph) 
   pub reaches : IsReach (length names.program.threads) g reach
   pub left_out : TellsLeftOut (length names.program.threads) g reach
 
--- the tables have the lines of the rows and of the histories, each text once
-pub record AreTables (names : Names) (g : Graph) (histories : List (List Event)) (t : Tables) : Type 0 where
+-- The tables have the lines of the rows, and of the table of states what calls do in each; each text once.
+pub record AreTables (names : Names) (g : Graph) (t : Tables) : Type 0 where
   pub lines : AreAllNumbers t.texts t.lines (map row_words g.rows)
-  pub serial : AreAllNumbers t.texts t.serial (map (event_lines names.program) histories)
+  pub ends : AreAllNumbers t.texts t.ends (lines_of_ends names.program (rows_of t.serial))
+  pub next : t.next ≡ after_rows (rows_of t.serial)
   pub once : AllPairs (λ (p q : Text). p ≢ q) t.texts
 
--- these are the data of such a graph, with serial histories of the reference, if one is given, and else of the program
+-- These are the data of such a graph, with the table of the reference, if one is given, and else of the program. The
+-- history of each schedule is linearizable exactly if a pair is left after it, unless a call goes on.
 pub record IsData (names : Names) (texts : Texts) (reference : Option Reference) (first : List ℕ) (most : ℕ)
     (text : Text) : Type 0 where
   pub graph : Graph
   pub reach : Reach
-  pub histories : List (List Event)
   pub tables : Tables
   pub choice : IsChoice names first most graph reach
-  pub verdicts : AreSerialHistories (serial_file reference names) (serial_program reference names) histories
-      tables.doubt
-  pub told : AreTables names graph histories tables
+  pub serial : IsSerialTable (serial_file reference names) (serial_program reference names) tables.serial
+  pub decided : (schedule : List ℕ) → IsDecidedBy (serial_file reference names) (serial_program reference names)
+      tables.serial (source_history names.file names.program schedule)
+  pub told : AreTables names graph tables
   pub text_is : text ≡ data_text names texts reference first graph reach tables

@@ -2,6 +2,7 @@
 use Rattle.std.specs.Prelude.{◌≡◌, ℕ, List, [], ◌∷◌, Some, map, slice_get, string_bytes}
 use Rattle.std.specs.declared.vec.Vec.{Vec}
 use Rattle.std.specs.declared.alloc.Global.{Global}
+use Rattle.ls_automaton.specs.declared.outcome.Outcome.{Outcome}
 use Rattle.ls_events.specs.declared.event.Event.{Event}
 use Rattle.ls_checked.specs.CheckedProgram.{Program}
 use Rattle.ls_report.specs.Events.{Text}
@@ -32,5 +33,14 @@ row_words rows = map (λ row. row.words) rows
 abbrev pub event_line : Program → Event → Text
 event_line program event = run_text program (event ∷ [])
 
-abbrev pub event_lines : Program → List Event → List Text
-event_lines program events = map (event_line program) events
+-- what it prints of the ends of calls
+abbrev pub end_lines : Program → List Outcome → List Text
+end_lines program row = map (λ o. event_line program o.end) row
+
+-- the same of each state between calls
+abbrev pub lines_of_ends : Program → List (Vec Outcome Global) → List (List Text)
+lines_of_ends program rows = map (λ row. end_lines program row.items) rows
+
+-- and the states after these calls
+abbrev pub after_rows : List (Vec Outcome Global) → List (List ℕ)
+after_rows rows = map (λ row. map (λ o. o.after) row.items) rows

@@ -7,6 +7,7 @@ abbrev pub tables_of : KeptTables → Tables
 tables_of t = record {
   texts = texts_in t.table;
   lines = numbers_in t.lines.items;
-  serial = numbers_in t.serial.items;
-  doubt = t.doubt;
+  ends = numbers_in t.ends.items;
+  next = numbers_in t.next.items;
+  serial = t.serial;
 }

@@ -4,8 +4,8 @@ ghost use Rattle.std.specs.Prelude.{◌≡◌, ◌<◌, ◌++◌, IfOk, OnOk, st
 ghost use Rattle.ls_labels.specs.Names.{names_of};
 ghost use Rattle.ls_page.specs.Data.{texts_of, texts_text};
 ghost use Rattle.ls_choices.specs.Seen.{graph_of};
-ghost use Rattle.ls_page.specs.ChoicesData.{IsData, data_text, doubt_text, first_text, graph_text, head_text};
-ghost use Rattle.ls_page.specs.ChoicesData.{lines_text, reach_text, reference_of, reference_text, serial_text};
+ghost use Rattle.ls_page.specs.ChoicesData.{IsData, data_text, first_text, graph_text, head_text, known_text};
+ghost use Rattle.ls_page.specs.ChoicesData.{lines_text, outcomes_text, reach_text, reference_of, reference_text};
 ghost use Rattle.ls_page.specs.ChoicesData.{tables_text};
 ghost use Rattle.ls_page.specs.Tabled.{tables_of};
 
@@ -17,7 +17,7 @@ use crate::{Reference, Texts};
 use ls_choices::graph::{Choices, all_choices};
 use ls_choices::reach::{Reach, reach_of};
 use ls_labels::names::Names;
-use ls_serial_search::telling::Doubt;
+use ls_linearity::table::SerialTable;
 use ls_state::state;
 use std::alloc::{AllocError, Global};
 use std::fmt::Write;
@@ -65,7 +65,7 @@ fn push_head(
     ensures { OnOk result (string_bytes out.new ≡ string_bytes out.old ++
         head_text (names_of names.entry) (texts_of texts.entry) (reference_of reference.entry) first.now) }
 {
-    out.push_str("{\"listset\":1,\"choose\":1")?;
+    out.push_str("{\"listset\":2,\"choose\":1")?;
     push_texts(out, texts)?;
     push_reference(out, reference)?;
     push_first(alloc, out, names, first)?;
@@ -112,28 +112,29 @@ fn push_graph(
     Ok(())
 }
 
-// Adds whether the serial histories are all.
-fn push_doubt(out: &mut String, doubt: Option<Doubt>) -> Result<(), AllocError>
-    ensures { OnOk result (string_bytes out.new ≡ string_bytes out.old ++ doubt_text doubt) }
+// Adds what calls do in each state between calls.
+fn push_outcomes(out: &mut String, tables: &Tables) -> Result<(), AllocError>
+    ensures { OnOk result (string_bytes out.new ≡ string_bytes out.old ++ outcomes_text (tables_of tables.now)) }
 {
-    match doubt {
-        None => out.push_str(",\"known\":true"),
-        Some(Doubt::LongCall) => out.push_str(",\"known\":false,\"why\":\"long call\""),
-        Some(Doubt::ManyOrders) => out.push_str(",\"known\":false,\"why\":\"many orders\""),
-    }
-}
-
-// Adds the serial histories.
-fn push_serial(out: &mut String, tables: &Tables) -> Result<(), AllocError>
-    ensures { OnOk result (string_bytes out.new ≡ string_bytes out.old ++ serial_text (tables_of tables.now)) }
-{
-    out.push_str(",\"serial\":")?;
-    push_lists(out, &tables.serial)?;
-    push_doubt(out, tables.doubt)?;
+    out.push_str(",\"outcomes\":")?;
+    push_lists(out, &tables.ends)?;
+    out.push_str(",\"next\":")?;
+    push_lists(out, &tables.next)?;
     Ok(())
 }
 
-// Adds all that is told of the graph and of serial histories.
+// Adds whether that is all that they do.
+fn push_known(out: &mut String, serial: &Option<SerialTable>) -> Result<(), AllocError>
+    ensures { OnOk result (string_bytes out.new ≡ string_bytes out.old ++ known_text serial.now) }
+{
+    match serial {
+        Some(table) if table.goes_on => out.push_str(",\"known\":false,\"why\":\"long call\""),
+        Some(_) => out.push_str(",\"known\":true"),
+        None => out.push_str(",\"known\":false,\"why\":\"many states\""),
+    }
+}
+
+// Adds all that is told of the graph and of states between calls.
 fn push_tables(
     alloc: Global,
     out: &mut String,
@@ -147,7 +148,8 @@ fn push_tables(
 {
     push_lines(out, tables)?;
     push_graph(alloc, out, names, choices, reach)?;
-    push_serial(out, tables)?;
+    push_outcomes(out, tables)?;
+    push_known(out, &tables.serial)?;
     Ok(())
 }
 
@@ -187,9 +189,9 @@ fn data_of(
 }
 
 /// The data of a page on which one chooses who steps next, after the first steps, whose numbers are those of threads:
-/// a JSON object in one line. If a reference is given, it has its text, and the serial histories are those of the
-/// reference. So many states are kept at most. All but the last weigh 4,194,304 together at most, as `all_choices`
-/// says. The only refusal is that memory ran out.
+/// a JSON object in one line. If a reference is given, it has its text, and the table of states between calls is that
+/// of the reference. So many states of the program are kept at most. All but the last weigh 4,194,304 together at most,
+/// as `all_choices` says. The only refusal is that memory ran out.
 pub fn choices_data(
     alloc: Global,
     names: Names,
@@ -205,7 +207,7 @@ pub fn choices_data(
     let choices = all_choices(alloc, names, first, most)?;
     let reach = reach_of(alloc, &choices, names.program.threads.len())?;
     let serial = serial_of(alloc, reference, names)?;
-    let tables = tables_of(alloc, names, &choices, &serial)?;
+    let tables = tables_of(alloc, names, &choices, serial)?;
     let told = Told {
         choices: &choices,
         reach,

@@ -1,52 +1,24 @@
--- Why `hopeless_at` in src/finding.rt keeps its clause `first` and its loop `at`.
+-- Why `hopeless_at` in src/finding.rt keeps its clause `first`.
 
-use Rattle.std.proofs.Common.{◌+◌, subst, take, take_all}
-use Rattle.ls_linearity.specs.Meant.{IsMeant}
-use Rattle.ls_linearizable.specs.Linearizable.{IsLinearizable}
+use Rattle.std.proofs.Common.{Option, IfNone, IfSome, inr, subst}
+use Rattle.std.proofs.lemmas.Result.{IfOk-weaker}
+use Rattle.ls_linearity.specs.Tabled.{IsTableOf, most_states}
+use Rattle.ls_linearity.specs.declared.table.SerialTable.{SerialTable}
+use Rattle.ls_serial_search.specs.Open.{HasManyOrders}
+use Rattle.ls_serial_search.specs.Told.{usual}
 use Rattle.ls_specification.specs.Specification.{spec_file, spec_program}
-use Rattle.ls_hopeless.proofs.Ends.{once_first}
-use Rattle.ls_hopeless.proofs.First.{first_is, none_linear, undecided_is}
 use Rattle.ls_hopeless.proofs.finding.hopeless_at.Goals as goal
 
-pub loop-at-init : goal.loop-at-init
-loop-at-init c = record {
-  judges = c.in_ok-judge.ensures;
-  before = λ once.
-      none_linear (spec_file c.args.specification) (spec_program c.args.specification) c.args.history.now;
-}
-
-pub loop-at-preserved : goal.loop-at-preserved
-loop-at-preserved c =
+pub returns-in-Some-clause-first : goal.returns-in-Some-clause-first
+returns-in-Some-clause-first c =
     let sfile = spec_file c.args.specification in
     let sprogram = spec_program c.args.specification in
-    let h = c.args.history.now in
-    let more = c.loop-at.at + 1 in
-    record {
-      judges = c.loop-at.invariant.judges;
-      before = λ once. subst (IsMeant sfile sprogram (take more h)) c.in-Linearizable.is
-          (c.in_ok-linearity_by.ensures sfile sprogram c.loop-at.invariant.judges (once_first h more once));
-    }
+    let is = subst (λ (o : Option SerialTable). IfSome o (IsTableOf sfile sprogram usual)) c.in-Some.is
+    c.in_ok-table.ensures.table in
+    IfOk-weaker c.place_by.result _ _ (λ some first. first sfile sprogram is) c.place_by.ensures.first
 
-pub returns-in-NotLinearizable-clause-first : goal.returns-in-NotLinearizable-clause-first
-returns-in-NotLinearizable-clause-first c = λ once bad.
-    let sfile = spec_file c.args.specification in
-    let sprogram = spec_program c.args.specification in
-    let h = c.args.history.now in
-    let more = c.loop-at.at + 1 in
-    first_is sfile sprogram h c.loop-at.at c.loop-at-test.true (c.loop-at.invariant.before once)
-    (subst (IsMeant sfile sprogram (take more h)) c.in-NotLinearizable.is
-    (c.in_ok-linearity_by.ensures sfile sprogram c.loop-at.invariant.judges (once_first h more once)))
-
-pub returns-in-LongCall-clause-first : goal.returns-in-LongCall-clause-first
-returns-in-LongCall-clause-first c = λ once bad.
-    let sfile = spec_file c.args.specification in
-    let sprogram = spec_program c.args.specification in
-    let h = c.args.history.now in
-    let more = c.loop-at.at + 1 in
-    undecided_is sfile sprogram h c.loop-at.at c.in_ok-linearity_by.field-0 c.loop-at-test.true
-    (c.in_ok-linearity_by.ensures sfile sprogram c.loop-at.invariant.judges (once_first h more once)) c.in-LongCall.is
-
-pub returns-clause-first : goal.returns-clause-first
-returns-clause-first c = λ once bad.
-    absurd (bad (subst (IsLinearizable (spec_file c.args.specification) (spec_program c.args.specification))
-    (take_all c.loop-at.at c.args.history.now c.loop-at-test.false) (c.loop-at.invariant.before once)))
+pub returns-in-None-clause-first : goal.returns-in-None-clause-first
+returns-in-None-clause-first c = λ once bad.
+    inr (subst (λ (o : Option SerialTable). IfNone o
+    (HasManyOrders (spec_file c.args.specification) (spec_program c.args.specification) most_states)) c.in-None.is
+    c.in_ok-table.ensures.many)

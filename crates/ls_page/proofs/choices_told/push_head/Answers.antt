@@ -10,7 +10,7 @@ use Rattle.ls_page.proofs.choices_told.push_head.Goals as goal
 pub returns : goal.returns
 returns c =
     four_added (string_bytes c.args.out.now) (string_bytes c.push_str.new.self) (string_bytes c.push_texts.new.out)
-    (string_bytes c.push_reference.new.out) (string_bytes c.push_first.new.out) (codes "{\"listset\":1,\"choose\":1")
+    (string_bytes c.push_reference.new.out) (string_bytes c.push_first.new.out) (codes "{\"listset\":2,\"choose\":1")
     (texts_text (texts_of c.args.texts)) (reference_text (reference_of c.args.reference))
     (first_text (names_of c.args.names) c.args.first.now)
     c.in_ok-push_str.ensures.bytes c.in_ok-push_texts.ensures c.in_ok-push_reference.ensures c.in_ok-push_first.ensures
