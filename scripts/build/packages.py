@@ -8,8 +8,6 @@ import shutil
 import subprocess
 import tarfile
 
-# All else that the installed scripts call is in each Debian system. Each system has some awk too, but it's named as the one thing chosen.
-AWK = "mawk | awk"
 CONTROL = """Package: listset
 Version: {version}
 Architecture: amd64
@@ -68,7 +66,7 @@ def depends(program):
     if others:
         raise ValueError(f"the program links {', '.join(sorted(others))}, and no package is known that has it")
     versions = re.findall(r"(?m) GLIBC_([\d.]+)$", said)
-    return f"libc6 (>= {max(versions, key=lambda it: [*map(int, it.split('.'))])}), {AWK}"
+    return f"libc6 (>= {max(versions, key=lambda it: [*map(int, it.split('.'))])})"
 
 
 def control(root, version):

@@ -8,9 +8,8 @@ import subprocess
 
 TOP = os.path.dirname(os.path.dirname(os.path.dirname(os.path.abspath(__file__))))
 SYSTEM = "/usr/bin:/bin"
-# The commands that the installed scripts call beside an awk. Each is in each Debian system.
-FEW = "cat date grep mktemp readlink rm sleep wc".split()
-AWKS = "mawk gawk original-awk".split()
+# The commands that the installed scripts call. Each is in each Debian system.
+FEW = "cat date mktemp readlink rm sleep tail wc".split()
 # Where the completions of a shell stand.
 COMPLETIONS = {
     "bash": "bash-completion/completions/listset",
@@ -19,16 +18,12 @@ COMPLETIONS = {
 }
 
 
-def awks(room):
-    """Returns for each awk that is here a folder, to be the PATH, that has this awk and the few commands."""
-    found = []
-    for awk in AWKS:
-        if shutil.which(awk):
-            found.append(f"{room}/{awk}")
-            os.mkdir(found[-1])
-            for name, path in [("awk", shutil.which(awk)), *((it, shutil.which(it, path=SYSTEM)) for it in FEW)]:
-                os.symlink(os.path.realpath(path), f"{found[-1]}/{name}")
-    return found
+def few(room):
+    """Returns a folder, to be the PATH, that has the few commands."""
+    os.mkdir(f"{room}/few")
+    for name in FEW:
+        os.symlink(os.path.realpath(shutil.which(name, path=SYSTEM)), f"{room}/few/{name}")
+    return f"{room}/few"
 
 
 def run(words, folder, path, **more):

@@ -9,6 +9,12 @@ tells='for word; do printf "[%s]" "$word"; done; cat -A | tr -d "\n"; echo'
 # program LINE..: the program is proved, and these are its lines
 program() { ./listset prove 2>/dev/null && stub crates/listset/out/listset "$@"; }
 
+# real: the program is that of the repository, proved or not: the one that was built last
+real() {
+    ./listset prove 2>/dev/null
+    cp "$(ls -t "$TOP"/crates/listset/out/{,unproved/}listset 2>/dev/null | head -n 1)" crates/listset/out/listset
+}
+
 # proves SECONDS: proving takes so long, in a process of its own, and its calls are counted
 proves() {
     local begins=('echo once >>calls' "sleep $1 &" 'echo $! >child' wait)
@@ -45,20 +51,19 @@ seen() {
         s/\r\x1b\\[K/ GONE\\n/'
 }
 
-# noted SHOWN COMMAND FILE..: what is added to what the program shows: by --explain and at a terminal, else nothing
+# noted COMMAND FILE..: what is told beside what the program prints: by --explain and at a terminal, else nothing
 noted() {
-    printf '%s\n' "$1" | tr '|' '\n' >shown && shift
-    { ./listset "$@" || echo "status $?"; } 2>&1 | cmp - shown
-    { ./listset "$1" --explain "${@:2}" || echo "status $?"; } 2>notes | cmp - shown
-    terminal ./listset "$@" | cmp - <(cat shown notes)
-    cat notes
+    ./listset "$@" >printed 2>beside || echo "status $?"
+    ./listset "$1" --explain "${@:2}" 2>notes | cmp - printed
+    terminal ./listset "$@" | cmp - <(cat printed notes)
+    cat beside notes
 }
 
 # least COMMAND: the least processor time of 40 runs, in milliseconds
 least() {
     local TIMEFORMAT='%3U %3S'
     for _ in {1..40}; do { time "$@" </dev/null >/dev/null 2>&1; } 2>&1; done |
-        awk '{ print int(1000 * ($1 + $2)) }' | sort -n | head -n 1
+        sed 's/\.//g' | while read -r own system; do echo $((10#$own + 10#$system)); done | sort -n | head -n 1
 }
 
 # quick MOST COMMAND: tells what a command takes over its program, if in 40 tries that is always over MOST milliseconds

@@ -220,15 +220,25 @@ class Walks {
     });
   }
 }
-const SERIAL = `JSON.stringify({ names: graph.names, setup: graph.setup.length, known: given.known,
-  serial: given.serial.map(run => run.map(at => given.texts[at]).join("")) })`;
+// This one runs in the page: the ends of calls along each way through its table of states that doesn't go on.
+function waysThrough(most) {
+  const found = [], go = (state, ends) => {
+    if (found.length >= most) return;
+    const next = given.outcomes[state].map((text, at) => [given.texts[text], given.next[state][at]]);
+    for (const [end, to] of next) go(to, [...ends, end.trim()]);
+    if (next.length === 0) found.push(ends.join("\n"));
+  };
+  if (given.outcomes.length) go(0, []);
+  return JSON.stringify({ names: graph.names, setup: graph.setup.length, known: given.known, ways: found });
+}
 async function walkedAtRandom(page, job, count) {
-  const walks = new Walks(job, count), { names, setup, known, serial } = JSON.parse(await page.evaluate(SERIAL));
+  const walks = new Walks(job, count), told = await page.evaluate(`(${waysThrough})(${MOST_ORDERS})`);
+  const { names, setup, known, ways } = JSON.parse(told);
   walks.runs = known ? serialHistories(walks.asked, names, setup) : null;
   if (walks.runs) {
-    const runs = walks.runs.map(run => run.map(line => line + "\n").join(""));
-    for (const run of runs) walks.same("a history in the data", serial.some(it => it.startsWith(run)), true);
-    for (const it of serial) walks.same("a serial history", runs.some(run => run.startsWith(it)), true);
+    const runs = walks.runs.map(run => run.filter((line, at) => at % 2).join("\n"));
+    for (const run of runs) walks.same("a history in the data", ways.includes(run), true);
+    for (const way of ways) walks.same("a serial history", runs.includes(way), true);
   }
   await page.key("s");
   let { seed } = job;
@@ -306,8 +316,8 @@ function endsAndHints(most) {
   }));
   return JSON.stringify({
     setup: graph.setup.length, hints,
-    ends: ends.filter((_, at) => at % each === 0).map(({ node, state, waits, order }) =>
-      ({ names: namesTo(node), state, waits, order, count: graph.ends.size })),
+    ends: ends.filter((_, at) => at % each === 0).map(({ node, state, waits }) =>
+      ({ names: namesTo(node), state, waits, count: graph.ends.size })),
   });
 }
 async function* ends(page, job, count) {

@@ -1,8 +1,17 @@
-//! Gives the real streams to the program.
+//! Reads what the words of the command line name, and gives it and the real streams to the program.
 #![tactic(auto)]
 
-use ls_outlets::Watched;
-use ls_tool::Exit;
+mod ends;
+mod kept;
+mod planning;
+mod reading;
+mod running;
+mod sheets;
+mod telling;
+
+use crate::ends::told;
+use crate::planning::{Input, plan_of};
+use crate::running::{Outputs, run, run_on};
 use std::env;
 use std::io::{self, ErrorKind};
 use std::process::ExitCode;
@@ -24,16 +33,17 @@ fn main(rt: HostRuntime) -> ExitCode {
             return ExitCode::from(2);
         }
     };
-    let mut input = rt.stdin();
-    let mut output = Watched::new(rt.stdout());
-    let mut errors = Watched::new(rt.stderr());
-    let Exit { status, is_told: _ } = ls_tool::run(
-        &rt,
-        rt.alloc(),
-        words.as_slice(),
-        &mut input,
-        &mut output,
-        &mut errors,
-    );
+    let plan = match plan_of(&rt, words) {
+        Ok(plan) => plan,
+        Err(end) => return ExitCode::from(told(&rt, end)),
+    };
+    let outputs = Outputs {
+        out: rt.stdout(),
+        err: rt.stderr(),
+    };
+    let status = match &plan.input {
+        Input::Stdin => run(&rt, rt.alloc(), &plan.task, &mut rt.stdin(), outputs),
+        Input::Read(bytes) => run_on(&rt, rt.alloc(), &plan.task, bytes.as_slice(), outputs),
+    };
     ExitCode::from(status)
 }

@@ -168,6 +168,10 @@ an_aim : (p : ValueParser) → request_of p (codes "listset" ∷ codes "aim" ∷
 unfolding clap_on_literals
 an_aim p = refl
 
+a_java_file : (p : ValueParser) → request_of p (codes "listset" ∷ codes "java" ∷ []) ≡ Some (plainly request.Java)
+unfolding clap_on_literals
+a_java_file p = refl
+
 a_page : (p : ValueParser) →
     request_of p (codes "listset" ∷ codes "page" ∷ codes "--to=9" ∷ []) ≡
     Some (plainly (request.Page (record { from = None; to = Some 9; choose = false; states = None })))

@@ -146,6 +146,7 @@ explore_line =
     (with_rule
     (with_rule
     (with_rule
+    (with_rule
     (with_rule (with_explain (codes "explore")) cells_rule)
     (number_rule false (codes "states")))
     (flag_rule (codes "illegal")))
@@ -155,6 +156,7 @@ explore_line =
     (flag_rule (codes "verdict")))
     (flag_rule (codes "races")))
     (flag_rule (codes "ends")))
+    (flag_rule (codes "again")))
     spec_rule
 
 abbrev pub bounds_line : App
@@ -226,6 +228,7 @@ line p =
     (with_subcommand
     (with_subcommand
     (with_subcommand
+    (with_subcommand
     (with_subcommand top_line (with_explain (codes "check")).top)
     order_line.top)
     (with_explain (codes "compile")).top)
@@ -241,7 +244,8 @@ line p =
     sample_line.top)
     explore_line.top)
     find_line.top)
-    merge_line.top
+    merge_line.top)
+    (with_explain (codes "java")).top
 
 -- the number that a text writes, and else the default
 abbrev pub number_or : ℕ → Option Text → ℕ
@@ -294,12 +298,19 @@ abbrev pub is_mixed : List Row → Bool
 is_mixed rows = is_some (number_asked (codes "cells") rows) || (flag_of (codes "illegal") rows ||
     (flag_of (codes "first") rows || (flag_of (codes "order") rows || flag_of (codes "progress") rows)))
 
--- the histories of all schedules, or a wrong run alone, or a run with a data race, or whether calls end
+-- an option is given that doesn't go with `--ends`, or `--ends` isn't
+abbrev pub is_mixed_with_ends : List Row → Bool
+is_mixed_with_ends rows =
+    not (flag_of (codes "ends") rows)
+    || (is_mixed rows || (flag_of (codes "verdict") rows || flag_of (codes "races") rows))
+
+-- The histories of all schedules, or a wrong run alone, or a run with a data race, or whether calls end. `--again` goes
+-- with the last alone.
 abbrev pub asked_explore : List Row → Request
 asked_explore rows =
-    if flag_of (codes "ends") rows
-    then requests.Ends (number_of (codes "states") 1000000 rows)
-    (is_mixed rows || (flag_of (codes "verdict") rows || flag_of (codes "races") rows))
+    if flag_of (codes "ends") rows || flag_of (codes "again") rows
+    then requests.Ends (number_of (codes "states") 1000000 rows) (is_mixed_with_ends rows)
+    (flag_of (codes "again") rows)
     else if flag_of (codes "races") rows
     then requests.Races (number_of (codes "states") 1000000 rows) (is_mixed rows || flag_of (codes "verdict") rows)
     else if flag_of (codes "verdict") rows
@@ -367,7 +378,8 @@ asked name rows =
     then asked_explore rows
     else (if bytes_eq name (codes "find") then requests.Find (asked_find rows)
     else (if bytes_eq name (codes "merge") then requests.Merge (number_asked (codes "count") rows)
-    else requests.Check))))))))))))))
+    else (if bytes_eq name (codes "java") then requests.Java
+    else requests.Check)))))))))))))))
 
 -- with what all commands are asked
 abbrev pub asked_by : Option (Text × List Row) → CommandLine

@@ -8,6 +8,7 @@ ghost use Rattle.ls_command_line.specs.Words.{merge_line, number_rule, order_lin
 ghost use Rattle.ls_command_line.specs.Words.{side_rule, spec_rule, state_line, switch_rule, top_line, trace_line};
 ghost use Rattle.ls_command_line.specs.Words.{translate_line, u64_parser, with_explain};
 
+use crate::plain::{aim_command, check_command, compile_command, java_command, source_command};
 use crate::searches::{explore_command, find_command};
 use clap::{Arg, ArgAction, Command};
 use std::alloc::{AllocError, Global};
@@ -287,19 +288,6 @@ fn merge_command<'a>(alloc: Global) -> Result<Command<'a>, AllocError>
     with_option(command, count)
 }
 
-fn check_command<'a>(alloc: Global) -> Result<Command<'a>, AllocError>
-    ensures shape { IfOk result (λ c. app_of c ≡ with_explain (codes "check")) }
-    ensures local { IfOk result (λ c. (out-Command c).has_globals ≡ false) }
-{
-    plain_command(
-        alloc,
-        "check",
-        "Tells whether an order of a history's set calls is legal",
-        "Standard input has two parts, a history and an order, with a line %% between them:\n  \
-         printf 'A.1 call s.add(1)\\nA.1 return true\\n%%%%\\nA.1\\n' | listset check",
-    )
-}
-
 fn order_command<'a>(alloc: Global) -> Result<Command<'a>, AllocError>
     ensures shape { IfOk result (λ c. app_of c ≡ order_line) }
     ensures local { IfOk result (λ c. (out-Command c).has_globals ≡ false) }
@@ -312,32 +300,6 @@ fn order_command<'a>(alloc: Global) -> Result<Command<'a>, AllocError>
          printf 'A.1 call s.add(1)\\nA.1 return true\\n' | listset order",
     );
     with_reference(alloc, command)
-}
-
-fn compile_command<'a>(alloc: Global) -> Result<Command<'a>, AllocError>
-    ensures shape { IfOk result (λ c. app_of c ≡ with_explain (codes "compile")) }
-    ensures local { IfOk result (λ c. (out-Command c).has_globals ≡ false) }
-{
-    plain_command(
-        alloc,
-        "compile",
-        "Compiles a program, and counts its classes, methods and threads",
-        "Standard input has two parts, class text and thread program, with a line %% between them:\n  \
-         printf 'class C { }\\n%%%%\\nsetup { c = new C(); }\\n' | listset compile",
-    )
-}
-
-fn source_command<'a>(alloc: Global) -> Result<Command<'a>, AllocError>
-    ensures shape { IfOk result (λ c. app_of c ≡ with_explain (codes "source")) }
-    ensures local { IfOk result (λ c. (out-Command c).has_globals ≡ false) }
-{
-    plain_command(
-        alloc,
-        "source",
-        "Runs a program from its Java text under a schedule of source steps",
-        "Standard input has three parts, class text, thread program and schedule, with a line %% between them:\n  \
-         listset source < examples/lost_update.txt",
-    )
 }
 
 fn trace_command<'a>(alloc: Global) -> Result<Command<'a>, AllocError>
@@ -449,19 +411,6 @@ fn state_command<'a>(alloc: Global) -> Result<Command<'a>, AllocError>
     with_option(command, to)
 }
 
-fn aim_command<'a>(alloc: Global) -> Result<Command<'a>, AllocError>
-    ensures shape { IfOk result (λ c. app_of c ≡ with_explain (codes "aim")) }
-    ensures local { IfOk result (λ c. (out-Command c).has_globals ≡ false) }
-{
-    plain_command(
-        alloc,
-        "aim",
-        "Prints the schedule of source steps that stops threads before what they are to do",
-        "Standard input has three parts, class text, thread program and targets, with a line %% between them:\n  \
-         listset aim < examples/lost_update_aimed.txt",
-    )
-}
-
 /// The program without its commands.
 fn top_command<'a>(alloc: Global) -> Command<'a>
     ensures { app_of result ≡ top_line }
@@ -493,5 +442,6 @@ pub(crate) fn program<'a>(alloc: Global) -> Result<Command<'a>, AllocError>
     let program = with_command(program, sample_command(alloc));
     let program = with_command(program, explore_command(alloc));
     let program = with_command(program, find_command(alloc));
-    with_command(program, merge_command(alloc))
+    let program = with_command(program, merge_command(alloc));
+    with_command(program, java_command(alloc))
 }

@@ -93,6 +93,12 @@ pub(crate) fn explore_command<'a>(alloc: Global) -> Result<Command<'a>, AllocErr
         "tells of each call alone whether it ends whatever other threads do; where it may not, a run that goes round",
     );
     let command = with_option(command, ends);
+    let again = flag_option(
+        alloc,
+        "again",
+        "with --ends: each thread begins its calls again when they have ended, so that it makes any number of calls",
+    );
+    let command = with_option(command, again);
     with_reference(alloc, command)
 }
 

@@ -1,12 +1,13 @@
 // What the words of a command line ask for.
 
-ghost use Rattle.std.specs.Prelude.{◌≡◌, ◌||◌, codes, map, string_bytes};
+ghost use Rattle.std.specs.Prelude.{◌≡◌, codes, map, string_bytes};
 ghost use Rattle.clap.specs.Words.{found_of, rows_of, subcommand_rows_of};
-ghost use Rattle.ls_command_line.specs.Words.{IsWordsAnswer, asked, asked_by, asked_explore, asked_find, asked_page};
-ghost use Rattle.ls_command_line.specs.Words.{asked_state, flag_of, is_given, is_mixed, named_side, number_asked};
+ghost use Rattle.ls_command_line.specs.Words.{IsWordsAnswer, asked, asked_by, asked_find, asked_page};
+ghost use Rattle.ls_command_line.specs.Words.{asked_state, flag_of, is_given, named_side, number_asked};
 ghost use Rattle.ls_command_line.specs.Words.{cells_of, number_of, side_of, switch_of};
 ghost use Rattle.ls_command_line.specs.declared.words.Request.TheVariants as requests;
 
+use crate::explores::asked_explore;
 use crate::line::program;
 use clap::error::ErrorKind;
 use clap::{ArgMatches, Error};
@@ -119,6 +120,8 @@ pub enum Request {
     },
     /// The schedule to which targets lead.
     Aim,
+    /// The class text as which a Java file is restated.
+    Java,
     Translate {
         to: Side,
         cells: u64,
@@ -172,8 +175,11 @@ pub enum Request {
     /// Whether calls end, by the states of the source: the most that are kept.
     Ends {
         states: u64,
-        /// Whether an option is given that goes with the histories, with a wrong run or with a data race.
+        /// Whether an option is given that goes with the histories, with a wrong run or with a data race, or this isn't
+        /// what is asked.
         mixed: bool,
+        /// Whether threads begin their calls again.
+        again: bool,
     },
     /// The first program of a class that isn't good for what is looked for.
     Find(Seeking),
@@ -207,9 +213,6 @@ impl Clone for CommandLine {
 
 /// The cells of a machine where none are asked for.
 const CELLS: u64 = 65_536;
-
-/// The states that are kept where no number is asked for.
-const STATES: u64 = 1_000_000;
 
 /// The states of each program of `find` that are kept where no number is asked for.
 const STATES_OF_EACH: u64 = 200_000;
@@ -273,7 +276,7 @@ fn chosen(matches: &ArgMatches<'_>) -> CommandLine
 }
 
 /// The number of an option, or the default where it isn't given.
-fn number(options: &ArgMatches<'_>, name: &str, default: u64) -> u64
+pub(crate) fn number(options: &ArgMatches<'_>, name: &str, default: u64) -> u64
     ensures { result ≡ number_of name.now default (rows_of (found_of options.now)) }
 {
     match options.get_one::<u64>(name) {
@@ -283,7 +286,7 @@ fn number(options: &ArgMatches<'_>, name: &str, default: u64) -> u64
 }
 
 /// The number of an option, if it is given.
-fn number_asked(options: &ArgMatches<'_>, name: &str) -> Option<u64>
+pub(crate) fn number_asked(options: &ArgMatches<'_>, name: &str) -> Option<u64>
     ensures { result ≡ number_asked name.now (rows_of (found_of options.now)) }
 {
     options.get_one::<u64>(name)
@@ -309,7 +312,7 @@ fn chosen_side(options: &ArgMatches<'_>) -> Side
 }
 
 /// Whether a flag is given.
-fn flag(options: &ArgMatches<'_>, name: &str) -> bool
+pub(crate) fn flag(options: &ArgMatches<'_>, name: &str) -> bool
     ensures { result ≡ flag_of name.now (rows_of (found_of options.now)) }
 {
     match options.get_str(name) {
@@ -376,53 +379,6 @@ fn asked_find(options: &ArgMatches<'_>) -> Seeking
     }
 }
 
-/// Whether one of these holds.
-fn one_of(cells: bool, illegal: bool, first: bool, order: bool, progress: bool) -> bool
-    ensures { result ≡ cells || (illegal || (first || (order || progress))) }
-{
-    cells || illegal || first || order || progress
-}
-
-/// Whether an option of `explore` is given that goes with the histories alone.
-fn is_mixed(options: &ArgMatches<'_>) -> bool
-    ensures { result ≡ is_mixed (rows_of (found_of options.now)) }
-{
-    let cells = number_asked(options, "cells").is_some();
-    let illegal = flag(options, "illegal");
-    let first = flag(options, "first");
-    let order = flag(options, "order");
-    let progress = flag(options, "progress");
-    one_of(cells, illegal, first, order, progress)
-}
-
-fn asked_explore(options: &ArgMatches<'_>) -> Request
-    ensures { result ≡ asked_explore (rows_of (found_of options.now)) }
-{
-    let states = number(options, "states", STATES);
-    let verdict = flag(options, "verdict");
-    let races = flag(options, "races");
-    if flag(options, "ends") {
-        let mixed = is_mixed(options) || (verdict || races);
-        return Request::Ends { states, mixed };
-    }
-    if races {
-        let mixed = is_mixed(options) || verdict;
-        return Request::Races { states, mixed };
-    }
-    if verdict {
-        let mixed = is_mixed(options);
-        return Request::Verdict { states, mixed };
-    }
-    Request::Explore {
-        cells: number_asked(options, "cells"),
-        states,
-        illegal: flag(options, "illegal"),
-        first: flag(options, "first"),
-        order: flag(options, "order"),
-        progress: flag(options, "progress"),
-    }
-}
-
 fn asked_batch(options: &ArgMatches<'_>) -> Request
     ensures { let rows = rows_of (found_of options.now) in
         result ≡ requests.Batch (number_of (codes "seed") 0 rows) (number_of (codes "count") 0 rows)
@@ -485,6 +441,7 @@ fn asked(name: &str, options: &ArgMatches<'_>) -> Request
         "merge" => Request::Merge {
             count: number_asked(options, "count"),
         },
+        "java" => Request::Java,
         _ => Request::Check,
     }
 }

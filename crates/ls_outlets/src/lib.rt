@@ -2,10 +2,12 @@
 //! failed.
 #![tactic(auto)]
 
+mod framed;
 mod outlet;
 mod watched;
 mod writing;
 
+pub use framed::Framed;
 pub use outlet::Outlet;
 pub use watched::Watched;
 pub use writing::{write_out, write_whole};

@@ -20,7 +20,7 @@ pub as_ever : (r : Request) (parts : List Text) (answer : Result (String Global)
     ¬ (r ≡ requests.Explore cells states illegal first order progress))
     → ((states : ℕ) (mixed : Bool) → ¬ (r ≡ requests.Verdict states mixed))
     → ((states : ℕ) (mixed : Bool) → ¬ (r ≡ requests.Races states mixed))
-    → ((states : ℕ) (mixed : Bool) → ¬ (r ≡ requests.Ends states mixed))
+    → ((states : ℕ) (mixed again : Bool) → ¬ (r ≡ requests.Ends states mixed again))
     → ((seed count steps switch cells : ℕ) (judge : Bool) → ¬ (r ≡ requests.Batch seed count steps switch cells judge))
     → GivesText (Answers r parts) answer
     → GivesText (AnswersByReference r parts) answer
@@ -34,6 +34,7 @@ as_ever (requests.Page paging) parts answer f p o e v d n b h = absurd (p paging
 as_ever (requests.State dot to) parts answer f p o e v d n b h = h
 as_ever (requests.States dot from to) parts answer f p o e v d n b h = h
 as_ever requests.Aim parts answer f p o e v d n b h = h
+as_ever requests.Java parts answer f p o e v d n b h = h
 as_ever (requests.Translate to cells) parts answer f p o e v d n b h = h
 as_ever (requests.Live cells limit) parts answer f p o e v d n b h = h
 as_ever (requests.Batch seed count steps switch cells judge) parts answer f p o e v d n b h =
@@ -43,6 +44,6 @@ as_ever (requests.Explore cells states illegal first order progress) parts answe
     absurd (e cells states illegal first order progress refl)
 as_ever (requests.Verdict states mixed) parts answer f p o e v d n b h = absurd (v states mixed refl)
 as_ever (requests.Races states mixed) parts answer f p o e v d n b h = absurd (d states mixed refl)
-as_ever (requests.Ends states mixed) parts answer f p o e v d n b h = absurd (n states mixed refl)
+as_ever (requests.Ends states mixed again) parts answer f p o e v d n b h = absurd (n states mixed again refl)
 as_ever (requests.Find seeking) parts answer f p o e v d n b h = absurd (f seeking refl)
 as_ever (requests.Merge count) parts answer f p o e v d n b h = h

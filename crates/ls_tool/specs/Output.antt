@@ -49,6 +49,7 @@ use Rattle.ls_faults.specs.declared.fault.ToolFault.{ToolFault}
 use Rattle.ls_faults.specs.declared.fault.ToolFault.TheVariants as faults
 use Rattle.ls_tool.specs.Asked.{OnClass, OnClassLike}
 use Rattle.ls_tool.specs.Notes.{is_noted, NotesOn}
+use Rattle.ls_tool.specs.Restated.{IsRestated, WantsOne}
 use Rattle.ls_tool.specs.Pages.{PagesByReference, PagesOn}
 use Rattle.ls_tool.specs.Wanted.{wanted_of}
 use Rattle.ls_find_reports.specs.Statuses.{status_of}
@@ -121,9 +122,9 @@ Races false states classes program answer = RacesTo states classes program answe
 Races true states classes program answer = answer ≡ Err faults.BadOptions
 
 -- whether calls end alone, where no option is given that goes with the histories, with a wrong run or with a data race
-abbrev pub EndsOn : Bool → ℕ → Text → Text → Result Text ToolFault → Type 0
-EndsOn false states classes program answer = EndsTo states classes program answer
-EndsOn true states classes program answer = answer ≡ Err faults.BadOptions
+abbrev pub EndsOn : Bool → Bool → ℕ → Text → Text → Result Text ToolFault → Type 0
+EndsOn false again states classes program answer = EndsTo again states classes program answer
+EndsOn true again states classes program answer = answer ≡ Err faults.BadOptions
 
 -- and one that goes through all schedules
 abbrev pub Explores : Request → List Text → Result Text ToolFault → Type 0
@@ -131,7 +132,7 @@ Explores (requests.Explore cells states illegal first order progress) parts answ
     (ExploresTo (exploring cells states illegal first order)) parts answer
 Explores (requests.Verdict states mixed) parts answer = OnTwo (Verdicts mixed states) parts answer
 Explores (requests.Races states mixed) parts answer = OnTwo (Races mixed states) parts answer
-Explores (requests.Ends states mixed) parts answer = OnTwo (EndsOn mixed states) parts answer
+Explores (requests.Ends states mixed again) parts answer = OnTwo (EndsOn mixed again states) parts answer
 Explores other parts answer = answer ≡ Err faults.WrongParts
 
 -- what a command may answer on the parts of an input: a text or a fault
@@ -157,9 +158,11 @@ Answers (requests.Explore cells states illegal first order progress) parts answe
     (requests.Explore cells states illegal first order progress) parts answer
 Answers (requests.Verdict states mixed) parts answer = Explores (requests.Verdict states mixed) parts answer
 Answers (requests.Races states mixed) parts answer = Explores (requests.Races states mixed) parts answer
-Answers (requests.Ends states mixed) parts answer = Explores (requests.Ends states mixed) parts answer
+Answers (requests.Ends states mixed again) parts answer =
+    Explores (requests.Ends states mixed again) parts answer
 Answers (requests.Find seeking) parts answer = OnFind seeking parts answer
 Answers (requests.Merge count) parts answer = answer ≡ Err faults.WrongParts
+Answers requests.Java parts answer = answer ≡ Err faults.WrongParts
 
 -- ---- by a reference, which is the last part
 
@@ -192,7 +195,7 @@ AnswersByReference (requests.Explore cells states illegal first order progress) 
     parts answer
 AnswersByReference (requests.Verdict states mixed) parts answer = OnThree (VerdictsBy mixed states) parts answer
 AnswersByReference (requests.Races states mixed) parts answer = answer ≡ Err faults.BadOptions
-AnswersByReference (requests.Ends states mixed) parts answer = answer ≡ Err faults.BadOptions
+AnswersByReference (requests.Ends states mixed again) parts answer = answer ≡ Err faults.BadOptions
 AnswersByReference (requests.Batch seed count steps switch cells judge) parts answer = OnThree
     (BatchesLike judge cells (sampling seed count (drawing steps switch))) parts answer
 AnswersByReference (requests.Find seeking) parts answer = FindsByReference seeking parts answer
@@ -207,6 +210,7 @@ AnswersBy true r parts answer = AnswersByReference r parts answer
 -- and on an input, which is cut into parts unless it is one of tallies
 abbrev pub AnswersInput : Bool → Request → Text → Result Text ToolFault → Type 0
 AnswersInput spec (requests.Merge count) input answer = MergesTo count input answer
+AnswersInput spec requests.Java input answer = WantsOne (parts_of input) answer
 AnswersInput spec r input answer = AnswersBy spec r (parts_of input) answer
 
 -- the text that a command reads: the input, or where names are given, its files as one text
@@ -264,7 +268,8 @@ pub data Ending : Type 0 where
 abbrev pub Asks : List Text → Option CommandLine → Type 0
 Asks words line = AsksFor (asking words) line
 
--- what the words and the input ask for
+-- What the words and the input ask for. Of a Java file it isn't said what is told beside its class text, nor why it
+-- isn't restated.
 pub data IsEnding (words : List Text) (input : Text) : Ending → Type 0 where
   BadLine : Asks words None → IsEnding words input Usage
   Answered : (l : CommandLine) (text beside : Text) →
@@ -276,6 +281,16 @@ pub data IsEnding (words : List Text) (input : Text) : Ending → Type 0 where
       Asks words (Some l) →
       AnswersText (file_names_in words) l input (Err f) →
       IsEnding words input (Tells (told (file_names_in words) l f input))
+  Restated : (l : CommandLine) (text beside : Text) →
+      Asks words (Some l) →
+      l.request ≡ requests.Java →
+      is_text input ≡ true →
+      IsRestated (parts_of (read_as (file_names_in words) input)) text →
+      IsEnding words input (Prints 0 text beside)
+  NotRestated : (l : CommandLine) (lines : Text) →
+      Asks words (Some l) →
+      l.request ≡ requests.Java →
+      IsEnding words input (Tells lines)
 
 -- ---- what the code answers
 

@@ -19,9 +19,10 @@ wanted_parts (requests.Sample seed steps switch cells) = two_parts
 wanted_parts (requests.Explore cells states illegal first order progress) = two_parts
 wanted_parts (requests.Verdict states mixed) = two_parts
 wanted_parts (requests.Races states mixed) = two_parts
-wanted_parts (requests.Ends states mixed) = two_parts
+wanted_parts (requests.Ends states mixed again) = two_parts
 wanted_parts (requests.Page paging) =
     codes "two to four parts, class text, thread program, schedule and an order"
+wanted_parts requests.Java = codes "one part, a Java file"
 wanted_parts requests.Aim = codes "three parts, class text, thread program and targets"
 wanted_parts other = codes "three parts, class text, thread program and schedule"
 

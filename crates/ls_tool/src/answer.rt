@@ -1,6 +1,7 @@
 // What the words and the input ask for.
 
-ghost use Rattle.std.specs.Prelude.{◌≡◌, List, Some, map, string_bytes};
+ghost use Rattle.std.specs.Prelude.{◌≡◌, ◌≢◌, List, Some, map, string_bytes};
+ghost use Rattle.ls_command_line.specs.declared.words.Request.TheVariants as requests;
 ghost use Rattle.ls_explore.specs.Watching.{GoesOn};
 ghost use Rattle.ls_faults.specs.Given.{GivesText};
 ghost use Rattle.ls_files.specs.Names.{file_names_in};
@@ -15,6 +16,7 @@ use crate::commands::{
     on_replay, on_samples, on_schedules, on_translate, on_view,
 };
 use crate::explained::refusal_of;
+use crate::java::on_java;
 use crate::noted::said_of;
 use crate::pages::{on_page, on_page_like};
 use crate::referred::{on_batch_like, on_explore_like, on_order_like, on_verdict_like};
@@ -62,7 +64,7 @@ fn decide<R: Threads + Wait + Sync, W: Watch>(
         | Request::Races { .. }
         | Request::Ends { .. } => on_schedules(alloc, request, parts, watch),
         Request::Find(seeking) => on_find(rt, alloc, seeking, parts, watch),
-        Request::Merge { .. } => Err(ToolFault::WrongParts),
+        Request::Merge { .. } | Request::Java => Err(ToolFault::WrongParts),
     }
 }
 
@@ -141,6 +143,7 @@ fn answer_text<R: Threads + Wait + Sync, W: Watch>(
     text: &str,
     watch: &mut W,
 ) -> Result<String, ToolFault>
+    requires { request ≢ requests.Java }
     ensures gives { GivesText (AnswersInput spec request text.now) result }
     ensures watched { GoesOn W.Since watch.old watch.new }
 {
@@ -160,6 +163,7 @@ fn answer_files<R: Threads + Wait + Sync, W: Watch>(
     text: &str,
     watch: &mut W,
 ) -> Result<String, ToolFault>
+    requires { line.request ≢ requests.Java }
     ensures gives { GivesText (AnswersInput line.spec line.request (read_as (names_of names.entry) text.now)) result }
     ensures watched { GoesOn W.Since watch.old watch.new }
 {
@@ -181,6 +185,7 @@ fn answer_of<R: Threads + Wait + Sync, W: Watch>(
     input: &[u8],
     watch: &mut W,
 ) -> Result<String, ToolFault>
+    requires { line.request ≢ requests.Java }
     ensures gives { GivesText (AnswersText (names_of names.entry) line input.now) result }
     ensures watched { GoesOn W.Since watch.old watch.new }
 {
@@ -188,6 +193,27 @@ fn answer_of<R: Threads + Wait + Sync, W: Watch>(
         return Err(ToolFault::NotText);
     };
     answer_files(rt, alloc, line, names, text, watch)
+}
+
+/// What a command line asks for of an input that isn't a Java file, or why there is no output.
+fn answer_other<R: Threads + Wait + Sync, W: Watch>(
+    rt: &R,
+    alloc: Global,
+    line: CommandLine,
+    names: Option<&[String]>,
+    input: &[u8],
+    watch: &mut W,
+) -> Result<Said, Refusal>
+    requires { line.request ≢ requests.Java }
+    ensures decides { (words : List Text) → Asks words (Some line) → file_names_in words ≡ names_of names.entry →
+        Decides words input.now result }
+    ensures taken { IsTaken result }
+    ensures watched { GoesOn W.Since watch.old watch.new }
+{
+    match answer_of(rt, alloc, line, names, input, watch) {
+        Ok(text) => said_of(alloc, line, names, text, input),
+        Err(fault) => Err(refusal_of(alloc, line, names, fault, input)),
+    }
 }
 
 /// What a command line asks for of an input, or why there is no output.
@@ -204,9 +230,9 @@ pub(crate) fn answer_line<R: Threads + Wait + Sync, W: Watch>(
     ensures taken { IsTaken result }
     ensures watched { GoesOn W.Since watch.old watch.new }
 {
-    match answer_of(rt, alloc, line, names, input, watch) {
-        Ok(text) => said_of(alloc, line, names, text, input),
-        Err(fault) => Err(refusal_of(alloc, line, names, fault, input)),
+    match line.request {
+        Request::Java => on_java(alloc, line, names, input),
+        _ => answer_other(rt, alloc, line, names, input, watch),
     }
 }
 

@@ -316,15 +316,21 @@ fn on_races(alloc: Global, states: usize, mixed: bool, parts: &[&str]) -> Result
 
 /// A class text and a program of it, if no option is given that goes with the histories, with a wrong run or with a
 /// data race.
-fn on_ends(alloc: Global, states: usize, mixed: bool, parts: &[&str]) -> Result<String, ToolFault>
-    ensures { GivesText (OnTwo (EndsOn mixed states) (map plain_text parts.now)) result }
+fn on_ends(
+    alloc: Global,
+    states: usize,
+    mixed: bool,
+    again: bool,
+    parts: &[&str],
+) -> Result<String, ToolFault>
+    ensures { GivesText (OnTwo (EndsOn mixed again states) (map plain_text parts.now)) result }
 {
     match parts {
         [classes, program] => {
             if mixed {
                 return Err(ToolFault::BadOptions);
             }
-            endings(alloc, states, classes, program)
+            endings(alloc, states, again, classes, program)
         }
         _ => Err(ToolFault::WrongParts),
     }
@@ -354,7 +360,11 @@ pub(crate) fn on_schedules<W: Watch>(
         }
         Request::Verdict { states, mixed } => on_verdict(alloc, states as usize, mixed, parts),
         Request::Races { states, mixed } => on_races(alloc, states as usize, mixed, parts),
-        Request::Ends { states, mixed } => on_ends(alloc, states as usize, mixed, parts),
+        Request::Ends {
+            states,
+            mixed,
+            again,
+        } => on_ends(alloc, states as usize, mixed, again, parts),
         _ => Err(ToolFault::WrongParts),
     }
 }

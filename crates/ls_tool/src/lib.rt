@@ -5,6 +5,7 @@ pub mod answer;
 mod asked;
 mod commands;
 mod explained;
+mod java;
 mod noted;
 mod pages;
 mod programs;

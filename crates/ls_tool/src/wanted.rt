@@ -24,6 +24,7 @@ fn wanted_parts(request: Request) -> &'static str
         Request::Page(_) => {
             "two to four parts, class text, thread program, schedule and an order"
         }
+        Request::Java => "one part, a Java file",
         Request::Aim => "three parts, class text, thread program and targets",
         Request::Replay { .. }
         | Request::Source

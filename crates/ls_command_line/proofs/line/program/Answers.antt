@@ -21,5 +21,6 @@ returns c =
     let thirteen = c.with_command-program-13.ensures _ _ twelve c.sample_command.ensures.shape in
     let fourteen = c.with_command-program-14.ensures _ _ thirteen c.explore_command.ensures.shape in
     let fifteen = c.with_command-program-15.ensures _ _ fourteen c.find_command.ensures.shape in
+    let sixteen = c.with_command-program-16.ensures _ _ fifteen c.merge_command.ensures.shape in
     IfOk-weaker c.with_command.result _ _ (λ r h. (to.0, to.1, h))
-    (c.with_command.ensures _ _ fifteen c.merge_command.ensures.shape)
+    (c.with_command.ensures _ _ sixteen c.java_command.ensures.shape)

@@ -12,4 +12,5 @@ returns-clause-shape c =
     let verdict = c.with_option-command-5.ensures.shape _ _ progress c.flag_option-verdict.ensures.rule in
     let races = c.with_option-command-6.ensures.shape _ _ verdict c.flag_option-races.ensures.rule in
     let ends = c.with_option-command-7.ensures.shape _ _ races c.flag_option-ends.ensures.rule in
-    c.with_reference.ensures.shape _ ends
+    let again = c.with_option-command-8.ensures.shape _ _ ends c.flag_option-again.ensures.rule in
+    c.with_reference.ensures.shape _ again

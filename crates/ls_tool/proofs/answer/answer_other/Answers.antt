@@ -1,10 +1,10 @@
--- Why `answer_line` in src/answer.rt keeps its clauses `decides` and `taken`.
+-- Why `answer_other` in src/answer.rt keeps its clauses `decides` and `taken`.
 
 use Rattle.std.proofs.Common.{subst, sym, Err}
 use Rattle.ls_faults.specs.Given.{GivesText}
 use Rattle.ls_tool.specs.Output.{AnswersText, RefusesAs, names_of}
 use Rattle.ls_tool.proofs.Ending.{decide_err, takes}
-use Rattle.ls_tool.proofs.answer.answer_line.Goals as goal
+use Rattle.ls_tool.proofs.answer.answer_other.Goals as goal
 
 pub returns-in-Ok-clause-decides : goal.returns-in-Ok-clause-decides
 returns-in-Ok-clause-decides g c = λ words asks same. c.said_of.ensures.decides words asks same c.in-Ok.ensures.gives
