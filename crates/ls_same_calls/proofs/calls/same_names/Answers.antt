@@ -1,8 +1,8 @@
 -- Why `same_names` in src/calls.rt keeps its contract and its loop `i`.
 
 use Rattle.ls_checked.specs.PlainProgram.{plain_name}
-use Rattle.ls_exchanged.proofs.Same.{apart_at, one_more}
-use Rattle.ls_exchanged.proofs.calls.same_names.Goals as goal
+use Rattle.ls_same_calls.proofs.Same.{apart_at, one_more}
+use Rattle.ls_same_calls.proofs.calls.same_names.Goals as goal
 
 pub returns-then-not-same_name : goal.returns-then-not-same_name
 returns-then-not-same_name c =

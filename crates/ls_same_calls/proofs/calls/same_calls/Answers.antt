@@ -1,8 +1,8 @@
 -- Why `same_calls` in src/calls.rt keeps its contract and its loop `i`.
 
 use Rattle.ls_checked.specs.PlainProgram.{plain_call}
-use Rattle.ls_exchanged.proofs.Same.{apart_at, one_more}
-use Rattle.ls_exchanged.proofs.calls.same_calls.Goals as goal
+use Rattle.ls_same_calls.proofs.Same.{apart_at, one_more}
+use Rattle.ls_same_calls.proofs.calls.same_calls.Goals as goal
 
 pub returns-then-not-same_call : goal.returns-then-not-same_call
 returns-then-not-same_call c =

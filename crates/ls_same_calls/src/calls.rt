@@ -22,7 +22,7 @@ fn same_results(first: Option<ValueType>, second: Option<ValueType>) -> bool
 }
 
 /// Whether two calls are the same.
-fn same_call(first: &ProgramCall, second: &ProgramCall) -> bool
+pub fn same_call(first: &ProgramCall, second: &ProgramCall) -> bool
     ensures { Decides result (plain_call first.now ≡ plain_call second.now) }
 {
     match (first, second) {
@@ -72,7 +72,7 @@ fn same_call(first: &ProgramCall, second: &ProgramCall) -> bool
 }
 
 /// Whether calls are the same, one after another.
-pub(crate) fn same_calls(first: &[ProgramCall], second: &[ProgramCall]) -> bool
+pub fn same_calls(first: &[ProgramCall], second: &[ProgramCall]) -> bool
     ensures { Decides result (map plain_call first.now ≡ map plain_call second.now) }
 {
     if first.len() != second.len() {
@@ -94,7 +94,7 @@ fn same_name(first: &SetupName, second: &SetupName) -> bool
 }
 
 /// Whether setup names are the same, one after another.
-pub(crate) fn same_names(first: &[SetupName], second: &[SetupName]) -> bool
+pub fn same_names(first: &[SetupName], second: &[SetupName]) -> bool
     ensures { Decides result (map plain_name first.now ≡ map plain_name second.now) }
 {
     if first.len() != second.len() {
