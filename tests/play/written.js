@@ -79,7 +79,7 @@ module.exports = {
     const page = await trial.open(), [classes, program, schedule] = parts(trial);
     await trial.put(page, classes, program, schedule);
     await trial.done(page, "byId('through').click()");
-    trial.same("the page", await page.evaluate("page"), trial.whole(trial.run(["page"], [classes, program, schedule])));
+    trial.same("the page", await page.evaluate("page"), trial.sheet([], [classes, program, schedule]));
   },
   async "a program that is brought back"(trial) {
     const page = await trial.open(), own = "setup { t = new Tickets(); } // mine\nthread A { t.sell(); }\n";
