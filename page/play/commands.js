@@ -26,7 +26,10 @@ async function start(words, does) {
   clearTexts();
   say("", "");
   showBusy(words);
-  try { await does(); } catch (failure) {
+  try {
+    await readClass();
+    await does();
+  } catch (failure) {
     if (task !== mine) return;
     if (failure instanceof Stopped) say("", "stopped");
     else if (failure instanceof Refused) showFaults(failure.message);
@@ -35,7 +38,10 @@ async function start(words, does) {
       outcome("bad", `The browser ended the run: ${failure.message}. Smaller bounds may do.`, null);
     }
   } finally {
-    if (task === mine) leave();
+    if (task === mine) {
+      leave();
+      tellReading();
+    }
   }
 }
 // Ends what is being done, if anything is.
@@ -47,7 +53,8 @@ function leave() {
 }
 // A run goes on only if it wasn't left meanwhile.
 async function asked(words, given) {
-  const mine = task, out = await answer(words, given);
+  const java = given[0]?.name === classFile().name ? reading.words : [];
+  const mine = task, out = await answer([...words, ...java], given);
   if (task !== mine) throw new Stopped();
   return out;
 }
@@ -57,7 +64,7 @@ async function drawn(words, count) {
 }
 
 const find = () => start("explored", async () => {
-  const mine = task, search = new Search(findWords(), findTexts(), (some, all) => {
+  const mine = task, search = new Search([...findWords(), ...reading.words], findTexts(), (some, all) => {
     done = `${some} of ${all} programs, `;
   });
   const out = await search.result();
