@@ -100,7 +100,7 @@ const ordered = order => order.length > 0 ? order.join(" ") : "that without any 
 // Why it may not be known whether a history is linearizable.
 const UNKNOWN = {
   "long call": "a call that runs alone takes more than 10,000 steps",
-  "many states": "calls that run one at a time lead to more than 10,000 states",
+  "many states": "calls that run one at a time lead to more than 32,000 states",
 };
 // What is said of the answers at an end, or of those so far.
 function saidOfAnswers(verdict, order) {

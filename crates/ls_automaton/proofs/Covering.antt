@@ -115,7 +115,7 @@ may_still : (p r : Held) (o : Outcome) →
     may_take p o ≡ true → may_take r o ≡ true
 may_still p r o same may = ap (λ x. is_open x && not (is_called o.end.happening)) same ∙ may
 
-kept_only : (e : Event) (p q : Held) → Contains (kept e p) q →
+pub kept_only : (e : Event) (p q : Held) → Contains (kept e p) q →
     (is_noted e (entry_at p.pending e.thread e.call) ≡ true)
     × (record { state = p.state; pending = ended e p.pending } ≡ q)
 kept_only e p q there = by_test (is_noted e (entry_at p.pending e.thread e.call)) refl there
@@ -139,22 +139,22 @@ module _ (rows : List (Vec Outcome Global)) where
   row_at p = row_of (slice_get rows p.state)
 
   -- where the call has taken effect
-  ends_taken : (k : ℕ) (e : Event) (p : Held) → has_taken (entry_at p.pending e.thread e.call) ≡ true →
+  pub ends_taken : (k : ℕ) (e : Event) (p : Held) → has_taken (entry_at p.pending e.thread e.call) ≡ true →
       ends rows k e p ≡ kept e p
   ends_taken zero e p has = refl
   ends_taken (suc k) e p has = ap (λ b. if b then kept e p else flat_map (further (ends rows k e) p) (row_at p)) has
 
   -- and where it hasn't
-  ends_open : (k : ℕ) (e : Event) (p : Held) → has_taken (entry_at p.pending e.thread e.call) ≡ false →
+  pub ends_open : (k : ℕ) (e : Event) (p : Held) → has_taken (entry_at p.pending e.thread e.call) ≡ false →
       ends rows (suc k) e p ≡ flat_map (further (ends rows k e) p) (row_at p)
   ends_open k e p hasnt = ap (λ b. if b then kept e p else flat_map (further (ends rows k e) p) (row_at p)) hasnt
 
   -- the effect of an outcome leads on
-  further_there : (more : Held → List Held) (p r : Held) (o : Outcome) → may_take p o ≡ true →
+  pub further_there : (more : Held → List Held) (p r : Held) (o : Outcome) → may_take p o ≡ true →
       Contains (more (taking p o)) r → Contains (further more p o) r
   further_there more p r o may there = subst (λ b. Contains (if b then more (taking p o) else []) r) (sym may) there
 
-  further_only : (more : Held → List Held) (p r : Held) (o : Outcome) → Contains (further more p o) r →
+  pub further_only : (more : Held → List Held) (p r : Held) (o : Outcome) → Contains (further more p o) r →
       (may_take p o ≡ true) × Contains (more (taking p o)) r
   further_only more p r o there = by_test (may_take p o) refl there
     where
@@ -169,7 +169,7 @@ module _ (rows : List (Vec Outcome Global)) where
       let by = may_by p o may in opens_less o.end p.pending by.0.call by.1 by.0.is by.0.is_call
 
   -- no more calls take effect than are open
-  enough : (k : ℕ) (e : Event) (r q : Held) → opens q.pending ≤ k → Contains (ends rows (suc k) e q) r →
+  pub enough : (k : ℕ) (e : Event) (r q : Held) → opens q.pending ≤ k → Contains (ends rows (suc k) e q) r →
       Contains (ends rows k e q) r
   enough zero e r q few there = by_taken (true_or_false (has_taken (entry_at q.pending e.thread e.call)))
     where

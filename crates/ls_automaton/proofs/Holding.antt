@@ -7,7 +7,7 @@ use Rattle.ls_events.specs.declared.event.Event.{Event}
 use Rattle.ls_serial.specs.Serial.{AreCalled, AreEnded, Explains, IsCall, IsEnd, IsEndOf, KeepsOrder}
 use Rattle.ls_serial.proofs.Lists.{get_contains, contains_get, get_within}
 use Rattle.ls_serial.proofs.Steps.{not_both}
-use Rattle.ls_linearizable.specs.Resting.{AreOnce}
+use Rattle.ls_linearizable.specs.Once.{AreOnce}
 use Rattle.ls_linearizable.proofs.There.{there_cases, there_first, there_later, there_not}
 use Rattle.ls_automaton.specs.Automaton.{Status, Idle, Open, Took, Pair, Statuses, status_of, with_status, Serially}
 use Rattle.ls_automaton.specs.Automaton.{Takes, Done, Take, Holds, Starts, Calls, Ends}

@@ -8,7 +8,7 @@ use Rattle.std.specs.declared.vec.Vec.{Vec}
 use Rattle.std.specs.declared.alloc.Global.{Global}
 use Rattle.ls_events.specs.declared.event.Event.{Event}
 use Rattle.ls_serial.specs.Serial.{IsCall, IsEnd, IsEndOf, is_called}
-use Rattle.ls_linearizable.specs.Resting.{AreOnce}
+use Rattle.ls_linearizable.specs.Once.{AreOnce}
 use Rattle.ls_linearizable.proofs.Same.{event_test}
 use Rattle.ls_linearizable.proofs.There.{any_there, there_any, there_cases, there_first, there_later, there_not}
 use Rattle.ls_automaton.specs.declared.outcome.Outcome.{Outcome}

@@ -19,6 +19,7 @@ pub mod Reaching
 pub mod Filled
 pub mod Ending
 pub mod Covering
+pub mod Layers
 pub mod Dropped
 pub mod Joined
 pub mod Treed

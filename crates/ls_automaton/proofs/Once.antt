@@ -11,7 +11,7 @@ use Rattle.ls_meaning.specs.Still.{IsActing}
 use Rattle.ls_meaning.specs.Course.{Answers}
 use Rattle.ls_meaning.specs.Threads.{calls_in, next}
 use Rattle.ls_meaning.specs.Runs.{State, answers_of, event_of, source_history, start, step}
-use Rattle.ls_linearizable.specs.Resting.{AreOnce}
+use Rattle.ls_linearizable.specs.Once.{AreOnce}
 use Rattle.ls_serial_search.specs.Following.{events_in, events_of}
 use Rattle.ls_serial_search.proofs.Answering.{cases_nat, others_answers}
 use Rattle.ls_serial_search.proofs.Stepping.{acts_within, holds_of_all}

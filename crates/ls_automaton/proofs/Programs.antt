@@ -25,7 +25,7 @@ use Rattle.ls_automaton.proofs.Runs.{serially_serial}
 use Rattle.ls_automaton.proofs.Exact.{held_exactly}
 use Rattle.ls_automaton.proofs.Once.{once}
 use Rattle.ls_linearizable.specs.Linearizable.{IsLinearizable}
-use Rattle.ls_linearizable.specs.Resting.{AreOnce}
+use Rattle.ls_linearizable.specs.Once.{AreOnce}
 use Rattle.ls_automaton.specs.Automaton.{IsExplainedFrom}
 use Rattle.ls_automaton.specs.Laws.{RunsAreOnce}
 

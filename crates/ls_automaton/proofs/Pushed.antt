@@ -3,7 +3,7 @@ use Rattle.std.proofs.Common.{◌≡◌, ◌⊎◌, inl, inr, ℕ, zero, suc, Li
 use Rattle.std.proofs.Common.{slice_get, refl, sym, ap, ◌∙◌, subst}
 use Rattle.ls_events.specs.declared.event.Event.{Event}
 use Rattle.ls_serial.proofs.Lists.{get_contains}
-use Rattle.ls_linearizable.specs.Resting.{AreOnce}
+use Rattle.ls_linearizable.specs.Once.{AreOnce}
 
 -- an element of the longer list stands in the shorter one, or is the last
 pushed_get : (h : List Event) (e x : Event) (i : ℕ) → slice_get (h ++ e ∷ []) i ≡ Some x →

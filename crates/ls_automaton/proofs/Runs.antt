@@ -9,7 +9,7 @@ use Rattle.ls_events.specs.declared.event.Happening.TheVariants.{Called, Returne
 use Rattle.ls_serial.specs.Serial.{AreCalled, AreEnded, IsCall, IsEnd, IsEndOf, IsSerial, is_called}
 use Rattle.ls_serial.proofs.Lists.{contains_get, get_within}
 use Rattle.ls_serial.proofs.Steps.{not_both}
-use Rattle.ls_linearizable.specs.Resting.{AreOnce}
+use Rattle.ls_linearizable.specs.Once.{AreOnce}
 use Rattle.ls_linearizable.proofs.There.{there_cases, there_first, there_later, there_not}
 use Rattle.ls_automaton.specs.Automaton.{IsPending, Serially, Status, Statuses, status_of, with_status}
 use Rattle.ls_automaton.proofs.Lists.{get_of_first, get_of_second}

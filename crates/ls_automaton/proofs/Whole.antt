@@ -4,7 +4,7 @@ use Rattle.std.proofs.Common.{slice_get, take, refl, sym, subst, arith}
 use Rattle.ls_events.specs.declared.event.Event.{Event}
 use Rattle.ls_serial.specs.Serial.{Explains, IsCall, IsEnd}
 use Rattle.ls_serial.proofs.Lists.{get_contains, get_there}
-use Rattle.ls_linearizable.specs.Resting.{AreOnce}
+use Rattle.ls_linearizable.specs.Once.{AreOnce}
 use Rattle.ls_linearizable.proofs.There.{there_not}
 use Rattle.ls_automaton.specs.Automaton.{
   Calls,

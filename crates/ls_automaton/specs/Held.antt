@@ -136,6 +136,10 @@ helds_of pairs = map held_of pairs
 abbrev pub AreAmong : List Held → List Held → Type 0
 AreAmong pairs others = (p : Held) → Contains pairs p → Contains others p
 
+-- the same pairs, in any order and however often
+abbrev pub AreSame : List Held → List Held → Type 0
+AreSame pairs others = AreAmong pairs others × AreAmong others pairs
+
 -- nothing has happened
 abbrev pub first_held : Held
 first_held = record { state = 0; pending = [] }

@@ -1,7 +1,7 @@
 -- What an observer of an automaton holds.
 use Rattle.std.specs.Prelude.{◌↔◌, List}
 use Rattle.ls_events.specs.declared.event.Event.{Event}
-use Rattle.ls_linearizable.specs.Resting.{AreOnce}
+use Rattle.ls_linearizable.specs.Once.{AreOnce}
 use Rattle.ls_automaton.specs.Automaton.{Holds, IsExplainedFrom, Pair, Serially}
 
 module _ {S : Type 0} (Leads : S → Event → Event → S → Type 0) (first : S) where

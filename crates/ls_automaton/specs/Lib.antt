@@ -6,4 +6,5 @@ pub mod Once
 pub mod Tables
 pub mod Spots
 pub mod Held
+pub mod Layers
 pub mod Merged

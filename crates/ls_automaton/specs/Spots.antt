@@ -34,6 +34,10 @@ pub record IsFirst (file : File) (program : Program) (s : Spot) : Type 0 where
   pub steps : s.steps.items ≡ []
   pub is : IsSpot file program s
 
+-- it alone
+abbrev pub AreFirst : File → Program → List Spot → Type 0
+AreFirst file program spots = (s : Spot) × (spots ≡ s ∷ []) × IsFirst file program s
+
 -- the run stands where the mark of this number is
 pub record IsMarkedAt (spots : List Spot) (n : ℕ) (run : Playing) : Type 0 where
   pub spot : Spot

@@ -1,14 +1,18 @@
 // Pairs of a state and of what pending calls have done, event by event.
 
-ghost use Rattle.std.specs.Prelude.{◌≡◌, ◌++◌, ◌⊎◌, Contains, Decides, IfOk, IsTrue, List, OnOk, slice_get};
+ghost use Rattle.std.specs.Prelude.{◌≡◌, ◌++◌, ◌≤◌, ◌∷◌, ◌⊎◌, [], Contains, Decides, IfOk, IsTrue, List, OnOk, length};
+ghost use Rattle.std.specs.Prelude.{slice_get};
 ghost use Rattle.std.specs.List.{flat_map};
 ghost use Rattle.std.specs.declared.alloc.Global.{Global};
 ghost use Rattle.std.specs.declared.vec.Vec.{Vec};
 ghost use Rattle.ls_linearizable.specs.Judging.{later};
+ghost use Rattle.ls_serial.specs.Serial.{IsEnd};
 ghost use Rattle.ls_automaton.specs.declared.outcome.Outcome.{Outcome};
-ghost use Rattle.ls_automaton.specs.Held.{AreAmong, Covers, Held, IsCovered, IsTaking, NoneIsCovered, begins};
-ghost use Rattle.ls_automaton.specs.Held.{begun_held, ends, first_held, held_of, helds_of, kept, leaves_none};
+ghost use Rattle.ls_automaton.specs.Held.{AreAmong, AreSame, Covers, Held, IsCovered, IsTaking, NoneIsCovered, begins};
+ghost use Rattle.ls_automaton.specs.Held.{begun_held, ends, first_held, further, held_of, helds_of, kept};
+ghost use Rattle.ls_automaton.specs.Held.{leaves_none};
 ghost use Rattle.ls_automaton.specs.Held.{may_take, moved, row_of, taking};
+ghost use Rattle.ls_automaton.specs.Layers.{IsLayered, nexts};
 
 use crate::event_hashing::hashed_event;
 use crate::outcome::Outcome;
@@ -116,47 +120,157 @@ pub fn row_at(rows: &[Vec<Outcome>], state: usize) -> &[Outcome]
     }
 }
 
-/// Adds what a pair becomes with this end: calls take effect, at most so many, up to the one that ends, and no further.
-/// The only refusal is that memory ran out.
-fn add_ends(
+/// Adds what a pair becomes where the call of an outcome takes effect, if it may, unless that is there. The only
+/// refusal is that memory ran out.
+fn add_taking(
+    alloc: Global,
+    pair: &Pair,
+    outcome: &Outcome,
+    next: &mut Vec<Pair>,
+) -> Result<(), AllocError>
+    ensures { OnOk result (AreSame (helds_of next.new.items)
+        (helds_of next.old.items ++ further (λ q. q ∷ []) (held_of pair.now) outcome.now)) }
+{
+    if !may_take(pair, outcome) {
+        return Ok(());
+    }
+    let taking = taking_pair(alloc, pair, outcome)?;
+    push_new(next, taking)?;
+    Ok(())
+}
+
+/// Adds what a pair becomes where one pending call takes effect, unless it is there. The only refusal is that memory
+/// ran out.
+fn add_next(
     alloc: Global,
     rows: &[Vec<Outcome>],
     pair: &Pair,
-    end: &Event,
-    left: usize,
-    found: &mut Vec<Pair>,
+    next: &mut Vec<Pair>,
 ) -> Result<(), AllocError>
-    ensures { OnOk result (helds_of found.new.items ≡
-        helds_of found.old.items ++ ends rows.now left end.now (held_of pair.now)) }
+    ensures { OnOk result (AreSame (helds_of next.new.items)
+        (helds_of next.old.items ++ nexts rows.now (held_of pair.now))) }
 {
-    if left == 0 || has_taken(entry(pair.pending.as_slice(), end)) {
-        return add_kept(alloc, pair, end, found);
-    }
     let row = row_at(rows, pair.state);
     for i in 0..row.len() {
-        if may_take(pair, &row[i]) {
-            let next = taking_pair(alloc, pair, &row[i])?;
-            add_ends(alloc, rows, &next, end, left - 1, found)?;
-        }
+        add_taking(alloc, pair, &row[i], next)?;
     }
     Ok(())
 }
 
-/// Adds what a pair becomes with this event. The only refusal is that memory ran out.
-fn add_moved(
+/// Adds what a pair becomes with this end to those that are found, if the call has taken effect. Else what it becomes
+/// where one pending call takes effect is added to the next ones. The only refusal is that memory ran out.
+fn add_by_effect(
     alloc: Global,
     rows: &[Vec<Outcome>],
     pair: &Pair,
-    event: &Event,
+    end: &Event,
+    next: &mut Vec<Pair>,
+    found: &mut Vec<Pair>,
+) -> Result<(), AllocError>
+    ensures { OnOk result (IsLayered rows.now end.now (held_of pair.now ∷ []) (helds_of next.old.items)
+        (helds_of found.old.items) (helds_of next.new.items) (helds_of found.new.items)) }
+{
+    if has_taken(entry(pair.pending.as_slice(), end)) {
+        add_kept(alloc, pair, end, found)?;
+        return Ok(());
+    }
+    add_next(alloc, rows, pair, next)?;
+    Ok(())
+}
+
+/// What pairs become where one more pending call of each takes effect, each once. To those that are found is added what
+/// becomes of pairs with this end in which the call has taken effect. The only refusal is that memory ran out.
+fn next_layer(
+    alloc: Global,
+    rows: &[Vec<Outcome>],
+    layer: &[Pair],
+    end: &Event,
+    found: &mut Vec<Pair>,
+) -> Result<Vec<Pair>, AllocError>
+    ensures { IfOk result (λ next. IsLayered rows.now end.now (helds_of layer.now) []
+        (helds_of found.old.items) (helds_of next.items) (helds_of found.new.items)) }
+{
+    let mut next = Vec::new(alloc);
+    for i in 0..layer.len() {
+        add_by_effect(alloc, rows, &layer[i], end, &mut next, found)?;
+    }
+    Ok(next)
+}
+
+/// Adds what pairs become with this end where the call has taken effect. The only refusal is that memory ran out.
+fn add_all_kept(
+    alloc: Global,
+    layer: &[Pair],
+    end: &Event,
     found: &mut Vec<Pair>,
 ) -> Result<(), AllocError>
     ensures { OnOk result (helds_of found.new.items ≡
-        helds_of found.old.items ++ moved rows.now event.now (held_of pair.now)) }
+        helds_of found.old.items ++ flat_map (kept end.now) (helds_of layer.now)) }
 {
-    if is_call(event) {
-        return add_begun(alloc, pair, event, found);
+    for i in 0..layer.len() {
+        add_kept(alloc, &layer[i], end, found)?;
     }
-    add_ends(alloc, rows, pair, event, pair.pending.len(), found)
+    Ok(())
+}
+
+/// The greatest of two numbers.
+fn greatest(one: usize, other: usize) -> usize
+    ensures { (one ≤ result) × (other ≤ result) }
+{
+    if one < other { other } else { one }
+}
+
+/// How many calls are pending.
+fn pending_count(pair: &Pair) -> usize
+    ensures { result ≡ length (held_of pair.now).pending }
+{
+    pair.pending.len()
+}
+
+/// The most calls that are pending in one of these pairs.
+fn most_pending(pairs: &[Pair]) -> usize
+    ensures { (p : Held) → Contains (helds_of pairs.now) p → length p.pending ≤ result }
+{
+    let mut most = 0;
+    for i in 0..pairs.len() {
+        most = greatest(most, pending_count(&pairs[i]));
+    }
+    most
+}
+
+/// What pairs become with this end: calls take effect, any of those that are pending, up to the one that ends, and no
+/// further. What several orders of effects lead to is gone on from once. The only refusal is that memory ran out.
+fn all_ended(
+    alloc: Global,
+    rows: &[Vec<Outcome>],
+    pairs: &[Pair],
+    end: &Event,
+) -> Result<Vec<Pair>, AllocError>
+    requires { IsEnd end.now }
+    ensures { IfOk result (λ v. AreSame (helds_of v.items)
+        (flat_map (λ p. ends rows.now (length p.pending) end.now p) (helds_of pairs.now))) }
+{
+    let mut found = Vec::new(alloc);
+    let mut layer = next_layer(alloc, rows, pairs, end, &mut found)?;
+    let most = most_pending(pairs);
+    let mut left = most;
+    while left > 0 {
+        layer = next_layer(alloc, rows, layer.as_slice(), end, &mut found)?;
+        left -= 1;
+    }
+    add_all_kept(alloc, layer.as_slice(), end, &mut found)?;
+    Ok(found)
+}
+
+/// What pairs become where a call begins. The only refusal is that memory ran out.
+fn all_begun(alloc: Global, pairs: &[Pair], call: &Event) -> Result<Vec<Pair>, AllocError>
+    ensures { IfOk result (λ v. helds_of v.items ≡ flat_map (begins call.now) (helds_of pairs.now)) }
+{
+    let mut found = Vec::new(alloc);
+    for i in 0..pairs.len() {
+        add_begun(alloc, &pairs[i], call, &mut found)?;
+    }
+    Ok(found)
 }
 
 /// What pairs become with this event. The only refusal is that memory ran out.
@@ -166,13 +280,15 @@ fn all_moved(
     pairs: &[Pair],
     event: &Event,
 ) -> Result<Vec<Pair>, AllocError>
-    ensures { IfOk result (λ v. helds_of v.items ≡ flat_map (moved rows.now event.now) (helds_of pairs.now)) }
+    ensures { IfOk result (λ v. AreSame (helds_of v.items)
+        (flat_map (moved rows.now event.now) (helds_of pairs.now))) }
 {
-    let mut found = Vec::new(alloc);
-    for i in 0..pairs.len() {
-        add_moved(alloc, rows, &pairs[i], event, &mut found)?;
+    if is_call(event) {
+        let begun = all_begun(alloc, pairs, event)?;
+        return Ok(begun);
     }
-    Ok(found)
+    let ended = all_ended(alloc, rows, pairs, event)?;
+    Ok(ended)
 }
 
 /// Whether a pair is the other. True only where it is.
@@ -192,6 +308,17 @@ fn has_pair(pairs: &[Pair], pair: &Pair) -> bool
         }
     }
     false
+}
+
+/// Adds a pair, unless it is there. The only refusal is that memory ran out.
+fn push_new(pairs: &mut Vec<Pair>, pair: Pair) -> Result<(), AllocError>
+    ensures { OnOk result (AreSame (helds_of pairs.new.items) (helds_of pairs.old.items ++ held_of pair ∷ [])) }
+{
+    if has_pair(pairs.as_slice(), &pair) {
+        return Ok(());
+    }
+    pairs.push(pair)?;
+    Ok(())
 }
 
 /// Whether each pair is one of the others. True only where it is.

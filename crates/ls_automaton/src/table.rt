@@ -15,7 +15,7 @@ ghost use Rattle.ls_automaton.specs.Spots.{AreSpots, IsAsked, IsFound, schedules
 ghost use Rattle.ls_automaton.specs.Tables.{AreOutcomes};
 
 use crate::outcome::Outcome;
-use crate::spots::{Spot, first_spot, reached};
+use crate::spots::{Spot, Spots, first_spots, reached};
 use ls_checked::program::Program;
 use ls_checked::tree::File;
 use ls_serial_search::following::{Followed, Further, Task, follow_from};
@@ -68,28 +68,28 @@ struct Stand<'s, 'a> {
 fn ask_thread<'a>(
     alloc: Global,
     task: &Task<'a>,
-    spots: &mut Vec<Spot<'a>>,
+    spots: &mut Spots<'a>,
     stand: &Stand<'_, 'a>,
     thread: u8,
     row: &mut Vec<Outcome>,
 ) -> Result<bool, AllocError>
     requires run { StandsFor stand.now.run (progress_at (plain_file task.now.file.now)
         (plain_program task.now.program.now) stand.now.steps.now) }
-    requires spots { AreSpots (plain_file task.now.file.now) (plain_program task.now.program.now) spots.old.items }
+    requires spots { AreSpots (plain_file task.now.file.now) (plain_program task.now.program.now) spots.old.list.items }
     requires serial { IsSerial (source_history (plain_file task.now.file.now) (plain_program task.now.program.now)
         stand.now.steps.now) }
     requires acts { ActAll (plain_file task.now.file.now) (plain_program task.now.program.now) stand.now.steps.now }
     ensures asked { IfOk result (λ goes_on. IsAsked (plain_file task.now.file.now) (plain_program task.now.program.now)
-        task.now.most_steps goes_on stand.now.steps.now thread spots.old.items spots.new.items row.old.items
+        task.now.most_steps goes_on stand.now.steps.now thread spots.old.list.items spots.new.list.items row.old.items
         row.new.items) }
     ensures long { IfOk result (λ goes_on. goes_on ≡ true →
         HasLongCall (plain_file task.now.file.now) (plain_program task.now.program.now) task.now.most_steps) }
     ensures tree { IfOk result (λ goes_on. (place : ℕ) →
-        slice_get (schedules_of spots.old.items) place ≡ Some stand.now.steps.now →
-        IsTree (plain_file task.now.file.now) (plain_program task.now.program.now) (schedules_of spots.old.items) place
-        thread →
-        IsTree (plain_file task.now.file.now) (plain_program task.now.program.now) (schedules_of spots.new.items) place
-        (thread + 1)) }
+        slice_get (schedules_of spots.old.list.items) place ≡ Some stand.now.steps.now →
+        IsTree (plain_file task.now.file.now) (plain_program task.now.program.now) (schedules_of spots.old.list.items)
+        place thread →
+        IsTree (plain_file task.now.file.now) (plain_program task.now.program.now) (schedules_of spots.new.list.items)
+        place (thread + 1)) }
 {
     let steps = stand.steps;
     let Further { followed, run } = follow_from(
@@ -118,22 +118,22 @@ fn ask_thread<'a>(
 fn row_of<'a>(
     alloc: Global,
     task: &Task<'a>,
-    spots: &mut Vec<Spot<'a>>,
+    spots: &mut Spots<'a>,
     steps: &[u8],
 ) -> Result<Row, AllocError>
-    requires spots { AreSpots (plain_file task.now.file.now) (plain_program task.now.program.now) spots.old.items }
+    requires spots { AreSpots (plain_file task.now.file.now) (plain_program task.now.program.now) spots.old.list.items }
     requires serial { IsSerial (source_history (plain_file task.now.file.now) (plain_program task.now.program.now)
         steps.now) }
     requires acts { ActAll (plain_file task.now.file.now) (plain_program task.now.program.now) steps.now }
     ensures row { IfOk result (λ r. IsFound (plain_file task.now.file.now) (plain_program task.now.program.now)
-        task.now.most_steps r.goes_on spots.old.items spots.new.items steps.now r.outcomes.items) }
+        task.now.most_steps r.goes_on spots.old.list.items spots.new.list.items steps.now r.outcomes.items) }
     ensures long { IfOk result (λ r. r.goes_on ≡ true →
         HasLongCall (plain_file task.now.file.now) (plain_program task.now.program.now) task.now.most_steps) }
     ensures tree { IfOk result (λ r. (place : ℕ) →
-        slice_get (schedules_of spots.old.items) place ≡ Some steps.now →
-        IsTree (plain_file task.now.file.now) (plain_program task.now.program.now) (schedules_of spots.old.items) place
-        0 →
-        IsTree (plain_file task.now.file.now) (plain_program task.now.program.now) (schedules_of spots.new.items)
+        slice_get (schedules_of spots.old.list.items) place ≡ Some steps.now →
+        IsTree (plain_file task.now.file.now) (plain_program task.now.program.now) (schedules_of spots.old.list.items)
+        place 0 →
+        IsTree (plain_file task.now.file.now) (plain_program task.now.program.now) (schedules_of spots.new.list.items)
         (place + 1) 0) }
 {
     let run = played_along(alloc, task.file, task.program, steps)?;
@@ -178,15 +178,14 @@ pub fn table_of(
         program,
         most_steps,
     };
-    let mut spots = Vec::new(alloc);
-    spots.push(first_spot(alloc, &task)?)?;
+    let mut spots = first_spots(alloc, &task)?;
     let mut rows = Vec::new(alloc);
     let mut goes_on = false;
-    while rows.len() < spots.len() {
+    while rows.len() < spots.list.len() {
         if rows.len() >= most_states {
             return Ok(None);
         }
-        let steps = steps_to(alloc, spots.as_slice(), rows.len())?;
+        let steps = steps_to(alloc, spots.list.as_slice(), rows.len())?;
         let row = row_of(alloc, &task, &mut spots, steps.as_slice())?;
         goes_on = either(goes_on, row.goes_on);
         rows.push(row.outcomes)?;

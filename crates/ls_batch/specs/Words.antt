@@ -1,8 +1,8 @@
 -- What there is to say of a history, in words.
 use Rattle.std.specs.Prelude.{[], codes}
 use Rattle.ls_report.specs.Events.{Text}
-use Rattle.ls_serial_search.specs.declared.judging.Linearity.{Linearity}
-use Rattle.ls_serial_search.specs.declared.judging.Linearity.TheVariants as linearities
+use Rattle.ls_linearity.specs.declared.judging.Linearity.{Linearity}
+use Rattle.ls_linearity.specs.declared.judging.Linearity.TheVariants as linearities
 use Rattle.ls_verdicts.specs.declared.verdicts.Verdict.{Verdict}
 use Rattle.ls_verdicts.specs.declared.verdicts.Verdict.TheVariants as verdicts
 
@@ -11,7 +11,7 @@ abbrev pub linearity_text : Linearity → Text
 linearity_text linearities.Linearizable = codes "linearizable"
 linearity_text linearities.NotLinearizable = codes "not linearizable"
 linearity_text linearities.LongCall = codes "not judged: a call goes on"
-linearity_text linearities.ManyOrders = codes "not judged: too many orders"
+linearity_text linearities.ManyStates = codes "not judged: too many states"
 
 -- of set calls whether they have a legal order; of other calls whether they are linearizable
 abbrev pub first_text : Verdict → Linearity → Text
@@ -25,7 +25,7 @@ abbrev pub beside_set : Linearity → Text
 beside_set linearities.Linearizable = []
 beside_set linearities.NotLinearizable = codes ", not linearizable"
 beside_set linearities.LongCall = []
-beside_set linearities.ManyOrders = []
+beside_set linearities.ManyStates = []
 
 abbrev pub beside_text : Verdict → Linearity → Text
 beside_text verdicts.Legal l = beside_set l

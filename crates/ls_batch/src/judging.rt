@@ -5,16 +5,15 @@ ghost use Rattle.ls_checked.specs.CheckedProgram.{Program as ProgramValue};
 ghost use Rattle.ls_checked.specs.CheckedTree.{File as FileValue};
 ghost use Rattle.ls_checked.specs.PlainProgram.{plain_program};
 ghost use Rattle.ls_linearity.specs.Judges.{Judges};
-ghost use Rattle.ls_linearizable.specs.Resting.{AreOnce};
+ghost use Rattle.ls_linearizable.specs.Once.{AreOnce};
 ghost use Rattle.ls_verdicts.specs.Verdicts.{IsHistoryOf};
 ghost use Rattle.ls_batch.specs.Judged.{IsJudgement, IsJudgementLike};
 ghost use Rattle.ls_batch.specs.Words.{beside_set, beside_text, first_text, linearity_text};
 
 use ls_checked::program::Program;
 use ls_events::event::Event;
-use ls_linearity::{SerialJudge, linearity_by};
+use ls_linearity::{Linearity, SerialJudge, linearity_by};
 use ls_serial_orders::once_laws::readable_is_once;
-use ls_serial_search::judging::Linearity;
 use ls_verdicts::{Verdict, verdict_on};
 use std::alloc::{AllocError, Global};
 
@@ -74,7 +73,7 @@ fn linearity_word(linearity: Linearity) -> &'static str
         Linearity::Linearizable => "linearizable",
         Linearity::NotLinearizable => "not linearizable",
         Linearity::LongCall => "not judged: a call goes on",
-        Linearity::ManyOrders => "not judged: too many orders",
+        Linearity::ManyStates => "not judged: too many states",
     }
 }
 
@@ -96,7 +95,7 @@ fn beside_set(linearity: Linearity) -> &'static str
 {
     match linearity {
         Linearity::NotLinearizable => ", not linearizable",
-        Linearity::Linearizable | Linearity::LongCall | Linearity::ManyOrders => "",
+        Linearity::Linearizable | Linearity::LongCall | Linearity::ManyStates => "",
     }
 }
 

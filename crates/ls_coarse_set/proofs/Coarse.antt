@@ -24,7 +24,7 @@ use Rattle.ls_search_laws.specs.Stepping.{events_of}
 use Rattle.ls_search_laws.proofs.Covering.{IsKept, holds_of_all}
 use Rattle.ls_serial.specs.Serial.{IsSerial}
 use Rattle.ls_serial.proofs.Lists.{contains_get}
-use Rattle.ls_linearizable.specs.Resting.{AreOnce}
+use Rattle.ls_linearizable.specs.Once.{AreOnce}
 use Rattle.ls_linearizable.proofs.There.{there_first, there_later}
 use Rattle.ls_automaton.proofs.Once.{once}
 use Rattle.ls_report.specs.Events.{Event, Made, Returned, Text}

@@ -43,10 +43,9 @@ abbrev pub turning_text : Bool → Names → List Text → List ℕ → ℕ → 
 turning_text fewest names threads schedule limit states complete =
     run_report fewest names threads (codes "threads turn for ever") schedule ++ last_text limit states complete
 
--- why serial runs may not all have been found
+-- why it isn't known whether a history is linearizable
 abbrev pub doubt_text : Doubt → Text
 doubt_text doubts.LongCall = codes "not judged: a call goes on"
-doubt_text doubts.ManyOrders = codes "not judged: too many orders"
 
 -- a run whose history no serial run explains that was found, where these may not be all
 abbrev pub doubtful_text : Doubt → Bool → Names → List Text → List ℕ → ℕ → ℕ → Bool → Text

@@ -49,7 +49,6 @@ fn doubt_words(doubt: Doubt) -> &'static str
 {
     match doubt {
         Doubt::LongCall => "not judged: a call goes on",
-        Doubt::ManyOrders => "not judged: too many orders",
     }
 }
 

@@ -6,8 +6,8 @@ use Rattle.ls_checked.specs.CheckedProgram.{Program}
 use Rattle.ls_explore.specs.Rows.{Told}
 use Rattle.ls_explore.specs.Tellings.{TellTruth, TellWhole}
 use Rattle.ls_explore_reports.specs.Linearizable.{ExplainedIsLinearizable, LinearizableIsExplained}
-use Rattle.ls_serial_search.specs.declared.judging.Linearity.{Linearity}
-use Rattle.ls_serial_search.specs.declared.judging.Linearity.TheVariants as linearities
+use Rattle.ls_linearity.specs.declared.judging.Linearity.{Linearity}
+use Rattle.ls_linearity.specs.declared.judging.Linearity.TheVariants as linearities
 use Rattle.ls_linearity.specs.Meant.{IsMeant}
 use Rattle.ls_linearizable.specs.Linearizable.{IsLinearizable}
 use Rattle.ls_explore_reports.specs.Rows.{RowsExplain}
@@ -40,7 +40,7 @@ is_meant explained whole file program k complete roomy rows truth all h linearit
         let sure = both_true complete roomy each in
         λ linearizable. none (whole file program rows h (all sure.0 sure.1) linearizable)
 is_meant explained whole file program k complete roomy rows truth all h linearities.LongCall is = is.2
-is_meant explained whole file program k complete roomy rows truth all h linearities.ManyOrders is = is.2
+is_meant explained whole file program k complete roomy rows truth all h linearities.ManyStates is = is.2
 
 pub are_meant : ExplainedIsLinearizable → LinearizableIsExplained → LinearityIsMeant
 are_meant explained whole file program k complete roomy judged truth all told = λ n d lt.

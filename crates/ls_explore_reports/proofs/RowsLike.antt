@@ -9,8 +9,8 @@ use Rattle.ls_explore.specs.Rows.{Told}
 use Rattle.ls_explore_reports.specs.Laws.{EachIsLike, NoneIsUnlike, NoneIsUnlikeThatFits}
 use Rattle.ls_explore_reports.specs.Rows.{histories}
 use Rattle.ls_linearity.specs.Meant.{IsMeant}
-use Rattle.ls_serial_search.specs.declared.judging.Linearity.{Linearity}
-use Rattle.ls_serial_search.specs.declared.judging.Linearity.TheVariants as linearities
+use Rattle.ls_linearity.specs.declared.judging.Linearity.{Linearity}
+use Rattle.ls_linearity.specs.declared.judging.Linearity.TheVariants as linearities
 use Rattle.ls_explore_reports.specs.Judged.{AreMeant, Judged, are_known, count_not_linearizable}
 use Rattle.ls_explore_reports.specs.Judged.{is_known, is_not_linearizable, rows_of}
 use Rattle.ls_linearizable.specs.Linearizable.{IsLinearizable}
@@ -27,7 +27,7 @@ module _ (file : File) (program : Program) where
   so_of h linearities.Linearizable known none is = is
   so_of h linearities.NotLinearizable known none is = absurd cc
   so_of h linearities.LongCall known none is = absurd cc
-  so_of h linearities.ManyOrders known none is = absurd cc
+  so_of h linearities.ManyStates known none is = absurd cc
 
   at_place : (js : List Judged) (k : ℕ) (d : Judged) →
       k < length js →

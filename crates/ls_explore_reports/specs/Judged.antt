@@ -7,15 +7,12 @@ use Rattle.ls_events.specs.declared.event.Event.{Event}
 use Rattle.ls_explore.specs.Rows.{Told}
 use Rattle.ls_explore_reports.specs.Below.{HasNames, IsBelow}
 use Rattle.ls_report.specs.Events.{Text}
-use Rattle.ls_linearity.specs.Meant.{IsLongUnjudged, IsMeant}
+use Rattle.ls_linearity.specs.Meant.{IsMeant}
 use Rattle.ls_linearizable.specs.Linearizable.{IsLinearizable}
-use Rattle.ls_linearizable.specs.Resting.{AreOnce}
+use Rattle.ls_linearizable.specs.Once.{AreOnce}
 use Rattle.ls_explore_reports.specs.Rows.{RowsExplain}
-use Rattle.ls_serial_search.specs.Found.{IsNotJudged}
-use Rattle.ls_serial_search.specs.Told.{usual}
-use Rattle.ls_serial_search.specs.declared.telling.Doubt.TheVariants as doubts
-use Rattle.ls_serial_search.specs.declared.judging.Linearity.{Linearity}
-use Rattle.ls_serial_search.specs.declared.judging.Linearity.TheVariants as linearities
+use Rattle.ls_linearity.specs.declared.judging.Linearity.{Linearity}
+use Rattle.ls_linearity.specs.declared.judging.Linearity.TheVariants as linearities
 use Rattle.ls_verdicts.specs.Verdicts.{IsHistoryOf, IsVerdict}
 use Rattle.ls_verdicts.specs.declared.verdicts.Verdict.{Verdict}
 use Rattle.ls_verdicts.specs.declared.verdicts.Verdict.TheVariants as verdicts
@@ -46,9 +43,9 @@ IsLinearity file program whole rows h linearities.Linearizable = RowsExplain row
 IsLinearity file program whole rows h linearities.NotLinearizable =
     (¬ IsLinearizable file program h) ⊎ (¬ RowsExplain rows h × (whole ≡ true))
 IsLinearity file program whole rows h linearities.LongCall =
-    ¬ RowsExplain rows h × (whole ≡ false) × IsLongUnjudged file program h
-IsLinearity file program whole rows h linearities.ManyOrders =
-    ¬ RowsExplain rows h × (whole ≡ false) × IsNotJudged file program usual doubts.ManyOrders h
+    ¬ RowsExplain rows h × (whole ≡ false) × IsMeant file program h linearities.LongCall
+IsLinearity file program whole rows h linearities.ManyStates =
+    ¬ RowsExplain rows h × (whole ≡ false) × IsMeant file program h linearities.ManyStates
 
 -- it is said so of the row's history
 abbrev pub IsToldLinear : File → Program → Bool → List Told → Judged → Type 0
@@ -77,14 +74,14 @@ abbrev pub is_not_linearizable : Linearity → Bool
 is_not_linearizable linearities.NotLinearizable = true
 is_not_linearizable linearities.Linearizable = false
 is_not_linearizable linearities.LongCall = false
-is_not_linearizable linearities.ManyOrders = false
+is_not_linearizable linearities.ManyStates = false
 
 -- whether it says if it is linearizable
 abbrev pub is_known : Linearity → Bool
 is_known linearities.Linearizable = true
 is_known linearities.NotLinearizable = true
 is_known linearities.LongCall = false
-is_known linearities.ManyOrders = false
+is_known linearities.ManyStates = false
 
 abbrev pub are_known : List Judged → Bool
 are_known judged = list_all (λ j. is_known j.linearity) judged

@@ -13,8 +13,8 @@ use Rattle.ls_explore.specs.declared.rows.Ending.TheVariants as ending
 use Rattle.ls_verdicts.specs.declared.verdicts.Verdict.{Verdict}
 use Rattle.ls_verdicts.specs.declared.verdicts.Verdict.TheVariants as verdicts
 use Rattle.ls_explore_reports.specs.declared.printing.Exploring.{Exploring}
-use Rattle.ls_serial_search.specs.declared.judging.Linearity.{Linearity}
-use Rattle.ls_serial_search.specs.declared.judging.Linearity.TheVariants as linearities
+use Rattle.ls_linearity.specs.declared.judging.Linearity.{Linearity}
+use Rattle.ls_linearity.specs.declared.judging.Linearity.TheVariants as linearities
 use Rattle.ls_explore_reports.specs.Judged.{Judged, are_decided, are_known, count_illegal, count_not_linearizable}
 use Rattle.ls_explore_reports.specs.Judged.{is_not_linearizable}
 use Rattle.ls_explore_reports.specs.Waiting.{waiting}
@@ -35,7 +35,7 @@ abbrev pub linearity_part : Linearity → Text
 linearity_part linearities.Linearizable = codes ", linearizable"
 linearity_part linearities.NotLinearizable = codes ", not linearizable"
 linearity_part linearities.LongCall = []
-linearity_part linearities.ManyOrders = []
+linearity_part linearities.ManyStates = []
 
 -- the verdict on set calls
 abbrev pub set_part : Verdict → Text
@@ -49,7 +49,7 @@ abbrev pub beside_part : Linearity → Text
 beside_part linearities.Linearizable = []
 beside_part linearities.NotLinearizable = codes ", not linearizable"
 beside_part linearities.LongCall = []
-beside_part linearities.ManyOrders = []
+beside_part linearities.ManyStates = []
 
 -- of other calls it is said if they are linearizable
 abbrev pub linear_part : Verdict → Linearity → Text

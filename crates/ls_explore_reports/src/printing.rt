@@ -22,9 +22,9 @@ use crate::waiting::waiting_after;
 use ls_events::schedule::{MOST_STEPS, Schedule};
 use ls_explore::{Ending, ImageExploration, Row};
 use ls_labels::names::Names;
+use ls_linearity::Linearity;
 use ls_report::print_history;
 use ls_schedule::print_schedule;
-use ls_serial_search::judging::Linearity;
 use ls_translation::fault::TranslationFault;
 use ls_verdicts::Verdict;
 use std::alloc::{AllocError, Global};
@@ -113,7 +113,7 @@ fn linearity_part(linearity: Linearity) -> &'static str
     match linearity {
         Linearity::Linearizable => ", linearizable",
         Linearity::NotLinearizable => ", not linearizable",
-        Linearity::LongCall | Linearity::ManyOrders => "",
+        Linearity::LongCall | Linearity::ManyStates => "",
     }
 }
 
@@ -134,7 +134,7 @@ fn beside_part(linearity: Linearity) -> &'static str
     ensures { result.now ≡ beside_part linearity }
 {
     match linearity {
-        Linearity::Linearizable | Linearity::LongCall | Linearity::ManyOrders => "",
+        Linearity::Linearizable | Linearity::LongCall | Linearity::ManyStates => "",
         Linearity::NotLinearizable => ", not linearizable",
     }
 }

@@ -6,8 +6,7 @@ use Rattle.ls_events.specs.declared.event.Event.{Event}
 use Rattle.ls_explore.specs.Rows.{Told}
 use Rattle.ls_explore.specs.Tellings.{TellTruth, schedule_of}
 use Rattle.ls_linearizable.specs.Linearizable.{IsLinearizable}
-use Rattle.ls_serial_search.specs.Found.{IsNotJudged}
-use Rattle.ls_serial_search.specs.Told.{usual}
+use Rattle.ls_linearity.specs.Meant.{IsUndecided}
 use Rattle.ls_find.specs.Likeness.{IsLikeness}
 use Rattle.ls_find.specs.Said.{HasUnexplained, IsVerdict}
 use Rattle.ls_find.specs.Verdicts.{ShowsRow}
@@ -37,6 +36,5 @@ module _ (sfile : File) (sprogram : Program) (file : File) (program : Program) (
       HasUnexplained (Some (sfile, sprogram)) file program
   one_unexplained is = record {
     schedule = schedule_of k is.0;
-    doubt = is.2;
-    unexplained = subst (λ (h : List Event). IsNotJudged sfile sprogram usual is.2 h) (truth.told is.0 is.1) is.3;
+    unexplained = subst (λ (h : List Event). IsUndecided sfile sprogram h) (truth.told is.0 is.1) is.2;
   }

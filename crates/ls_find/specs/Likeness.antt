@@ -3,10 +3,8 @@ use Rattle.std.specs.Prelude.{◌≡◌, List, Some, Contains, slice_get}
 use Rattle.ls_checked.specs.CheckedTree.{File}
 use Rattle.ls_checked.specs.CheckedProgram.{Program}
 use Rattle.ls_explore.specs.Rows.{Told}
+use Rattle.ls_linearity.specs.Meant.{IsUndecided}
 use Rattle.ls_linearizable.specs.Linearizable.{IsLinearizable}
-use Rattle.ls_serial_search.specs.Found.{IsNotJudged}
-use Rattle.ls_serial_search.specs.Told.{usual}
-use Rattle.ls_serial_search.specs.declared.telling.Doubt.{Doubt}
 use Rattle.ls_find.specs.declared.likeness.Likeness.{Likeness}
 use Rattle.ls_find.specs.declared.likeness.Likeness.TheVariants as likeness
 
@@ -17,4 +15,4 @@ IsLikeness sfile sprogram rows likeness.AllLike =
 IsLikeness sfile sprogram rows (likeness.UnlikeAt at) =
     (r : Told) × (slice_get rows at ≡ Some r) × (IsLinearizable sfile sprogram r.history → ⊥)
 IsLikeness sfile sprogram rows likeness.NotJudged =
-    (r : Told) × Contains rows r × (doubt : Doubt) × IsNotJudged sfile sprogram usual doubt r.history
+    (r : Told) × Contains rows r × IsUndecided sfile sprogram r.history

@@ -11,9 +11,7 @@ use Rattle.ls_explore.specs.Faults.{AreBadStates}
 use Rattle.ls_explore.specs.Rows.{TellStates, Told}
 use Rattle.ls_explore.specs.Settings.{GoesOnFor}
 use Rattle.ls_search.specs.Verdicts.{HaveManyObjects}
-use Rattle.ls_serial_search.specs.Found.{IsNotJudged}
-use Rattle.ls_serial_search.specs.Told.{usual}
-use Rattle.ls_serial_search.specs.declared.telling.Doubt.{Doubt}
+use Rattle.ls_linearity.specs.Meant.{IsUndecided}
 use Rattle.ls_specification.specs.Specification.{Given}
 use Rattle.ls_find.specs.Verdicts.{AllLinearizable, IsBadSchedule, IsGood, IsShown, IsShownFor, NoneWaits}
 use Rattle.ls_find.specs.declared.sought.Sought.{Sought}
@@ -58,12 +56,10 @@ pub record MayWait (waiting : Bool) (given : Given) (file : File) (program : Pro
   pub linearizable : AllLinearizable given file program
   pub waits : HasWaitingCall file program
 
--- A call of the specification goes on, or its calls have too many orders. No history of it that was found explains that
--- of this schedule.
+-- It isn't known of the history of this schedule whether it is linearizable to the specification.
 pub record IsUnexplained (sfile : File) (sprogram : Program) (file : File) (program : Program) : Type 0 where
   pub schedule : List ℕ
-  pub doubt : Doubt
-  pub unexplained : IsNotJudged sfile sprogram usual doubt (source_history file program schedule)
+  pub unexplained : IsUndecided sfile sprogram (source_history file program schedule)
 
 -- so it is of a specification that is given; a program's own calls always decide
 abbrev pub HasUnexplained : Given → File → Program → Type 0

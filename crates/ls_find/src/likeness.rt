@@ -4,6 +4,7 @@ ghost use Rattle.std.specs.Prelude.{ℕ, IfOk, Some};
 ghost use Rattle.ls_explore.specs.Rows.{NoneEnds};
 ghost use Rattle.ls_explore.specs.Tellings.{TellTruth, TellWhole};
 ghost use Rattle.ls_explore.specs.declared.rows.Ending.TheVariants.{OutOfCells};
+ghost use Rattle.ls_explore_reports.specs.Judged.{AreEachOnce};
 ghost use Rattle.ls_find.specs.Likeness.{IsLikeness};
 ghost use Rattle.ls_find.specs.Said.{IsVerdict};
 ghost use Rattle.ls_specification.specs.Specification.{given_of, spec_file, spec_program};
@@ -15,8 +16,7 @@ use crate::waiting::waiting_verdict;
 use ls_explore::Row;
 use ls_explore_reports::laws::none_is_unlike;
 use ls_image::image::Image;
-use ls_serial_search::judging::{Linearity, linearity_on};
-use ls_serial_search::telling::{Bounds, serial_runs};
+use ls_linearity::{Linearity, judge_for, linearity_by};
 use ls_specification::Specification;
 use std::alloc::{AllocError, Global};
 
@@ -26,7 +26,7 @@ pub(crate) enum Likeness {
     AllLike,
     /// That of the row at this place isn't.
     UnlikeAt(usize),
-    /// Not all serial histories of the specification were found, and none of those explains one.
+    /// It isn't known of one, since a call of the specification goes on or it has too many states.
     NotJudged,
 }
 
@@ -36,22 +36,23 @@ impl Clone for Likeness {
     }
 }
 
-/// Whether serial histories of a specification explain those of rows: the first that isn't explained decides.
+/// Whether histories of rows, in which no event stands twice, are linearizable to a specification: the first that isn't
+/// decides. The only refusal is that memory ran out.
 fn rows_likeness(
     alloc: Global,
     specification: Specification<'_>,
     rows: &[Row],
 ) -> Result<Likeness, AllocError>
+    requires { AreEachOnce rows.now }
     ensures { IfOk result
         (IsLikeness (spec_file specification.entry) (spec_program specification.entry) rows.now) }
 {
-    let Specification { file, program } = specification;
-    let search = serial_runs(alloc, file, program, &Bounds::usual())?;
+    let judge = judge_for(alloc, specification)?;
     for at in 0..rows.len() {
-        match linearity_on(&search, rows[at].history()) {
+        match linearity_by(alloc, &judge, rows[at].history())? {
             Linearity::Linearizable => {}
             Linearity::NotLinearizable => return Ok(Likeness::UnlikeAt(at)),
-            Linearity::LongCall | Linearity::ManyOrders => return Ok(Likeness::NotJudged),
+            Linearity::LongCall | Linearity::ManyStates => return Ok(Likeness::NotJudged),
         }
     }
     Ok(Likeness::AllLike)

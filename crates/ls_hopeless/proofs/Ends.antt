@@ -9,7 +9,7 @@ use Rattle.ls_checked.specs.CheckedTree.{File}
 use Rattle.ls_events.specs.declared.event.Event.{Event}
 use Rattle.ls_linearizable.proofs.There.{there_cases, there_not}
 use Rattle.ls_linearizable.specs.Linearizable.{IsLinearizable}
-use Rattle.ls_linearizable.specs.Resting.{AreOnce}
+use Rattle.ls_linearizable.specs.Once.{AreOnce}
 use Rattle.ls_meaning.specs.Runs.{source_history}
 use Rattle.ls_serial.proofs.Lists.{contains_get, get_contains, get_within, take_get}
 use Rattle.ls_serial.specs.Serial.{AreEnded, IsCall, IsEnd, is_called}

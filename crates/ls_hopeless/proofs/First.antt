@@ -6,14 +6,15 @@ use Rattle.ls_checked.specs.CheckedTree.{File}
 use Rattle.ls_events.specs.declared.event.Event.{Event}
 use Rattle.ls_linearity.proofs.Decided.{left_is, lost_is_not, lost_within}
 use Rattle.ls_linearity.specs.Followed.{IsLostAt, is_lost}
+use Rattle.ls_linearity.specs.Meant.{IsUndecided}
 use Rattle.ls_linearity.specs.Tabled.{IsTableOf}
 use Rattle.ls_linearity.specs.declared.table.SerialTable.{SerialTable}
 use Rattle.ls_linearizable.specs.Linearizable.{IsLinearizable}
-use Rattle.ls_linearizable.specs.Resting.{AreOnce}
+use Rattle.ls_linearizable.specs.Once.{AreOnce}
 use Rattle.ls_serial_orders.proofs.Ordering.{hopeless_at, order_exactly}
 use Rattle.ls_serial_orders.specs.Orders.{IsHopeless}
 use Rattle.ls_serial_search.specs.Told.{usual}
-use Rattle.ls_hopeless.specs.Hopeless.{IsHopelessAt, IsUndecided}
+use Rattle.ls_hopeless.specs.Hopeless.{IsHopelessAt}
 use Rattle.ls_hopeless.proofs.Ends.{once_first}
 
 module _ (file : File) (program : Program) (t : SerialTable) (is : IsTableOf file program usual t) (h : List Event)

@@ -6,7 +6,7 @@ use Rattle.ls_checked.specs.CheckedProgram.{Program}
 use Rattle.ls_checked.specs.CheckedTree.{File}
 use Rattle.ls_events.specs.declared.event.Event.{Event}
 use Rattle.ls_linearizable.specs.Linearizable.{IsLinearizable}
-use Rattle.ls_linearizable.specs.Resting.{AreOnce}
+use Rattle.ls_linearizable.specs.Once.{AreOnce}
 use Rattle.ls_report.specs.Events.{Text}
 use Rattle.ls_serial_orders.specs.Orders.{IsHopeless}
 use Rattle.ls_hopeless.specs.Hopeless.{IsHopelessLine, Told}

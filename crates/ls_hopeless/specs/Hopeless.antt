@@ -1,23 +1,13 @@
 -- Which event of a history no order of whole calls explains.
-use Rattle.std.specs.Prelude.{◌≡◌, ◌⊎◌, ℕ, List, [], Option, None, Some, slice_get, take}
+use Rattle.std.specs.Prelude.{◌≡◌, ℕ, List, [], Option, None, Some, slice_get, take}
 use Rattle.ls_checked.specs.CheckedTree.{File}
 use Rattle.ls_checked.specs.CheckedProgram.{Program}
 use Rattle.ls_events.specs.declared.event.Event.{Event}
-use Rattle.ls_linearity.specs.Tabled.{most_states}
+use Rattle.ls_linearity.specs.Meant.{IsUndecided}
 use Rattle.ls_report.specs.Events.{Text}
 use Rattle.ls_serial.specs.Serial.{IsEnd}
 use Rattle.ls_serial_orders.specs.Orders.{IsHopeless}
-use Rattle.ls_serial_search.specs.Open.{HasManyOrders}
-use Rattle.ls_serial_search.specs.Told.{usual}
-use Rattle.ls_source_judge.specs.Judged.{IsUnexplainedWithin}
 use Rattle.ls_hopeless.specs.Words.{line_of}
-
--- It isn't known with which event the history ceases to be linearizable. A call goes on, and no serial run explains the
--- history, each call of which ends within 10,000 steps. Or calls that run one at a time lead to too many states: then
--- there are more serial histories than so many, too.
-abbrev pub IsUndecided : File → Program → List Event → Type 0
-IsUndecided file program h =
-    IsUnexplainedWithin file program usual.steps h ⊎ HasManyOrders file program most_states
 
 -- the place of the first event with which the history ceases to be linearizable, or that isn't known
 abbrev pub IsHopelessAt : File → Program → List Event → Option ℕ → Type 0

@@ -6,7 +6,7 @@ ghost use Rattle.ls_checked.specs.CheckedProgram.{Program as ProgramValue};
 ghost use Rattle.ls_hopeless.specs.Hopeless.{IsHopelessAt};
 ghost use Rattle.ls_linearity.specs.Tabled.{IsTableOf};
 ghost use Rattle.ls_linearizable.specs.Linearizable.{IsLinearizable};
-ghost use Rattle.ls_linearizable.specs.Resting.{AreOnce};
+ghost use Rattle.ls_linearizable.specs.Once.{AreOnce};
 ghost use Rattle.ls_serial_search.specs.Told.{usual};
 ghost use Rattle.ls_specification.specs.Specification.{spec_file, spec_program};
 

@@ -4,7 +4,7 @@ ghost use Rattle.std.specs.Prelude.{IfOk, string_bytes};
 ghost use Rattle.ls_checked.specs.PlainProgram.{plain_program};
 ghost use Rattle.ls_hopeless.specs.Hopeless.{IsHopelessLine};
 ghost use Rattle.ls_linearizable.specs.Linearizable.{IsLinearizable};
-ghost use Rattle.ls_linearizable.specs.Resting.{AreOnce};
+ghost use Rattle.ls_linearizable.specs.Once.{AreOnce};
 ghost use Rattle.ls_meaning.specs.Runs.{source_history};
 ghost use Rattle.ls_specification.specs.Specification.{spec_file, spec_program};
 ghost use Rattle.ls_text_laws.specs.Histories.{IsReadable};

@@ -9,7 +9,7 @@ use Rattle.ls_checked.specs.CheckedProgram.{Program}
 use Rattle.ls_report.specs.Events.{Event}
 use Rattle.ls_report.specs.Printing.{named}
 use Rattle.ls_serial.specs.Serial.{IsCall}
-use Rattle.ls_linearizable.specs.Resting.{AreOnce}
+use Rattle.ls_linearizable.specs.Once.{AreOnce}
 use Rattle.ls_orders.specs.declared.calls.SetCall.{SetCall}
 use Rattle.ls_orders.specs.SetCalls.{call_named, name_at, name_of, set_calls}
 use Rattle.ls_legal_laws.specs.Laws.{AreNamed, HasOwnNames}

@@ -14,7 +14,7 @@ use Rattle.ls_report.specs.Events.{Event, Text}
 use Rattle.ls_report.specs.Printing.{named}
 use Rattle.ls_serial.specs.Serial.{Explains, IsCall, IsEnd, IsSerial}
 use Rattle.ls_serial.proofs.Lists.{contains_get, get_contains, get_take, take_get, drop_get, some_is}
-use Rattle.ls_linearizable.specs.Resting.{AreOnce}
+use Rattle.ls_linearizable.specs.Once.{AreOnce}
 use Rattle.ls_linearizable.proofs.There.{any_there, there_any, there_cases, there_first, there_later, there_not}
 use Rattle.ls_orders.specs.declared.calls.SetCall.{SetCall}
 use Rattle.ls_orders.specs.declared.calls.Operation.{Operation}

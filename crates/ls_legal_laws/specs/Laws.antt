@@ -7,7 +7,7 @@ use Rattle.ls_checked.specs.CheckedProgram.{Program, ThreadProgram}
 use Rattle.ls_meaning.specs.Runs.{source_history}
 use Rattle.ls_serial.specs.Serial.{Explains, IsSerial}
 use Rattle.ls_linearizable.specs.Linearizable.{IsLinearizable}
-use Rattle.ls_linearizable.specs.Resting.{AreOnce}
+use Rattle.ls_linearizable.specs.Once.{AreOnce}
 use Rattle.ls_report.specs.Events.{Event}
 use Rattle.ls_report.specs.Printing.{named}
 use Rattle.ls_orders.specs.SetCalls.{first_foreign}

@@ -5,7 +5,7 @@ use Rattle.ls_checked.specs.CheckedTree.{File}
 use Rattle.ls_checked.specs.CheckedProgram.{Program}
 use Rattle.ls_automaton.specs.Held.{first_held, goes_along}
 use Rattle.ls_linearizable.specs.Linearizable.{IsLinearizable}
-use Rattle.ls_linearizable.specs.Resting.{AreOnce}
+use Rattle.ls_linearizable.specs.Once.{AreOnce}
 use Rattle.ls_serial_search.specs.Told.{usual}
 use Rattle.ls_source_judge.specs.Judged.{IsUnexplainedWithin}
 use Rattle.ls_linearity.specs.Tabled.{IsTableOf}

@@ -7,4 +7,4 @@ pub mod judging;
 pub mod laws;
 pub mod table;
 
-pub use judging::{SerialJudge, judge_for, linearity_by, own_judge};
+pub use judging::{Linearity, SerialJudge, judge_for, linearity_by, own_judge};

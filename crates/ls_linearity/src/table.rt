@@ -25,10 +25,6 @@ pub struct SerialTable {
 /// A table has at most so many states where histories are judged one by one.
 pub const MOST_STATES: usize = 32_000;
 
-/// A program has at most so many threads, the setup with them. Of calls that are pending at once each set may have
-/// taken effect, so more threads would lead to too many pairs.
-const MOST_THREADS: usize = 9;
-
 /// A table in which states that do the same are one, as far as they are found. The only refusal is that memory ran out.
 fn merged_table(
     alloc: Global,
@@ -70,20 +66,4 @@ pub fn serial_table(
         }
         None => Ok(None),
     }
-}
-
-/// The table for many histories. None if it would have over 32,000 states, or if there are over 8 threads beside the
-/// setup. The only refusal is that memory ran out.
-pub(crate) fn table_for(
-    alloc: Global,
-    specification: Specification<'_>,
-) -> Result<Option<SerialTable>, AllocError>
-    ensures { IfOk result (λ some. IfSome some
-        (IsTableOf (spec_file specification.entry) (spec_program specification.entry) usual)) }
-{
-    if specification.program.threads.len() > MOST_THREADS {
-        return Ok(None);
-    }
-    let table = serial_table(alloc, specification, MOST_STATES)?;
-    Ok(table)
 }

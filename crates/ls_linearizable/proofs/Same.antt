@@ -7,8 +7,7 @@ use Rattle.ls_events.specs.declared.event.Happening.TheVariants.{Called, Returne
 use Rattle.ls_events.specs.declared.kind.Kind.{Kind}
 use Rattle.ls_events.specs.declared.kind.Kind.TheVariants as kind
 use Rattle.ls_events.specs.declared.value.Value.TheVariants.{Int, Boolean, Reference, Pair}
-use Rattle.ls_linearizable.specs.Resting.{IsTest}
-use Rattle.ls_linearizable.specs.Same.{Digest, digest, digest_of, kind_form, same_digest, same_event}
+use Rattle.ls_linearizable.specs.Same.{Digest, IsTest, digest, digest_of, kind_form, same_digest, same_event}
 
 -- what a digest is of
 kind_of : ℕ → Kind

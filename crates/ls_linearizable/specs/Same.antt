@@ -1,5 +1,5 @@
 -- Whether events are the same.
-use Rattle.std.specs.Prelude.{ℕ, nat_eq, ℤ, pos, Bool, false, ◌&&◌, Some, None}
+use Rattle.std.specs.Prelude.{◌≡◌, ℕ, nat_eq, ℤ, pos, Bool, false, ◌&&◌, Some, None, Decides}
 use Rattle.std.specs.Bool.{beq}
 use Rattle.std.specs.Ordering.{int_eq}
 use Rattle.ls_events.specs.declared.event.Event.{Event}
@@ -8,6 +8,10 @@ use Rattle.ls_events.specs.declared.event.Happening.TheVariants.{Called, Returne
 use Rattle.ls_events.specs.declared.kind.Kind.{Kind}
 use Rattle.ls_events.specs.declared.kind.Kind.TheVariants as kind
 use Rattle.ls_events.specs.declared.value.Value.TheVariants.{Int, Boolean, Reference, Pair}
+
+-- whether events are the same
+abbrev pub IsTest : (Event → Event → Bool) → Type 0
+IsTest same = (a b : Event) → Decides (same a b) (a ≡ b)
 
 -- what happened, in numbers: which form it has, and what that holds
 pub record Digest : Type 0 where

@@ -32,7 +32,7 @@ use Rattle.ls_search_laws.proofs.Stepping.{acts_within}
 use Rattle.ls_search_laws.proofs.Covering.{IsKept, holds_of_all}
 use Rattle.ls_serial.specs.Serial.{Explains, IsSerial}
 use Rattle.ls_linearizable.specs.Linearizable.{IsLinearizable}
-use Rattle.ls_linearizable.specs.Resting.{AreOnce}
+use Rattle.ls_linearizable.specs.Once.{AreOnce}
 use Rattle.ls_automaton.proofs.Once.{once}
 use Rattle.ls_one_at_a_time.specs.Inner.{IsInner}
 use Rattle.ls_one_at_a_time.proofs.Onward.{GoesOn, LeavesNone, Spent}

@@ -17,7 +17,7 @@ use Rattle.ls_meaning.specs.Threads.{Goes, Ended, after_call, all_calls, next, o
 use Rattle.ls_meaning.specs.Runs.{State, answers_of, event_of, source_history}
 use Rattle.ls_search_laws.specs.Stepping.{events_in}
 use Rattle.ls_serial.specs.Serial.{Explains, IsSerial}
-use Rattle.ls_linearizable.specs.Resting.{AreOnce}
+use Rattle.ls_linearizable.specs.Once.{AreOnce}
 use Rattle.ls_one_at_a_time.proofs.Kit.{IsGuarded, Kit}
 use Rattle.ls_one_at_a_time.proofs.Standing.{CallsFrom, IsAt, IsOut, Reached, SetupEnded, called, count_stays}
 use Rattle.ls_one_at_a_time.proofs.Standing.{IsUp, all_up, up_ended, next_state, other}

@@ -8,7 +8,7 @@ use Rattle.ls_events.specs.declared.event.Event.{Event}
 use Rattle.ls_serial.specs.Serial.{AreCalled, AreEnded, Explains, IsCall, IsEnd, IsEndOf, IsSerial, KeepsOrder}
 use Rattle.ls_serial.proofs.Lists.{contains_get, get_contains, get_take, get_within, take_get, some_is}
 use Rattle.ls_serial.proofs.Steps.{not_both}
-use Rattle.ls_linearizable.specs.Resting.{AreOnce}
+use Rattle.ls_linearizable.specs.Once.{AreOnce}
 
 serial_both : (xs ys : List Event) → IsSerial xs → IsSerial ys → IsSerial (xs ++ ys)
 serial_both [] ys s t = t

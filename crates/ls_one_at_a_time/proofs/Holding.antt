@@ -21,7 +21,7 @@ use Rattle.ls_meaning.specs.Threads.{Next, Goes, after_call, all_calls, next, on
 use Rattle.ls_meaning.specs.Runs.{State, Step, answers_of, event_of, source_history, step}
 use Rattle.ls_search_laws.specs.Stepping.{events_in, events_of}
 use Rattle.ls_serial.specs.Serial.{Explains, IsEndOf}
-use Rattle.ls_linearizable.specs.Resting.{AreOnce}
+use Rattle.ls_linearizable.specs.Once.{AreOnce}
 use Rattle.ls_one_at_a_time.proofs.Guarded.{EndsSo}
 use Rattle.ls_one_at_a_time.proofs.Kit.{IsAsking, IsClosing, IsGuarded, IsTurn, Kit}
 use Rattle.ls_one_at_a_time.proofs.Explained.{one_more, serial_pair}

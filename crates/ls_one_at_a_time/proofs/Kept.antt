@@ -21,7 +21,7 @@ use Rattle.ls_meaning.specs.Still.{IsActing, IsOver, IsStill}
 use Rattle.ls_search_laws.specs.Stepping.{events_in, events_of}
 use Rattle.ls_search_laws.proofs.Stepping.{acts_within}
 use Rattle.ls_search_laws.proofs.Covering.{IsKept}
-use Rattle.ls_linearizable.specs.Resting.{AreOnce}
+use Rattle.ls_linearizable.specs.Once.{AreOnce}
 use Rattle.ls_one_at_a_time.proofs.Kit.{IsAsking, IsClosing, IsGuarded, Kit}
 use Rattle.ls_one_at_a_time.proofs.Standing.{IsAtLock, IsComing, IsQuietStep, SetupEnded, acted}
 use Rattle.ls_meaning.specs.declared.step.Did.TheVariants as did

@@ -29,7 +29,7 @@ use Rattle.ls_meaning.specs.Still.{IsActing}
 use Rattle.ls_search_laws.specs.Stepping.{events_in, events_of}
 use Rattle.ls_search_laws.proofs.Stepping.{one_more}
 use Rattle.ls_serial.specs.Serial.{Explains, IsEnd}
-use Rattle.ls_linearizable.specs.Resting.{AreOnce}
+use Rattle.ls_linearizable.specs.Once.{AreOnce}
 use Rattle.ls_one_at_a_time.proofs.Kit.{IsGood, IsGuarded, Kit}
 use Rattle.ls_one_at_a_time.proofs.Explained.{one_called, one_ended}
 

@@ -20,7 +20,7 @@ use Rattle.ls_meaning.specs.Threads.{Goes, next, one_call}
 use Rattle.ls_meaning.specs.Runs.{State, answers_of, event_of, source_history, step}
 use Rattle.ls_search_laws.specs.Stepping.{events_in}
 use Rattle.ls_serial.specs.Serial.{Explains}
-use Rattle.ls_linearizable.specs.Resting.{AreOnce}
+use Rattle.ls_linearizable.specs.Once.{AreOnce}
 use Rattle.ls_one_at_a_time.proofs.Kit.{IsGuarded, IsTurn, Kit}
 use Rattle.ls_one_at_a_time.proofs.Standing.{IsAtLock, IsOut, IsQuietStep, acted, called, count_stays}
 use Rattle.ls_one_at_a_time.proofs.Standing.{IsUp, next_state, other, own, reach_acts, steps_so}

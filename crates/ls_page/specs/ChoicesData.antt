@@ -11,7 +11,7 @@ use Rattle.ls_report.specs.Events.{Text}
 use Rattle.ls_meaning.specs.Runs.{source_history}
 use Rattle.ls_automaton.specs.declared.outcome.Outcome.{Outcome}
 use Rattle.ls_linearity.specs.Laws.{IsDecided}
-use Rattle.ls_linearity.specs.Tabled.{IsTableOf}
+use Rattle.ls_linearity.specs.Tabled.{IsTableOf, most_states}
 use Rattle.ls_linearity.specs.declared.table.SerialTable.{SerialTable}
 use Rattle.ls_serial_search.specs.Open.{HasManyOrders}
 use Rattle.ls_serial_search.specs.Told.{usual}
@@ -104,14 +104,10 @@ data_text names texts reference first g reach t =
 
 -- ---- what it says
 
--- the table has at most so many states
-abbrev pub most_serial_states : ℕ
-most_serial_states = 10000
-
 -- The table of a program of a file, whose calls run one at a time. There is none if they lead to too many states: then
 -- there are more serial histories than so many, too.
 abbrev pub IsSerialTable : File → Program → Option SerialTable → Type 0
-IsSerialTable file program None = HasManyOrders file program most_serial_states
+IsSerialTable file program None = HasManyOrders file program most_states
 IsSerialTable file program (Some t) = IsTableOf file program usual t
 
 -- what the pairs of the table's states and of calls say of a history

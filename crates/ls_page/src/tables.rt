@@ -14,7 +14,7 @@ use crate::table::Table;
 use ls_automaton::outcome::Outcome;
 use ls_choices::graph::Choices;
 use ls_labels::names::Names;
-use ls_linearity::table::{SerialTable, serial_table};
+use ls_linearity::table::{MOST_STATES, SerialTable, serial_table};
 use ls_specification::Specification;
 use std::alloc::{AllocError, Global};
 
@@ -29,9 +29,6 @@ pub(crate) struct Tables {
     /// The table of states, if there aren't too many.
     pub(crate) serial: Option<SerialTable>,
 }
-
-/// The table has at most so many states.
-const MOST_SERIAL_STATES: usize = 10_000;
 
 /// What says how calls are right: the reference, or else the program's own calls.
 fn specification_in<'a>(reference: Option<Reference<'a>>, names: Names<'a>) -> Specification<'a>
@@ -55,7 +52,7 @@ pub(crate) fn serial_of(
         (serial_program (reference_of reference.entry) (names_of names.entry))) }
 {
     let specification = specification_in(reference, names);
-    let found = serial_table(alloc, specification, MOST_SERIAL_STATES)?;
+    let found = serial_table(alloc, specification, MOST_STATES)?;
     Ok(found)
 }
 

@@ -4,7 +4,7 @@ use Rattle.std.proofs.Common.{length, slice_get, sym, ◌∙◌, subst, arith}
 use Rattle.ls_events.specs.declared.event.Event.{Event}
 use Rattle.ls_serial.specs.Serial.{AreCalled, IsSerial}
 use Rattle.ls_serial.proofs.Lists.{contains_get, get_within}
-use Rattle.ls_linearizable.specs.Resting.{AreOnce}
+use Rattle.ls_linearizable.specs.Once.{AreOnce}
 use Rattle.ls_linearizable.proofs.There.{there_cases, there_first, there_later, there_not}
 use Rattle.ls_automaton.proofs.Runs.{apart}
 

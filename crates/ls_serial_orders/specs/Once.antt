@@ -5,7 +5,7 @@ use Rattle.ls_checked.specs.CheckedProgram.{Program}
 use Rattle.ls_report.specs.Discipline.{is_history}
 use Rattle.ls_report.specs.Events.{Event}
 use Rattle.ls_report.specs.Printing.{named}
-use Rattle.ls_linearizable.specs.Resting.{AreOnce}
+use Rattle.ls_linearizable.specs.Once.{AreOnce}
 
 abbrev pub ReadableIsOnce : Type 0
 ReadableIsOnce =

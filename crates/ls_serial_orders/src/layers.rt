@@ -70,7 +70,7 @@ fn finished_run(
 
 /// A serial run of a table that explains a history. None if none does. It is sought call by call: calls that leave the
 /// same state as the same calls in another order are not placed twice. The only refusal is that memory ran out.
-pub(crate) fn serial_run(
+pub fn serial_run(
     alloc: Global,
     rows: &[Vec<Outcome>],
     history: &[Event],

@@ -4,7 +4,7 @@
 mod calls;
 mod finding;
 pub mod laws;
-mod layers;
+pub mod layers;
 mod naming;
 pub mod once_laws;
 mod placing;

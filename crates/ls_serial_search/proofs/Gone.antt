@@ -14,8 +14,6 @@ use Rattle.ls_search_laws.specs.Stepping.{ActAll}
 use Rattle.ls_search_laws.proofs.Acting.{acts_times}
 use Rattle.ls_serial_search.specs.Following.{IsFollowed}
 use Rattle.ls_serial_search.specs.Happened.{EndsIn}
-use Rattle.ls_serial_search.specs.Found.{IsSearchedWithin}
-use Rattle.ls_serial_search.specs.Open.{IsLongAfter}
 use Rattle.ls_serial_search.specs.Searched.{AreActing, AreSerial, IsSearched}
 use Rattle.ls_serial_search.specs.Told.{AreMore}
 
@@ -130,21 +128,6 @@ module _ (file : File) (program : Program) where
       AreFollowed b s (n + 1)
   threads_more = of_threads_more (IsFollowed file program) followed_more
 
-  -- a call was followed, or it is too long
-  abbrev pub IsTried : ℕ → Said
-  IsTried bound known s t = IsFollowed file program known s t ⊎ IsLongAfter file program bound s t
-
-  tried_more : (bound : ℕ) → IsKeptByMore (IsTried bound)
-  tried_more bound a b s t m (inl followed) = inl (followed_more a b s t m followed)
-  tried_more bound a b s t m (inr long) = inr long
-
-  pub tries_more : (bound : ℕ) (a b : List (List ℕ)) (s : List ℕ) (n : ℕ) →
-      AreMore file program a b →
-      OfThreads (IsTried bound) a s n →
-      IsTried bound b s n →
-      OfThreads (IsTried bound) b s (n + 1)
-  tries_more bound = of_threads_more (IsTried bound) (tried_more bound)
-
   -- ---- the schedules up to a place
 
   abbrev pub AreSo : Said → List (List ℕ) → ℕ → Type 0
@@ -210,20 +193,18 @@ module _ (file : File) (program : Program) where
   gone_there a s x n lt is same = get_contains a n s (gone_at a s x n lt is same)
 
   -- what is known when so many schedules were gone on from
-  pub record IsGone (bound : ℕ) (known : List (List ℕ)) (n : ℕ) (complete : Bool) : Type 0 where
+  pub record IsGone (known : List (List ℕ)) (n : ℕ) (complete : Bool) : Type 0 where
     pub start : Contains known []
     pub serial : AreSerial file program known
     pub acts : AreActing file program known
     pub done : complete ≡ true → AreDone known n
-    pub tried : AreSo (IsTried bound) known n
 
-  pub gone_first : (bound : ℕ) (known : List (List ℕ)) → known ≡ [] ∷ [] → IsGone bound known 0 true
-  gone_first bound known is = record {
+  pub gone_first : (known : List (List ℕ)) → known ≡ [] ∷ [] → IsGone known 0 true
+  gone_first known is = record {
     start = subst (λ l. Contains l []) (sym is) (Contains-push [] []);
     serial = λ s there. subst (λ l. IsSerial (source_history file program l)) (only s there) tt;
     acts = λ s there. subst (ActAll file program) (only s there) refl;
     done = λ all i s lt at. absurd (omega arith);
-    tried = λ i s lt at. absurd (omega arith);
   }
     where
       by_place : (s : List ℕ) → Contains [] s ⊎ ([] ≡ s) → [] ≡ s
@@ -233,23 +214,21 @@ module _ (file : File) (program : Program) where
       only : (s : List ℕ) → Contains known s → [] ≡ s
       only s there = by_place s (Contains-push_cases [] [] s (subst (λ l. Contains l s) is there))
 
-  pub gone_more : (bound : ℕ) (a b : List (List ℕ)) (s x : List ℕ) (n : ℕ) (all followed both : Bool) →
+  pub gone_more : (a b : List (List ℕ)) (s x : List ℕ) (n : ℕ) (all followed both : Bool) →
       n < length a →
       x ≡ slice_index_or a n x →
       s ≡ x →
-      IsGone bound a n all →
+      IsGone a n all →
       (Contains a s → AreMore file program a b) →
       (followed ≡ true → Contains a s → AreFollowed b s (length program.threads)) →
-      OfThreads (IsTried bound) b s (length program.threads) →
       (both ≡ true → (all ≡ true) × (followed ≡ true)) →
-      IsGone bound b (n + 1) both
-  gone_more bound a b s x n all followed both lt is same old more new tries split = record {
+      IsGone b (n + 1) both
+  gone_more a b s x n all followed both lt is same old more new split = record {
     start = there_more a b [] (more there) old.start;
     serial = (more there).serial old.serial;
     acts = (more there).acts old.acts;
     done = λ is_so. so_more (IsFollowed file program) followed_more a b s n lt at (more there)
         (old.done (split is_so).0) (new (split is_so).1 there);
-    tried = so_more (IsTried bound) (tried_more bound) a b s n lt at (more there) old.tried tries;
   }
     where
       at : slice_get a n ≡ Some s
@@ -258,24 +237,13 @@ module _ (file : File) (program : Program) where
       there : Contains a s
       there = get_contains a n s at
 
-  pub gone_all : (bound : ℕ) (known : List (List ℕ)) (n : ℕ) (complete : Bool) →
-      IsGone bound known n complete →
+  pub gone_all : (known : List (List ℕ)) (n : ℕ) (complete : Bool) →
+      IsGone known n complete →
       length known ≤ n →
       complete ≡ true →
       IsSearched file program known
-  gone_all bound known n complete g le is_so = record {
+  gone_all known n complete g le is_so = record {
     start = g.start;
     serial = g.serial;
     followed = all_so (IsFollowed file program) known n le (g.done is_so);
-  }
-
-  pub gone_within : (bound : ℕ) (known : List (List ℕ)) (n : ℕ) (complete : Bool) →
-      IsGone bound known n complete →
-      length known ≤ n →
-      IsSearchedWithin file program bound known
-  gone_within bound known n complete g le = record {
-    start = g.start;
-    serial = g.serial;
-    acts = g.acts;
-    followed = all_so (IsTried bound) known n le g.tried;
   }

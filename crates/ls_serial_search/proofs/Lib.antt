@@ -7,14 +7,11 @@ pub mod Inside
 pub mod Between
 pub mod Within
 pub mod Covering
-pub mod Doubts
 pub mod Open
 pub mod Apart
 pub mod Along
 pub mod Parked
 pub mod Gone
-pub mod Collected
-pub mod Kept
 pub mod Stalls
 pub mod ComingBack
 pub mod NeverEnding

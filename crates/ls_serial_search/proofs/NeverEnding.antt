@@ -5,6 +5,8 @@ use Rattle.std.proofs.Common.{refl, sym, ap, ◌∙◌, subst, arith, Contains, 
 use Rattle.std.proofs.lemmas.Bool.{cases_lt}
 use Rattle.std.proofs.lemmas.List.{replicate-append-replicate}
 use Rattle.std.proofs.lemmas.List.Elements.{Contains-push, Contains-push_cases}
+use Rattle.std.specs.declared.vec.Vec.{Vec}
+use Rattle.std.specs.declared.alloc.Global.{Global}
 use Rattle.ls_events.specs.declared.event.Event.{Event}
 use Rattle.ls_checked.specs.CheckedTree.{File}
 use Rattle.ls_checked.specs.CheckedProgram.{Program}
@@ -17,9 +19,16 @@ use Rattle.ls_serial_search.specs.Open.{HasEnded}
 use Rattle.ls_serial_search.specs.Searched.{IsSearched}
 use Rattle.ls_serial_search.specs.Endless.{AreEndlessRuns, HasTried, HaveTried, IsEndlessAfter, IsEndlessRun}
 use Rattle.ls_serial_search.specs.Endless.{TellEndlessRuns}
+use Rattle.ls_serial_search.specs.Histories.{lists_of}
 use Rattle.ls_serial_search.proofs.Covering.{begun_in}
 use Rattle.ls_serial_search.proofs.Stalls.{endless_within, never_called, never_ended, one_history}
 use Rattle.ls_serial_search.proofs.Stepping.{history_more, state_more, steps_more}
+
+-- a history more
+pub lists_pushed : (vs : List (Vec Event Global)) (v : Vec Event Global) (h : List Event) → v.items ≡ h →
+    lists_of (vs ++ v ∷ []) ≡ lists_of vs ++ h ∷ []
+lists_pushed [] v h e = ap (λ x. x ∷ []) e
+lists_pushed (w ∷ vs) v h e = ap (λ l. w.items ∷ l) (lists_pushed vs v h e)
 
 -- what was there still is
 abbrev pub AreKept : List (List Event) → List (List Event) → Type 0

@@ -6,7 +6,6 @@ pub mod Laws
 pub mod Orders
 pub mod Happened
 pub mod Marks
-pub mod Found
 pub mod Told
 pub mod Histories
 pub mod Endless

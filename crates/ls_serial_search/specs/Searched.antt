@@ -1,10 +1,9 @@
 -- Schedules whose calls run one at a time, and what they tell.
-use Rattle.std.specs.Prelude.{◌≡◌, ℕ, ◌<◌, List, [], Contains, length}
-use Rattle.ls_events.specs.declared.event.Event.{Event}
+use Rattle.std.specs.Prelude.{ℕ, ◌<◌, List, [], Contains, length}
 use Rattle.ls_checked.specs.CheckedTree.{File}
 use Rattle.ls_checked.specs.CheckedProgram.{Program}
 use Rattle.ls_meaning.specs.Runs.{source_history}
-use Rattle.ls_serial.specs.Serial.{HaveBeginning, IsSerial}
+use Rattle.ls_serial.specs.Serial.{IsSerial}
 use Rattle.ls_search_laws.specs.Stepping.{ActAll}
 use Rattle.ls_serial_search.specs.Following.{IsFollowed}
 
@@ -23,12 +22,3 @@ pub record IsSearched (file : File) (program : Program) (known : List (List ℕ)
   pub serial : AreSerial file program known
   pub followed : (schedule : List ℕ) → Contains known schedule → (t : ℕ) → t < length program.threads →
       IsFollowed file program known schedule t
-
--- the history of a schedule
-pub record IsHistory (file : File) (program : Program) (h : List Event) : Type 0 where
-  pub schedule : List ℕ
-  pub is : source_history file program schedule ≡ h
-
--- the serial histories with which the runs begin are histories of schedules
-abbrev pub TellTruth : File → Program → List (List Event) → Type 0
-TellTruth file program runs = (g : List Event) → IsSerial g → HaveBeginning runs g → IsHistory file program g

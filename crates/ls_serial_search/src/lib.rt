@@ -1,11 +1,9 @@
-//! The serial runs of a program, by a search in which threads switch only between calls.
+//! Calls of a program that run one at a time, by a search in which threads switch only between calls.
 #![tactic(auto)]
 
 pub mod endless;
 pub mod faults;
 pub mod following;
-pub mod histories;
-pub mod judging;
 pub mod laws;
 pub mod marks;
 pub mod playing;

@@ -11,7 +11,6 @@ ghost use Rattle.ls_search_laws.specs.Stepping.{ActAll};
 ghost use Rattle.ls_serial.specs.Serial.{IsSerial};
 ghost use Rattle.ls_source.specs.Stands.{StandsFor};
 ghost use Rattle.ls_serial_search.specs.Following.{IsFollowed};
-ghost use Rattle.ls_serial_search.specs.Found.{IsSearchedWithin};
 ghost use Rattle.ls_serial_search.specs.Open.{HasLongCall, IsLongAfter};
 ghost use Rattle.ls_serial_search.specs.Orders.{progress_at};
 ghost use Rattle.ls_serial_search.specs.Searched.{AreActing, AreSerial, IsSearched};
@@ -195,14 +194,6 @@ fn follow_threads<'a>(
         (t : ℕ) → t < length task.now.program.now.threads.items →
         IsFollowed (plain_file task.now.file.now) (plain_program task.now.program.now) known.new.schedules.items
         schedule.now t) }
-    ensures tried { OnOk result (Contains known.old.schedules.items schedule.now →
-        IsSerial (source_history (plain_file task.now.file.now) (plain_program task.now.program.now) schedule.now) →
-        ActAll (plain_file task.now.file.now) (plain_program task.now.program.now) schedule.now →
-        (t : ℕ) → t < length task.now.program.now.threads.items →
-        IsFollowed (plain_file task.now.file.now) (plain_program task.now.program.now) known.new.schedules.items
-        schedule.now t
-        ⊎ IsLongAfter (plain_file task.now.file.now) (plain_program task.now.program.now) task.now.most_steps
-        schedule.now t) }
     ensures long { IfOk result (λ b. b ≡ false →
         IsSerial (source_history (plain_file task.now.file.now) (plain_program task.now.program.now) schedule.now) →
         ActAll (plain_file task.now.file.now) (plain_program task.now.program.now) schedule.now →
@@ -238,8 +229,6 @@ pub(crate) fn search<'a>(
         (plain_program task.now.program.now) s.orders.schedules.items) }
     ensures complete { IfOk result (λ s. s.complete ≡ true →
         IsSearched (plain_file task.now.file.now) (plain_program task.now.program.now) s.orders.schedules.items) }
-    ensures within { IfOk result (λ s. s.many ≡ false → IsSearchedWithin (plain_file task.now.file.now)
-        (plain_program task.now.program.now) task.now.most_steps s.orders.schedules.items) }
     ensures long { IfOk result (λ s. s.complete ≡ false → s.many ≡ false →
         HasLongCall (plain_file task.now.file.now) (plain_program task.now.program.now) task.now.most_steps) }
     ensures many { IfOk result (λ s. s.many ≡ true → most_orders < length s.orders.schedules.items) }

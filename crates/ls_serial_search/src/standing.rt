@@ -3,7 +3,6 @@
 ghost use Rattle.std.specs.Prelude.{◌≡◌, IfOk};
 ghost use Rattle.ls_checked.specs.Plain.{plain_file};
 ghost use Rattle.ls_checked.specs.PlainProgram.{plain_program};
-ghost use Rattle.ls_meaning.specs.Runs.{source_history};
 ghost use Rattle.ls_source.specs.Progress.{Progress};
 ghost use Rattle.ls_source.specs.Stands.{StandsFor};
 ghost use Rattle.ls_serial_search.specs.Orders.{progress_at};
@@ -58,23 +57,5 @@ pub(crate) fn standing<'a>(
     match parked {
         Some(run) => Ok(copied(alloc, run)?),
         None => played(alloc, task.file, task.program, schedule),
-    }
-}
-
-/// The history of a schedule of a task: that of the parked run, if one is. The only refusal is that memory ran
-/// out.
-pub(crate) fn history_after<'a>(
-    alloc: Global,
-    task: &Task<'a>,
-    schedule: &Schedule,
-    parked: &Option<Playing<'a>>,
-) -> Result<Vec<Event>, AllocError>
-    requires { IsParked (plain_file task.now.file.now) (plain_program task.now.program.now) schedule.now parked.now }
-    ensures { IfOk result (λ h. h.items ≡
-        source_history (plain_file task.now.file.now) (plain_program task.now.program.now) schedule.now) }
-{
-    match parked {
-        Some(run) => copy_events(alloc, &run.store_and_events.events),
-        None => Ok(played(alloc, task.file, task.program, schedule)?.into_history()),
     }
 }

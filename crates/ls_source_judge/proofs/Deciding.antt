@@ -8,7 +8,7 @@ use Rattle.ls_checked.specs.CheckedTree.{File}
 use Rattle.ls_checked.specs.CheckedProgram.{Program}
 use Rattle.ls_linearizable.specs.Judging.{later, now}
 use Rattle.ls_linearizable.specs.Linearizable.{IsLinearizable}
-use Rattle.ls_linearizable.specs.Resting.{AreOnce}
+use Rattle.ls_linearizable.specs.Once.{AreOnce}
 use Rattle.ls_automaton.specs.declared.outcome.Outcome.{Outcome}
 use Rattle.ls_automaton.specs.Automaton.{IsExplainedFrom}
 use Rattle.ls_automaton.specs.Held.{first_held, goes_along, leaves_none}

@@ -42,10 +42,9 @@ pub record IsUnexplainedWithin (file : File) (program : Program) (bound : ℕ) (
   pub long : HasLongCall file program bound
   pub unexplained : IsExplainedWithin file program bound h → ⊥
 
--- it isn't known for this reason whether the history is linearizable; how many orders of calls there are is never one
+-- it isn't known for this reason whether the history is linearizable
 abbrev pub IsUnexplained : File → Program → ℕ → Doubt → List Event → Type 0
 IsUnexplained file program bound doubts.LongCall h = IsUnexplainedWithin file program bound h
-IsUnexplained file program bound doubts.ManyOrders h = ⊥
 
 -- Each step acts, and it isn't known for this reason whether the history is linearizable to the specification.
 pub record IsUnjudgedRun (sfile : File) (sprogram : Program) (file : File) (program : Program) (doubt : Doubt)

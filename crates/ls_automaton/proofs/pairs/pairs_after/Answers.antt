@@ -1,7 +1,8 @@
 -- Why `pairs_after` in src/pairs.rt keeps its contract.
 
-use Rattle.std.proofs.Common.{◌⊎◌, ◌∙◌, Contains, ap, subst}
-use Rattle.ls_automaton.specs.Held.{AreAmong, Held, IsCovered, helds_of, leaves_none}
+use Rattle.std.proofs.Common.{◌⊎◌, ◌∙◌, Contains, subst}
+use Rattle.std.specs.List.{flat_map}
+use Rattle.ls_automaton.specs.Held.{AreAmong, Held, IsCovered, helds_of, moved}
 use Rattle.ls_automaton.proofs.Covering.{covered_judge, none_among}
 use Rattle.ls_automaton.proofs.Ending.{moved_judge, same_judge}
 use Rattle.ls_automaton.proofs.pairs.pairs_after.Goals as goal
@@ -15,7 +16,9 @@ returns-clause-left c =
     ⊎ IsCovered c.args.rows.now (helds_of l) q) c.as_slice.ensures.value c.in_ok-left.ensures.none_lost)
     ∙ same_judge c.args.rows.now (helds_of c.in_ok-once.once.items) (helds_of c.in_ok-found.found.items)
     c.in_ok-once.ensures.none_new c.in_ok-once.ensures.none_lost
-    ∙ ap (leaves_none c.args.rows.now) c.in_ok-found.ensures
+    ∙ same_judge c.args.rows.now (helds_of c.in_ok-found.found.items)
+    (flat_map (moved c.args.rows.now c.args.event.now) (helds_of c.args.pairs.now)) c.in_ok-found.ensures.0
+    c.in_ok-found.ensures.1
     ∙ moved_judge c.args.rows.now (helds_of c.args.pairs.now) c.args.event.now
 
 pub returns-clause-none_covered : goal.returns-clause-none_covered

@@ -29,8 +29,8 @@ pub returns-in-Stays-clause-asked : goal.returns-in-Stays-clause-asked
 returns-in-Stays-clause-asked c =
     let file : File = plain_file c.args.task.now.file.now in
     let program : Program = plain_program c.args.task.now.program.now in
-    still_asked file program c.args.task.now.most_steps c.args.stand.now.steps.now c.args.thread c.args.spots.now.items
-    c.args.row.now.items c.requires.spots
+    still_asked file program c.args.task.now.most_steps c.args.stand.now.steps.now c.args.thread
+    c.args.spots.now.list.items c.args.row.now.items c.requires.spots
     (subst (HasFollowed file program c.args.stand.now.steps.now c.args.thread c.args.task.now.most_steps) c.in-Stays.is
     c.in_ok-followed.ensures.followed)
 
@@ -39,7 +39,7 @@ returns-in-Waits-clause-asked c =
     let file : File = plain_file c.args.task.now.file.now in
     let program : Program = plain_program c.args.task.now.program.now in
     let schedule = c.args.stand.now.steps.now in
-    never_asked file program c.args.task.now.most_steps schedule c.args.thread c.args.spots.now.items
+    never_asked file program c.args.task.now.most_steps schedule c.args.thread c.args.spots.now.list.items
     c.args.row.now.items c.requires.spots c.in-Waits.field-0
     (waiting_never file program schedule c.args.thread c.in-Waits.field-0 c.in-Waits.field-1
     (subst (HasFollowed file program schedule c.args.thread c.args.task.now.most_steps) c.in-Waits.is
@@ -50,7 +50,7 @@ returns-in-Turns-clause-asked c =
     let file : File = plain_file c.args.task.now.file.now in
     let program : Program = plain_program c.args.task.now.program.now in
     let schedule = c.args.stand.now.steps.now in
-    never_asked file program c.args.task.now.most_steps schedule c.args.thread c.args.spots.now.items
+    never_asked file program c.args.task.now.most_steps schedule c.args.thread c.args.spots.now.list.items
     c.args.row.now.items c.requires.spots c.in-Turns.field-0
     (subst (HasFollowed file program schedule c.args.thread c.args.task.now.most_steps) c.in-Turns.is
     c.in_ok-followed.ensures.followed).0.never
@@ -59,8 +59,8 @@ pub returns-in-GoesOn-clause-asked : goal.returns-in-GoesOn-clause-asked
 returns-in-GoesOn-clause-asked c =
     let file : File = plain_file c.args.task.now.file.now in
     let program : Program = plain_program c.args.task.now.program.now in
-    open_asked file program c.args.task.now.most_steps c.args.stand.now.steps.now c.args.thread c.args.spots.now.items
-    c.args.row.now.items c.requires.spots
+    open_asked file program c.args.task.now.most_steps c.args.stand.now.steps.now c.args.thread
+    c.args.spots.now.list.items c.args.row.now.items c.requires.spots
     (subst (HasFollowed file program c.args.stand.now.steps.now c.args.thread c.args.task.now.most_steps) c.in-GoesOn.is
     c.in_ok-followed.ensures.followed c.requires.serial).0
 
@@ -81,25 +81,25 @@ returns-in_ok-push-in-Ends-clause-asked c =
     subst (HasFollowed file program c.args.stand.now.steps.now c.args.thread c.args.task.now.most_steps) c.in-Ends.is
     c.in_ok-followed.ensures.followed in
     ended_asked file program c.args.task.now.most_steps c.args.stand.now.steps.now c.in_ok-longer-in-Ends.longer.items
-    c.args.thread c.in-Ends.count c.args.spots.now.items c.reached.new.spots.items c.args.row.now.items
+    c.args.thread c.in-Ends.count c.args.spots.now.list.items c.reached.new.spots.list.items c.args.row.now.items
     c.push.new.self.items c.in_ok-outcome-in-Ends.outcome followed.2 c.in_ok-longer-in-Ends.ensures
     c.in_ok-outcome-in-Ends.ensures.after c.in_ok-outcome-in-Ends.ensures.end c.in_ok-push-in-Ends.ensures.items
 
 pub returns-in-Stays-clause-tree : goal.returns-in-Stays-clause-tree
 returns-in-Stays-clause-tree c = λ place at tree. tree_same (plain_file c.args.task.now.file.now)
-    (plain_program c.args.task.now.program.now) (schedules_of c.args.spots.now.items) place c.args.thread tree
+    (plain_program c.args.task.now.program.now) (schedules_of c.args.spots.now.list.items) place c.args.thread tree
 
 pub returns-in-Waits-clause-tree : goal.returns-in-Waits-clause-tree
 returns-in-Waits-clause-tree c = λ place at tree. tree_same (plain_file c.args.task.now.file.now)
-    (plain_program c.args.task.now.program.now) (schedules_of c.args.spots.now.items) place c.args.thread tree
+    (plain_program c.args.task.now.program.now) (schedules_of c.args.spots.now.list.items) place c.args.thread tree
 
 pub returns-in-Turns-clause-tree : goal.returns-in-Turns-clause-tree
 returns-in-Turns-clause-tree c = λ place at tree. tree_same (plain_file c.args.task.now.file.now)
-    (plain_program c.args.task.now.program.now) (schedules_of c.args.spots.now.items) place c.args.thread tree
+    (plain_program c.args.task.now.program.now) (schedules_of c.args.spots.now.list.items) place c.args.thread tree
 
 pub returns-in-GoesOn-clause-tree : goal.returns-in-GoesOn-clause-tree
 returns-in-GoesOn-clause-tree c = λ place at tree. tree_same (plain_file c.args.task.now.file.now)
-    (plain_program c.args.task.now.program.now) (schedules_of c.args.spots.now.items) place c.args.thread tree
+    (plain_program c.args.task.now.program.now) (schedules_of c.args.spots.now.list.items) place c.args.thread tree
 
 pub returns-in_ok-push-in-Ends-clause-tree : goal.returns-in_ok-push-in-Ends-clause-tree
 returns-in_ok-push-in-Ends-clause-tree c = λ place at tree.
@@ -108,6 +108,6 @@ returns-in_ok-push-in-Ends-clause-tree c = λ place at tree.
     let followed =
     subst (HasFollowed file program c.args.stand.now.steps.now c.args.thread c.args.task.now.most_steps) c.in-Ends.is
     c.in_ok-followed.ensures.followed in
-    ended_tree file program c.args.spots.now.items c.reached.new.spots.items place c.args.thread c.in-Ends.count
-    c.args.stand.now.steps.now c.in_ok-longer-in-Ends.longer.items tree at followed.2 c.in_ok-longer-in-Ends.ensures
-    c.in_ok-outcome-in-Ends.ensures.pushed
+    ended_tree file program c.args.spots.now.list.items c.reached.new.spots.list.items place c.args.thread
+    c.in-Ends.count c.args.stand.now.steps.now c.in_ok-longer-in-Ends.longer.items tree at followed.2
+    c.in_ok-longer-in-Ends.ensures c.in_ok-outcome-in-Ends.ensures.pushed

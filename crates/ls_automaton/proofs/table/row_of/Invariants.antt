@@ -12,12 +12,12 @@ use Rattle.ls_automaton.proofs.table.row_of.Given as goal
 abbrev pub invariant-loop-thread : goal.invariant-loop-thread
 invariant-loop-thread l = record {
   filled : IsFilled (plain_file l.task.file.now) (plain_program l.task.program.now) l.task.most_steps l.goes_on
-      l.initial.spots.items l.spots.items l.steps l.thread l.outcomes.items;
+      l.initial.spots.list.items l.spots.list.items l.steps l.thread l.outcomes.items;
   long : l.goes_on ≡ true →
       HasLongCall (plain_file l.task.file.now) (plain_program l.task.program.now) l.task.most_steps;
-  tree : (place : ℕ) → slice_get (schedules_of l.initial.spots.items) place ≡ Some l.steps →
-      IsTree (plain_file l.task.file.now) (plain_program l.task.program.now) (schedules_of l.initial.spots.items) place
-      0 →
-      IsTree (plain_file l.task.file.now) (plain_program l.task.program.now) (schedules_of l.spots.items) place
+  tree : (place : ℕ) → slice_get (schedules_of l.initial.spots.list.items) place ≡ Some l.steps →
+      IsTree (plain_file l.task.file.now) (plain_program l.task.program.now) (schedules_of l.initial.spots.list.items)
+      place 0 →
+      IsTree (plain_file l.task.file.now) (plain_program l.task.program.now) (schedules_of l.spots.list.items) place
       l.thread;
 }

@@ -24,17 +24,14 @@ pub loop-task-init : goal.loop-task-init
 loop-task-init c =
     let file : File = plain_file c.args.file.now in
     let program : Program = plain_program c.args.program.now in
+    let first = c.in_ok-spots.ensures in
     record {
-      filled = filled_first file program c.args.most_steps c.push.new.self.items c.in_ok-first_spot.field-0
-          c.new-rows.result.items c.new-rows.ensures.items
-          (c.in_ok-push.ensures.items ∙ ap (λ l. l ++ c.in_ok-first_spot.field-0 ∷ []) c.new-spots.ensures.items)
-          c.in_ok-first_spot.ensures;
+      filled = filled_first file program c.args.most_steps c.in_ok-spots.spots.list.items first.0
+          c.new-rows.result.items c.new-rows.ensures.items first.1 first.2;
       long = λ goes. absurd (apart goes);
-      tree = subst (λ (l : List (Vec Outcome Global)). IsTree file program (schedules_of c.push.new.self.items)
-          (length l) 0) (sym c.new-rows.ensures.items)
-          (first_tree file program c.push.new.self.items c.in_ok-first_spot.field-0
-          (c.in_ok-push.ensures.items ∙ ap (λ l. l ++ c.in_ok-first_spot.field-0 ∷ []) c.new-spots.ensures.items)
-          c.in_ok-first_spot.ensures);
+      tree = subst (λ (l : List (Vec Outcome Global)). IsTree file program
+          (schedules_of c.in_ok-spots.spots.list.items) (length l) 0) (sym c.new-rows.ensures.items)
+          (first_tree file program c.in_ok-spots.spots.list.items first.0 first.1 first.2);
     }
   where
     apart : false ≡ true → ⊥
@@ -45,7 +42,7 @@ row_of-requires-clause-serial c =
     let file : File = plain_file c.args.file.now in
     let program : Program = plain_program c.args.program.now in
     subst (λ l. IsSerial (source_history file program l)) (sym c.as_slice-in-loop-task.ensures.value)
-    (serial_to file program c.args.most_steps c.loop-task.spots.items c.len-in-loop-task-3.result
+    (serial_to file program c.args.most_steps c.loop-task.spots.list.items c.len-in-loop-task-3.result
     c.in_ok-steps.steps.items c.loop-task.invariant.filled.are
     (subst (λ l. slice_get (schedules_of l) c.len-in-loop-task-3.result ≡ Some c.in_ok-steps.steps.items)
     c.as_slice.ensures.value c.in_ok-steps.ensures))
@@ -55,7 +52,7 @@ row_of-requires-clause-acts c =
     let file : File = plain_file c.args.file.now in
     let program : Program = plain_program c.args.program.now in
     subst (ActAll file program) (sym c.as_slice-in-loop-task.ensures.value)
-    (acting_to file program c.args.most_steps c.loop-task.spots.items c.len-in-loop-task-3.result
+    (acting_to file program c.args.most_steps c.loop-task.spots.list.items c.len-in-loop-task-3.result
     c.in_ok-steps.steps.items c.loop-task.invariant.filled.are
     (subst (λ l. slice_get (schedules_of l) c.len-in-loop-task-3.result ≡ Some c.in_ok-steps.steps.items)
     c.as_slice.ensures.value c.in_ok-steps.ensures))
@@ -65,27 +62,27 @@ loop-task-preserved c =
     let file : File = plain_file c.args.file.now in
     let program : Program = plain_program c.args.program.now in
     record {
-      filled = subst (AreFilled file program c.args.most_steps c.either-goes_on.result c.row_of.new.spots.items)
-          (sym c.in_ok-push-2.ensures.items)
+      filled = subst (AreFilled file program c.args.most_steps c.either-goes_on.result c.row_of.new.spots.list.items)
+          (sym c.in_ok-push.ensures.items)
           (filled_on file program c.args.most_steps c.loop-task.goes_on c.in_ok-row.row.goes_on c.either-goes_on.result
-          c.loop-task.spots.items c.row_of.new.spots.items c.loop-task.rows.items c.in_ok-row.row.outcomes
+          c.loop-task.spots.list.items c.row_of.new.spots.list.items c.loop-task.rows.items c.in_ok-row.row.outcomes
           c.in_ok-steps.steps.items c.either-goes_on.ensures.none c.loop-task.invariant.filled
-          (subst (λ n. slice_get (schedules_of c.loop-task.spots.items) n ≡ Some c.in_ok-steps.steps.items)
+          (subst (λ n. slice_get (schedules_of c.loop-task.spots.list.items) n ≡ Some c.in_ok-steps.steps.items)
           (omega arith)
           (subst (λ l. slice_get (schedules_of l) c.len-in-loop-task-3.result ≡ Some c.in_ok-steps.steps.items)
           c.as_slice.ensures.value c.in_ok-steps.ensures))
-          (subst (λ l. IsFound file program c.args.most_steps c.in_ok-row.row.goes_on c.loop-task.spots.items
-          c.row_of.new.spots.items l c.in_ok-row.row.outcomes.items) c.as_slice-in-loop-task.ensures.value
+          (subst (λ l. IsFound file program c.args.most_steps c.in_ok-row.row.goes_on c.loop-task.spots.list.items
+          c.row_of.new.spots.list.items l c.in_ok-row.row.outcomes.items) c.as_slice-in-loop-task.ensures.value
           c.in_ok-row.ensures.row));
       long = λ goes. either_long (HasLongCall file program c.args.most_steps) (c.either-goes_on.ensures.one goes)
           c.loop-task.invariant.long c.in_ok-row.ensures.long;
-      tree = subst (λ n. IsTree file program (schedules_of c.row_of.new.spots.items) n 0)
-          (sym (ap length c.in_ok-push-2.ensures.items ∙ length-append c.loop-task.rows.items
+      tree = subst (λ n. IsTree file program (schedules_of c.row_of.new.spots.list.items) n 0)
+          (sym (ap length c.in_ok-push.ensures.items ∙ length-append c.loop-task.rows.items
           (c.in_ok-row.row.outcomes ∷ [])))
           (c.in_ok-row.ensures.tree (length c.loop-task.rows.items)
-          (subst (λ l. slice_get (schedules_of c.loop-task.spots.items) (length c.loop-task.rows.items) ≡ Some l)
+          (subst (λ l. slice_get (schedules_of c.loop-task.spots.list.items) (length c.loop-task.rows.items) ≡ Some l)
           (sym c.as_slice-in-loop-task.ensures.value)
-          (subst (λ n. slice_get (schedules_of c.loop-task.spots.items) n ≡ Some c.in_ok-steps.steps.items)
+          (subst (λ n. slice_get (schedules_of c.loop-task.spots.list.items) n ≡ Some c.in_ok-steps.steps.items)
           (omega arith)
           (subst (λ l. slice_get (schedules_of l) c.len-in-loop-task-3.result ≡ Some c.in_ok-steps.steps.items)
           c.as_slice.ensures.value c.in_ok-steps.ensures)))
@@ -95,10 +92,11 @@ loop-task-preserved c =
 pub returns-clause-outcomes : goal.returns-clause-outcomes
 returns-clause-outcomes c =
     filled_done (plain_file c.args.file.now) (plain_program c.args.program.now) c.args.most_steps c.loop-task.goes_on
-    c.loop-task.spots.items c.loop-task.rows.items (omega (arith, c.loop-task-test.false)) c.loop-task.invariant.filled
+    c.loop-task.spots.list.items c.loop-task.rows.items (omega (arith, c.loop-task-test.false))
+    c.loop-task.invariant.filled
 
 pub returns-then-len-most_states-clause-many : goal.returns-then-len-most_states-clause-many
 returns-then-len-most_states-clause-many c =
-    many_orders (plain_file c.args.file.now) (plain_program c.args.program.now) c.loop-task.spots.items
+    many_orders (plain_file c.args.file.now) (plain_program c.args.program.now) c.loop-task.spots.list.items
     (length c.loop-task.rows.items) 0 c.args.most_states c.loop-task.invariant.filled.are c.loop-task.invariant.tree
     (omega arith)

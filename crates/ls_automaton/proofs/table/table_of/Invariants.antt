@@ -12,10 +12,10 @@ use Rattle.ls_automaton.proofs.table.table_of.Given as goal
 abbrev pub invariant-loop-task : goal.invariant-loop-task
 invariant-loop-task l = record {
   filled : AreFilled (plain_file l.task.file.now) (plain_program l.task.program.now) l.task.most_steps l.goes_on
-      l.spots.items l.rows.items;
+      l.spots.list.items l.rows.items;
   long : l.goes_on ≡ true →
       HasLongCall (plain_file l.task.file.now) (plain_program l.task.program.now) l.task.most_steps;
-  tree : IsTree (plain_file l.task.file.now) (plain_program l.task.program.now) (schedules_of l.spots.items)
+  tree : IsTree (plain_file l.task.file.now) (plain_program l.task.program.now) (schedules_of l.spots.list.items)
       (length l.rows.items) 0;
 }
 

@@ -6,7 +6,7 @@ use Rattle.ls_checked.specs.CheckedProgram.{Program}
 use Rattle.ls_events.specs.declared.event.Event.{Event}
 use Rattle.ls_explore.specs.Rows.{Told}
 use Rattle.ls_linearity.specs.Meant.{IsMeant}
-use Rattle.ls_linearizable.specs.Resting.{AreOnce}
+use Rattle.ls_linearizable.specs.Once.{AreOnce}
 use Rattle.ls_specification.specs.Specification.{spec_file, spec_program}
 use Rattle.ls_explore_reports.specs.Below.{HasNames, IsBelow}
 use Rattle.ls_explore_reports.specs.Judged.{IsToldBelowLike, Judged, SaysNoSet}

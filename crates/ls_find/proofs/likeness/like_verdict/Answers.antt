@@ -2,6 +2,7 @@
 
 use Rattle.std.proofs.Common.{◌≡◌, ◌∙◌, Some, false, inr, subst, sym, true}
 use Rattle.std.proofs.lemmas.Result.{IfOk-weaker}
+use Rattle.ls_explore_reports.proofs.RowsOnce.{rows_once}
 use Rattle.ls_specification.specs.Specification.{spec_file, spec_program}
 use Rattle.ls_translation.specs.Texts.{file_of, program_of}
 use Rattle.ls_find.specs.Likeness.{IsLikeness}
@@ -52,3 +53,7 @@ returns-in-NotJudged c = λ states.
     let one = subst (IsLikeness sfile sprogram c.args.rows.now) c.in-NotJudged.is c.in_ok-rows_likeness.ensures in
     inr (inr (one_unexplained sfile sprogram (file_of c.args.image.now) (program_of c.args.image.now) c.args.setup
     c.args.rows.now c.requires.truth one))
+
+pub rows_likeness-requires : goal.rows_likeness-requires
+rows_likeness-requires c =
+    rows_once (file_of c.args.image.now) (program_of c.args.image.now) c.args.setup c.args.rows.now c.requires.truth

@@ -13,7 +13,7 @@ use Rattle.ls_checked.specs.CheckedTree.{File}
 use Rattle.ls_events.specs.declared.event.Event.{Event}
 use Rattle.ls_linearity.proofs.Decided.{decided}
 use Rattle.ls_linearity.specs.declared.table.SerialTable.{SerialTable}
-use Rattle.ls_linearizable.specs.Resting.{AreOnce}
+use Rattle.ls_linearizable.specs.Once.{AreOnce}
 use Rattle.ls_meaning.specs.Runs.{source_history}
 use Rattle.ls_page.specs.ChoicesData.{IsDecidedBy, IsSerialTable, reference_of, serial_file, serial_program}
 use Rattle.ls_page.specs.Tabled.{tables_of}

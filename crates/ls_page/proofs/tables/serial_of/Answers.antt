@@ -4,16 +4,16 @@ use Rattle.std.proofs.Common.{Option, None, Some, IfNone, IfSome, subst}
 use Rattle.ls_checked.specs.CheckedProgram.{Program}
 use Rattle.ls_checked.specs.CheckedTree.{File}
 use Rattle.ls_labels.specs.Names.{names_of}
-use Rattle.ls_linearity.specs.Tabled.{IsTableOf}
+use Rattle.ls_linearity.specs.Tabled.{IsTableOf, most_states}
 use Rattle.ls_linearity.specs.declared.table.SerialTable.{SerialTable}
 use Rattle.ls_serial_search.specs.Open.{HasManyOrders}
 use Rattle.ls_serial_search.specs.Told.{usual}
 use Rattle.ls_specification.specs.Specification.{spec_file, spec_program}
-use Rattle.ls_page.specs.ChoicesData.{IsSerialTable, most_serial_states, reference_of, serial_program}
+use Rattle.ls_page.specs.ChoicesData.{IsSerialTable, reference_of, serial_program}
 use Rattle.ls_page.proofs.tables.serial_of.Goals as goal
 
 is_table : (file : File) (program : Program) (o : Option SerialTable) →
-    IfSome o (IsTableOf file program usual) → IfNone o (HasManyOrders file program most_serial_states) →
+    IfSome o (IsTableOf file program usual) → IfNone o (HasManyOrders file program most_states) →
     IsSerialTable file program o
 is_table file program None table many = many
 is_table file program (Some t) table many = table

@@ -6,7 +6,7 @@ use Rattle.ls_checked.specs.PlainProgram.{plain_program}
 use Rattle.ls_meaning.specs.Runs.{source_history}
 use Rattle.ls_serial_search.specs.Following.{called}
 use Rattle.ls_serial_search.specs.Histories.{lists_of}
-use Rattle.ls_serial_search.proofs.Kept.{lists_pushed}
+use Rattle.ls_serial_search.proofs.NeverEnding.{lists_pushed}
 use Rattle.ls_serial_search.proofs.endless.push_begun.Goals as goal
 
 pub returns : goal.returns

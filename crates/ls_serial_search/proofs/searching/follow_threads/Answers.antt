@@ -1,15 +1,14 @@
--- Why `follow_threads` in src/searching.rt keeps its clauses `tree` and `tried` and its loop `thread`.
+-- Why `follow_threads` in src/searching.rt keeps its clause `tree` and its loop `thread`.
 
-use Rattle.std.proofs.Common.{ℕ, List, Contains, arith}
+use Rattle.std.proofs.Common.{ℕ, List, Contains}
 use Rattle.ls_checked.specs.CheckedTree.{File}
 use Rattle.ls_checked.specs.CheckedProgram.{Program}
 use Rattle.ls_checked.specs.Plain.{plain_file}
 use Rattle.ls_checked.specs.PlainProgram.{plain_program}
-use Rattle.ls_serial_search.specs.Following.{IsFollowed}
-use Rattle.ls_serial_search.specs.Open.{HasLongCall, IsLongAfter}
+use Rattle.ls_serial_search.specs.Open.{HasLongCall}
 use Rattle.ls_serial_search.specs.Told.{AreMore}
 use Rattle.ls_serial_search.proofs.Apart.{still_there, tree_next}
-use Rattle.ls_serial_search.proofs.Gone.{either_is, more_again, one_or_other, there_more, threads_more, tries_more}
+use Rattle.ls_serial_search.proofs.Gone.{more_again, one_or_other, there_more, threads_more}
 use Rattle.ls_serial_search.proofs.Open.{is_long_call}
 use Rattle.ls_serial_search.proofs.searching.follow_threads.Goals as goal
 
@@ -31,11 +30,6 @@ loop-thread-preserved c =
       followed = λ all there. threads_more file program old new schedule c.loop-thread.thread (more there)
           (c.loop-thread.invariant.followed (c.both-all.ensures.hold all).0 there)
           (c.in_ok-followed.ensures.followed (c.both-all.ensures.hold all).1);
-      tried = λ there serial acts. tries_more file program bound old new schedule c.loop-thread.thread (more there)
-          (c.loop-thread.invariant.tried there serial acts)
-          (either_is c.in_ok-followed.followed (IsFollowed file program new schedule c.loop-thread.thread)
-          (IsLongAfter file program bound schedule c.loop-thread.thread) c.in_ok-followed.ensures.followed
-          (λ e. c.in_ok-followed.ensures.long e serial acts));
       long = λ unfollowed serial acts. one_or_other c.loop-thread.all c.in_ok-followed.followed
           (HasLongCall file program bound) (c.both-all.ensures.fail unfollowed)
           (λ e. c.loop-thread.invariant.long e serial acts)
@@ -53,7 +47,3 @@ pub returns-clause-tree : goal.returns-clause-tree
 returns-clause-tree c = λ place at tree. tree_next (plain_file c.args.task.now.file.now)
     (plain_program c.args.task.now.program.now) c.loop-thread.known.schedules.items place c.loop-thread.thread
     (c.loop-thread.invariant.tree place at tree).0
-
-pub returns-clause-tried : goal.returns-clause-tried
-returns-clause-tried c = λ there serial acts t less. c.loop-thread.invariant.tried there serial acts t
-    (omega (arith, less, c.loop-thread-test.false, c.len-thread-end.ensures))

@@ -10,7 +10,7 @@ use Rattle.ls_serial_search.specs.Open.{HasLongCall}
 use Rattle.ls_serial_search.specs.Parked.{AreParked}
 use Rattle.ls_serial_search.specs.Told.{AreMore}
 use Rattle.ls_serial_search.specs.Tree.{IsTree}
-use Rattle.ls_serial_search.proofs.Gone.{AreFollowed, IsTried, OfThreads}
+use Rattle.ls_serial_search.proofs.Gone.{AreFollowed}
 use Rattle.ls_serial_search.proofs.searching.follow_threads.Given as goal
 
 abbrev pub invariant-loop-thread : goal.invariant-loop-thread
@@ -21,12 +21,6 @@ invariant-loop-thread l = record {
   followed : l.all ≡ true → Contains l.initial.known.schedules.items l.schedule →
       AreFollowed (plain_file l.task.file.now) (plain_program l.task.program.now) l.known.schedules.items l.schedule
       l.thread;
-  tried : Contains l.initial.known.schedules.items l.schedule →
-      IsSerial (source_history (plain_file l.task.file.now) (plain_program l.task.program.now) l.schedule) →
-      ActAll (plain_file l.task.file.now) (plain_program l.task.program.now) l.schedule →
-      OfThreads (plain_file l.task.file.now) (plain_program l.task.program.now)
-      (IsTried (plain_file l.task.file.now) (plain_program l.task.program.now) l.task.most_steps)
-      l.known.schedules.items l.schedule l.thread;
   long : l.all ≡ false →
       IsSerial (source_history (plain_file l.task.file.now) (plain_program l.task.program.now) l.schedule) →
       ActAll (plain_file l.task.file.now) (plain_program l.task.program.now) l.schedule →

@@ -1,4 +1,4 @@
--- Why `search` in src/searching.rt keeps its clauses `complete` and `within` and its loop `at`.
+-- Why `search` in src/searching.rt keeps its clause `complete` and its loop `at`.
 
 use Rattle.std.proofs.Common.{◌<◌, arith, subst, sym}
 use Rattle.std.proofs.lemmas.List.{length-map}
@@ -8,7 +8,7 @@ use Rattle.ls_checked.specs.Plain.{plain_file}
 use Rattle.ls_checked.specs.PlainProgram.{plain_program, plain_thread}
 use Rattle.ls_serial_search.specs.Open.{HasLongCall}
 use Rattle.ls_serial_search.specs.Parked.{IsParked}
-use Rattle.ls_serial_search.proofs.Gone.{gone_all, gone_at, gone_more, gone_there, gone_within, one_or_other}
+use Rattle.ls_serial_search.proofs.Gone.{gone_all, gone_at, gone_more, gone_there, one_or_other}
 use Rattle.ls_serial_search.proofs.Parked.{as_many, is_parked}
 use Rattle.ls_serial_search.proofs.searching.search.Goals as goal
 
@@ -19,16 +19,12 @@ loop-at-preserved c =
     let there = gone_there file program c.loop-at.orders.schedules.items c.in_ok-schedule.schedule c.index.result.now
     c.loop-at.at (omega arith) c.index.ensures c.in_ok-schedule.ensures in
     record {
-      gone = gone_more file program c.args.task.now.most_steps c.loop-at.orders.schedules.items
+      gone = gone_more file program c.loop-at.orders.schedules.items
           c.follow_threads.new.known.schedules.items c.in_ok-schedule.schedule c.index.result.now c.loop-at.at
           c.loop-at.complete c.in_ok-followed.followed
           c.both-complete.result (omega arith) c.index.ensures c.in_ok-schedule.ensures
           c.loop-at.invariant.gone c.in_ok-followed.ensures.more
           (λ f there t lt. c.in_ok-followed.ensures.followed f there t
-          (subst (λ n. t < n) (length-map c.args.task.now.program.now.threads.items plain_thread) lt))
-          (λ t lt. c.in_ok-followed.ensures.tried there
-          (c.loop-at.invariant.gone.serial c.in_ok-schedule.schedule there)
-          (c.loop-at.invariant.gone.acts c.in_ok-schedule.schedule there) t
           (subst (λ n. t < n) (length-map c.args.task.now.program.now.threads.items plain_thread) lt))
           c.both-complete.ensures.hold;
       long = λ unfollowed. one_or_other c.loop-at.complete c.in_ok-followed.followed
@@ -44,13 +40,7 @@ loop-at-preserved c =
 
 pub returns-clause-complete : goal.returns-clause-complete
 returns-clause-complete c = gone_all (plain_file c.args.task.now.file.now) (plain_program c.args.task.now.program.now)
-    c.args.task.now.most_steps c.loop-at.orders.schedules.items c.loop-at.at c.loop-at.complete c.loop-at.invariant.gone
-    (omega arith)
-
-pub returns-clause-within : goal.returns-clause-within
-returns-clause-within c = λ few. gone_within (plain_file c.args.task.now.file.now)
-    (plain_program c.args.task.now.program.now) c.args.task.now.most_steps c.loop-at.orders.schedules.items c.loop-at.at
-    c.loop-at.complete c.loop-at.invariant.gone (omega arith)
+    c.loop-at.orders.schedules.items c.loop-at.at c.loop-at.complete c.loop-at.invariant.gone (omega arith)
 
 pub index-requires-in-loop-at : goal.index-requires-in-loop-at
 index-requires-in-loop-at c = omega (

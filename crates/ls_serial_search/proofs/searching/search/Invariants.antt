@@ -11,8 +11,7 @@ use Rattle.ls_serial_search.proofs.searching.search.Given as goal
 
 abbrev pub invariant-loop-at : goal.invariant-loop-at
 invariant-loop-at l = record {
-  gone : IsGone (plain_file l.task.file.now) (plain_program l.task.program.now) l.task.most_steps
-      l.orders.schedules.items l.at
+  gone : IsGone (plain_file l.task.file.now) (plain_program l.task.program.now) l.orders.schedules.items l.at
       l.complete;
   long : l.complete ≡ false →
       HasLongCall (plain_file l.task.file.now) (plain_program l.task.program.now) l.task.most_steps;
