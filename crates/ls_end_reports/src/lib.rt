@@ -2,8 +2,10 @@
 #![tactic(auto)]
 
 mod lassos;
+mod livelocks;
 mod words;
 mod writing;
 
+pub use livelocks::livelock_line;
 pub use words::print_calls;
 pub use writing::{CallText, FairText, FreeText, GoingText, written_calls};

@@ -1,12 +1,13 @@
-// What `explore --verdict` says of threads that turn for ever, and beside `none` of calls that run one at a time and of
-// data races.
+// What `explore --verdict` says of threads that turn for ever, and beside `none` of calls that run one at a time, of
+// livelocks and of data races.
 
-ghost use Rattle.std.specs.Prelude.{◌≡◌, IfOk, IsTrue, map, string_bytes, true};
+ghost use Rattle.std.specs.Prelude.{◌≡◌, ◌++◌, IfOk, IfSome, IsTrue, map, string_bytes, true};
 ghost use Rattle.ls_alone.specs.Alone.{AreSaid};
-ghost use Rattle.ls_explore_commands.specs.Beside.{IsBeside, beside_text};
+ghost use Rattle.ls_explore_commands.specs.Beside.{AreLines, IsBeside, IsLivelockSaid, beside_text};
 ghost use Rattle.ls_explore_reports.specs.ImageNames.{names_in as image_names};
 ghost use Rattle.ls_image.specs.Images.{program_of_image};
 ghost use Rattle.ls_labels.specs.Names.{names_of};
+ghost use Rattle.ls_progress_laws.specs.Livelocks.{IsLivelock};
 ghost use Rattle.ls_race_laws.specs.Meeting.{NeverMeets};
 ghost use Rattle.ls_race_reports.specs.Verdicts.{IsRaceVerdict};
 ghost use Rattle.ls_races.specs.Volatile.{volatile_by};
@@ -16,9 +17,11 @@ ghost use Rattle.ls_spinning.specs.declared.finding.Turning.TheVariants.{Never};
 ghost use Rattle.ls_translation.specs.Texts.{file_of, program_of};
 
 use ls_alone::fault_lines;
+use ls_end_reports::livelock_line;
 use ls_explore_reports::names_in;
 use ls_image::image::Image;
 use ls_labels::names::Names;
+use ls_progress::{Lasso, Scope as EndsScope, find_livelock};
 use ls_race_reports::{
     RaceVerdict, flags_in, free_words, has_try_lock, kind_words, race_verdict, raced_words,
 };
@@ -77,6 +80,39 @@ fn read_graph(
     Ok(told)
 }
 
+/// A livelock of an image's program, if one is found among so many states.
+fn livelock_in(alloc: Global, image: &Image, states: usize) -> Result<Option<Lasso>, AllocError>
+    ensures { IfOk result (λ o. IfSome o (λ l.
+        IsLivelock (file_of image.now) (program_of image.now) l.way.items l.cycle.items)) }
+{
+    let found = find_livelock(EndsScope {
+        alloc,
+        file: image.checked().file(),
+        program: image.program(),
+        limit: states,
+        again: false,
+    })?;
+    Ok(found)
+}
+
+/// What is said of livelocks of an image's program. They are looked for if steps go round.
+fn livelock_words(
+    alloc: Global,
+    image: &Image,
+    states: usize,
+    goes_round: bool,
+) -> Result<String, AllocError>
+    ensures { IfOk result (λ text. IsLivelockSaid image.now (string_bytes text)) }
+{
+    if !goes_round {
+        return Ok(String::new(alloc));
+    }
+    match livelock_in(alloc, image, states)? {
+        None => Ok(String::new(alloc)),
+        Some(lasso) => livelock_line(alloc, &lasso, image.program()),
+    }
+}
+
 /// Whether an image's program has a data race, where it may be known that it has none.
 fn verdict_of(
     alloc: Global,
@@ -100,13 +136,40 @@ fn verdict_of(
 #[derive(Drop)]
 pub(crate) struct Told {
     pub turning: Turning,
-    /// Lines on calls that run one at a time and on data races, where threads never turn for ever.
+    /// Lines on calls that run one at a time, on livelocks and on data races, where threads never turn for ever.
     pub beside: String,
 }
 
-/// Whether threads of an image's program turn for ever, and if they never do, what calls that run one at a time do, and
-/// whether it has a data race by its class text. For races at most so many states are kept, and for turning twice as
-/// many. If no accesses meet, one graph tells both. The refusals are those of `find_turning` and of `find_races`.
+/// Lines, and below them these.
+fn with_lines(lines: String, livelock: &str, races: &str) -> Result<String, AllocError>
+    ensures { IfOk result (λ text. string_bytes text ≡ string_bytes lines ++ (livelock.now ++ races.now)) }
+{
+    let mut text = lines;
+    text.push_str(livelock)?;
+    text.push_str(races)?;
+    Ok(text)
+}
+
+/// The lines beside `none`: what calls that run one at a time do, a livelock, and this line on data races.
+fn lines_of(
+    alloc: Global,
+    image: &Image,
+    states: usize,
+    goes_round: bool,
+    races: &str,
+) -> Result<String, AllocError>
+    ensures { IfOk result (λ text. AreLines image.now races.now (string_bytes text)) }
+{
+    let alone = alone_lines(alloc, image)?;
+    let livelock = livelock_words(alloc, image, states.saturating_mul(2), goes_round)?;
+    let lines = with_lines(alone, livelock.as_str(), races)?;
+    Ok(lines)
+}
+
+/// Whether threads of an image's program turn for ever, and if they never do, what calls that run one at a time do,
+/// whether a livelock is found, and whether there is a data race by the class text. For races at most so many states
+/// are kept, and for turning and livelocks twice as many. If no accesses meet, one graph tells of turning and of races.
+/// The refusals are those of `find_turning`, of `find_livelock` and of `find_races`.
 pub(crate) fn told_of(
     alloc: Global,
     image: &Image,
@@ -119,14 +182,17 @@ pub(crate) fn told_of(
 {
     let declared = flags_in(alloc, classes)?;
     let flags = declared.as_slice();
-    let TurningAndRaces { turning, race_free } = read_graph(alloc, image, flags, states)?;
+    let TurningAndRaces {
+        turning,
+        race_free,
+        goes_round,
+    } = read_graph(alloc, image, flags, states)?;
     match turning {
         Turning::Never => {
             let verdict = verdict_of(alloc, image, flags, states, race_free)?;
             let tries = has_try_lock(classes);
             let race_line = beside_words(alloc, names_in(image), flags, tries, &verdict)?;
-            let mut beside = alone_lines(alloc, image)?;
-            beside.push_str(race_line.as_str())?;
+            let beside = lines_of(alloc, image, states, goes_round, race_line.as_str())?;
             Ok(Told {
                 turning: Turning::Never,
                 beside,

@@ -10,3 +10,4 @@ pub mod Weaker
 pub mod ThreadConstants
 pub mod Repeating
 pub mod Shown
+pub mod OfPrograms

@@ -8,3 +8,4 @@ pub mod Ranks
 pub mod Cycles
 pub mod Ends
 pub mod Judged
+pub mod Livelocks

@@ -61,7 +61,7 @@ fn shown_fairly_by(
 }
 
 /// The same, if also no lock passes over a thread for ever.
-fn shown_by_locks(
+pub(crate) fn shown_by_locks(
     labelled: Labelled<'_>,
     round: &Round,
     kind: Kind,

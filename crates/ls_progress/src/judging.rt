@@ -6,6 +6,7 @@ ghost use Rattle.ls_progress_laws.specs.Progress.{lock_free, wait_free};
 ghost use Rattle.ls_progress.specs.Ends.{AreEndsOf, calls_from, calls_of, calls_to, keys};
 ghost use Rattle.ls_progress.specs.Judged.{AreEndsIn, GoesIn, IsCallEndsIn, IsFairIn, IsFreeIn, IsLabelled};
 ghost use Rattle.ls_progress.specs.Judged.{IsWholeGraph, file_in, program_in};
+ghost use Rattle.ls_progress.specs.Labels.{AreLabels};
 ghost use Rattle.ls_progress.specs.declared.judging.Going.TheVariants.{Nothing};
 
 use crate::components::{Outgoing, outgoing_of};
@@ -186,10 +187,10 @@ fn judge_calls(
 
 /// The graph of a program's states.
 #[derive(Copy)]
-struct Whole<'a> {
-    scope: Scope<'a>,
-    closing: &'a Closing<Kept>,
-    outgoing: &'a Outgoing,
+pub(crate) struct Whole<'a> {
+    pub(crate) scope: Scope<'a>,
+    pub(crate) closing: &'a Closing<Kept>,
+    pub(crate) outgoing: &'a Outgoing,
 }
 
 impl<'a> Clone for Whole<'a> {
@@ -198,8 +199,21 @@ impl<'a> Clone for Whole<'a> {
     }
 }
 
-/// Adds what is told of the calls of a thread. It is refused too if the calls that are pending don't follow from the
-/// edges, as they do.
+/// Which call of a thread is pending at each state. It is refused too if these don't follow from the edges, as they do.
+pub(crate) fn labels_in(whole: Whole<'_>, thread: u8) -> Result<Vec<Option<u32>>, AllocError>
+    ensures { IfOk result (λ labels.
+        AreLabels thread whole.entry.closing.now.graph.edges.items labels.items) }
+{
+    let edges = &whole.closing.graph.edges;
+    let states = whole.closing.graph.found.nodes.len();
+    let labels = labels_of(whole.scope.alloc, edges, states, thread)?;
+    if !are_labels(edges, &labels, thread) {
+        return Err(AllocError);
+    }
+    Ok(labels)
+}
+
+/// Adds what is told of the calls of a thread. The refusals are those of `labels_in` too.
 fn judge_thread(
     whole: Whole<'_>,
     thread: u8,
@@ -211,12 +225,7 @@ fn judge_thread(
     ensures ends { OnOk result (AreEndsIn whole.entry.scope calls.new.items) }
     ensures listed { OnOk result (keys calls.new.items ≡ keys calls.old.items ++ calls_to thread count) }
 {
-    let edges = &whole.closing.graph.edges;
-    let states = whole.closing.graph.found.nodes.len();
-    let labels = labels_of(whole.scope.alloc, edges, states, thread)?;
-    if !are_labels(edges, &labels, thread) {
-        return Err(AllocError);
-    }
+    let labels = labels_in(whole, thread)?;
     let labelled = Labelled {
         scope: whole.scope,
         closing: whole.closing,

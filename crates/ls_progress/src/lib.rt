@@ -11,6 +11,7 @@ mod kinds;
 mod labelled;
 mod labels;
 mod lassos;
+mod livelocks;
 mod passing;
 mod ranking;
 mod ranks;
@@ -20,4 +21,5 @@ mod states;
 
 pub use judging::{CallEnds, Ends, Fair, Free, Going, ends_of};
 pub use lassos::Lasso;
+pub use livelocks::find_livelock;
 pub use states::Scope;

@@ -9,6 +9,7 @@ mod nodes;
 mod one_graph;
 mod playing;
 mod replaying;
+mod rounds;
 mod space;
 
 pub use accesses::is_unsure;

@@ -12,6 +12,7 @@ ghost use Rattle.ls_spinning.specs.Told.{IsTurning};
 ghost use Rattle.ls_transitions.specs.Seen.{table_of};
 
 use crate::finding::Scope;
+use crate::rounds::go_round;
 use crate::space::meet_at;
 use ls_graph::closing::is_whole;
 use ls_search::space::Kept;
@@ -27,6 +28,8 @@ pub struct TurningAndRaces {
     pub turning: Turning,
     /// True only where accesses meet after no schedule, of any length.
     pub race_free: bool,
+    /// Whether steps that act lead from a state back to it. No clause says so.
+    pub goes_round: bool,
 }
 
 /// Whether accesses of threads meet at none of these states. True only where none do.
@@ -88,10 +91,17 @@ pub fn turning_and_races(scope: Scope<'_>) -> Result<TurningAndRaces, AllocError
         return Ok(TurningAndRaces {
             turning: Turning::Unknown,
             race_free: false,
+            goes_round: true,
         });
     };
     let mut led = led;
     let turning = turning_in(states, &mut led)?;
     let race_free = is_quiet(scope, &mut led)?;
-    Ok(TurningAndRaces { turning, race_free })
+    let graph = &led.closing.graph;
+    let goes_round = go_round(scope.alloc, &graph.edges, graph.found.nodes.len())?;
+    Ok(TurningAndRaces {
+        turning,
+        race_free,
+        goes_round,
+    })
 }

@@ -1,0 +1,3 @@
+pub mod Spending
+pub mod Rounds
+pub mod Running
