@@ -8,7 +8,7 @@ use Rattle.ls_command_line.specs.declared.words.Request.{Request}
 use Rattle.ls_command_line.specs.declared.words.Request.TheVariants as request
 
 abbrev plainly : Request → CommandLine
-plainly r = record { request = r; explain = false; spec = false }
+plainly r = record { request = r; explain = false; spec = false; java = false }
 
 nine_cells : (p : ValueParser) →
     request_of p (codes "listset" ∷ codes "replay" ∷ codes "--cells" ∷ codes "9" ∷ []) ≡
@@ -61,15 +61,25 @@ help p = refl
 
 explained : (p : ValueParser) →
     request_of p (codes "listset" ∷ codes "source" ∷ codes "--explain" ∷ []) ≡
-    Some (record { request = request.Source; explain = true; spec = false })
+    Some (record { request = request.Source; explain = true; spec = false; java = false })
 unfolding clap_on_literals
 explained p = refl
 
 by_a_reference : (p : ValueParser) →
     request_of p (codes "listset" ∷ codes "explore" ∷ codes "--verdict" ∷ codes "--spec" ∷ []) ≡
-    Some (record { request = request.Verdict 1000000 false; explain = false; spec = true })
+    Some (record { request = request.Verdict 1000000 false; explain = false; spec = true; java = false })
 unfolding clap_on_literals
 by_a_reference p = refl
+
+of_a_java_file : (p : ValueParser) →
+    request_of p (codes "listset" ∷ codes "compile" ∷ codes "--java" ∷ []) ≡
+    Some (record { request = request.Compile; explain = false; spec = false; java = true })
+unfolding clap_on_literals
+of_a_java_file p = refl
+
+not_twice : (p : ValueParser) → request_of p (codes "listset" ∷ codes "java" ∷ codes "--java" ∷ []) ≡ None
+unfolding clap_on_literals
+not_twice p = refl
 
 some_steps : (p : ValueParser) →
     request_of p (codes "listset" ∷ codes "trace" ∷ codes "--from" ∷ codes "12" ∷ []) ≡

@@ -63,19 +63,23 @@ cells_rule = number_rule false (codes "cells")
 abbrev pub with_explain : Text → App
 with_explain name = with_rule (new_app name) (flag_rule (codes "explain"))
 
+-- a command that reads a class text first, with the option that this is a Java file
+abbrev pub with_java : Text → App
+with_java name = with_rule (with_explain name) (flag_rule (codes "java"))
+
 abbrev pub replay_line : App
-replay_line = with_rule (with_rule (with_explain (codes "replay")) cells_rule) (flag_rule (codes "live"))
+replay_line = with_rule (with_rule (with_java (codes "replay")) cells_rule) (flag_rule (codes "live"))
 
 abbrev pub trace_line : App
 trace_line =
     with_rule
     (with_rule
-    (with_rule (with_explain (codes "trace")) (number_rule false (codes "from")))
+    (with_rule (with_java (codes "trace")) (number_rule false (codes "from")))
     (number_rule false (codes "to")))
     (flag_rule (codes "fold"))
 
 abbrev pub order_line : App
-order_line = with_rule (with_explain (codes "order")) spec_rule
+order_line = with_rule (with_java (codes "order")) spec_rule
 
 abbrev pub page_line : App
 page_line =
@@ -83,7 +87,7 @@ page_line =
     (with_rule
     (with_rule
     (with_rule
-    (with_rule (with_explain (codes "page")) (number_rule false (codes "from")))
+    (with_rule (with_java (codes "page")) (number_rule false (codes "from")))
     (number_rule false (codes "to")))
     (flag_rule (codes "choose")))
     (number_rule false (codes "states")))
@@ -94,16 +98,16 @@ state_line =
     with_rule
     (with_rule
     (with_rule
-    (with_rule (with_explain (codes "state")) (flag_rule (codes "dot")))
+    (with_rule (with_java (codes "state")) (flag_rule (codes "dot")))
     (flag_rule (codes "each")))
     (number_rule false (codes "from")))
     (number_rule false (codes "to"))
 
 abbrev pub translate_line : ValueParser → App
-translate_line p = with_rule (with_rule (with_explain (codes "translate")) (side_rule p)) cells_rule
+translate_line p = with_rule (with_rule (with_java (codes "translate")) (side_rule p)) cells_rule
 
 abbrev pub live_line : App
-live_line = with_rule (with_rule (with_explain (codes "live")) cells_rule) (number_rule false (codes "limit"))
+live_line = with_rule (with_rule (with_java (codes "live")) cells_rule) (number_rule false (codes "limit"))
 
 -- the option of a thread that is drawn by chance 1 in a number
 abbrev pub switch_rule : Rule
@@ -117,7 +121,7 @@ batch_line =
     (with_rule
     (with_rule
     (with_rule
-    (with_rule (with_explain (codes "batch")) (number_rule true (codes "seed")))
+    (with_rule (with_java (codes "batch")) (number_rule true (codes "seed")))
     (number_rule true (codes "count")))
     (number_rule true (codes "steps")))
     switch_rule)
@@ -130,7 +134,7 @@ sample_line =
     with_rule
     (with_rule
     (with_rule
-    (with_rule (with_explain (codes "sample")) (number_rule true (codes "seed")))
+    (with_rule (with_java (codes "sample")) (number_rule true (codes "seed")))
     (number_rule true (codes "steps")))
     switch_rule)
     cells_rule
@@ -147,7 +151,7 @@ explore_line =
     (with_rule
     (with_rule
     (with_rule
-    (with_rule (with_explain (codes "explore")) cells_rule)
+    (with_rule (with_java (codes "explore")) cells_rule)
     (number_rule false (codes "states")))
     (flag_rule (codes "illegal")))
     (flag_rule (codes "first")))
@@ -166,7 +170,7 @@ bounds_line =
     (with_rule
     (with_rule
     (with_rule
-    (with_rule (with_explain (codes "find")) (number_rule false (codes "threads")))
+    (with_rule (with_java (codes "find")) (number_rule false (codes "threads")))
     (number_rule false (codes "calls")))
     (number_rule false (codes "setup")))
     (number_rule false (codes "values")))
@@ -231,13 +235,13 @@ line p =
     (with_subcommand
     (with_subcommand top_line (with_explain (codes "check")).top)
     order_line.top)
-    (with_explain (codes "compile")).top)
+    (with_java (codes "compile")).top)
     replay_line.top)
-    (with_explain (codes "source")).top)
+    (with_java (codes "source")).top)
     trace_line.top)
     state_line.top)
     page_line.top)
-    (with_explain (codes "aim")).top)
+    (with_java (codes "aim")).top)
     (translate_line p).top)
     live_line.top)
     batch_line.top)
@@ -383,11 +387,12 @@ asked name rows =
 
 -- with what all commands are asked
 abbrev pub asked_by : Option (Text × List Row) → CommandLine
-asked_by None = record { request = requests.Check; explain = false; spec = false }
+asked_by None = record { request = requests.Check; explain = false; spec = false; java = false }
 asked_by (Some p) = record {
   request = asked p.0 p.1;
   explain = flag_of (codes "explain") p.1;
   spec = flag_of (codes "spec") p.1;
+  java = flag_of (codes "java") p.1;
 }
 
 -- the second where the first is empty

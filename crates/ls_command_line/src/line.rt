@@ -6,7 +6,7 @@ ghost use Rattle.clap.specs.declared.builder.command.Command.TheViews.{out-Comma
 ghost use Rattle.ls_command_line.specs.Words.{NamesSides, batch_line, flag_rule, line, live_line};
 ghost use Rattle.ls_command_line.specs.Words.{merge_line, number_rule, order_line, page_line, replay_line, sample_line};
 ghost use Rattle.ls_command_line.specs.Words.{side_rule, spec_rule, state_line, switch_rule, top_line, trace_line};
-ghost use Rattle.ls_command_line.specs.Words.{translate_line, u64_parser, with_explain};
+ghost use Rattle.ls_command_line.specs.Words.{translate_line, u64_parser, with_explain, with_java};
 
 use crate::plain::{aim_command, check_command, compile_command, java_command, source_command};
 use crate::searches::{explore_command, find_command};
@@ -45,6 +45,22 @@ pub(crate) fn plain_command<'a>(
             "explain",
             "shows the line in which a fault stands, with a mark under its place",
         ))
+}
+
+/// A command that reads a class text first, with the option that this is a Java file.
+pub(crate) fn class_command<'a>(
+    alloc: Global,
+    name: &'a str,
+    about: &'a str,
+    after_help: &'a str,
+) -> Result<Command<'a>, AllocError>
+    ensures shape { IfOk result (λ c. app_of c ≡ with_java name.entry.now) }
+    ensures local { IfOk result (λ c. (out-Command c).has_globals ≡ false) }
+{
+    let command = plain_command(alloc, name, about, after_help);
+    let help =
+        "reads Java as it is written in the place of the class text, and tells first what is restated";
+    with_option(command, flag_option(alloc, "java", help))
 }
 
 /// The command with one more option, where there is a command.
@@ -168,7 +184,7 @@ fn replay_command<'a>(alloc: Global) -> Result<Command<'a>, AllocError>
     ensures shape { IfOk result (λ c. app_of c ≡ replay_line) }
     ensures local { IfOk result (λ c. (out-Command c).has_globals ≡ false) }
 {
-    let command = plain_command(
+    let command = class_command(
         alloc,
         "replay",
         "Compiles a program and runs it under a schedule of machine instructions",
@@ -185,7 +201,7 @@ fn translate_command<'a>(alloc: Global) -> Result<Command<'a>, AllocError>
     ensures shape { (p : _) × NamesSides p × IfOk result (λ c. app_of c ≡ translate_line p) }
     ensures local { IfOk result (λ c. (out-Command c).has_globals ≡ false) }
 {
-    let command = plain_command(
+    let command = class_command(
         alloc,
         "translate",
         "Prints the schedule of source steps for one of instructions, or the other way round",
@@ -202,7 +218,7 @@ fn live_command<'a>(alloc: Global) -> Result<Command<'a>, AllocError>
     ensures shape { IfOk result (λ c. app_of c ≡ live_line) }
     ensures local { IfOk result (λ c. (out-Command c).has_globals ≡ false) }
 {
-    let command = plain_command(
+    let command = class_command(
         alloc,
         "live",
         "Runs each thread on a thread of its own, and prints the recorded schedule and its history",
@@ -222,7 +238,7 @@ fn batch_command<'a>(alloc: Global) -> Result<Command<'a>, AllocError>
     ensures shape { IfOk result (λ c. app_of c ≡ batch_line) }
     ensures local { IfOk result (λ c. (out-Command c).has_globals ≡ false) }
 {
-    let command = plain_command(
+    let command = class_command(
         alloc,
         "batch",
         "Runs a program under many sampled schedules, and prints each history once with its count",
@@ -254,7 +270,7 @@ fn sample_command<'a>(alloc: Global) -> Result<Command<'a>, AllocError>
     ensures shape { IfOk result (λ c. app_of c ≡ sample_line) }
     ensures local { IfOk result (λ c. (out-Command c).has_globals ≡ false) }
 {
-    let command = plain_command(
+    let command = class_command(
         alloc,
         "sample",
         "Prints the schedule of instructions that batch runs for one seed",
@@ -292,7 +308,7 @@ fn order_command<'a>(alloc: Global) -> Result<Command<'a>, AllocError>
     ensures shape { IfOk result (λ c. app_of c ≡ order_line) }
     ensures local { IfOk result (λ c. (out-Command c).has_globals ≡ false) }
 {
-    let command = plain_command(
+    let command = class_command(
         alloc,
         "order",
         "Finds an order of calls that explains a history, or the event from which on there is none",
@@ -306,7 +322,7 @@ fn trace_command<'a>(alloc: Global) -> Result<Command<'a>, AllocError>
     ensures shape { IfOk result (λ c. app_of c ≡ trace_line) }
     ensures local { IfOk result (λ c. (out-Command c).has_globals ≡ false) }
 {
-    let command = plain_command(
+    let command = class_command(
         alloc,
         "trace",
         "Tells step by step what a run from the Java text does",
@@ -339,7 +355,7 @@ fn page_command<'a>(alloc: Global) -> Result<Command<'a>, AllocError>
     ensures shape { IfOk result (λ c. app_of c ≡ page_line) }
     ensures local { IfOk result (λ c. (out-Command c).has_globals ≡ false) }
 {
-    let command = plain_command(
+    let command = class_command(
         alloc,
         "page",
         "Prints what a page shows of a run from the Java text, or of all runs of a program",
@@ -380,7 +396,7 @@ fn state_command<'a>(alloc: Global) -> Result<Command<'a>, AllocError>
     ensures shape { IfOk result (λ c. app_of c ≡ state_line) }
     ensures local { IfOk result (λ c. (out-Command c).has_globals ≡ false) }
 {
-    let command = plain_command(
+    let command = class_command(
         alloc,
         "state",
         "Shows what each object holds and what each thread does next, behind a schedule of source steps",

@@ -3,9 +3,9 @@
 ghost use Rattle.std.specs.Prelude.{◌≡◌, IfOk, codes, false};
 ghost use Rattle.clap.specs.Words.{app_of};
 ghost use Rattle.clap.specs.declared.builder.command.Command.TheViews.{out-Command};
-ghost use Rattle.ls_command_line.specs.Words.{with_explain};
+ghost use Rattle.ls_command_line.specs.Words.{with_explain, with_java};
 
-use crate::line::plain_command;
+use crate::line::{class_command, plain_command};
 use clap::Command;
 use std::alloc::{AllocError, Global};
 
@@ -23,10 +23,10 @@ pub(crate) fn check_command<'a>(alloc: Global) -> Result<Command<'a>, AllocError
 }
 
 pub(crate) fn compile_command<'a>(alloc: Global) -> Result<Command<'a>, AllocError>
-    ensures shape { IfOk result (λ c. app_of c ≡ with_explain (codes "compile")) }
+    ensures shape { IfOk result (λ c. app_of c ≡ with_java (codes "compile")) }
     ensures local { IfOk result (λ c. (out-Command c).has_globals ≡ false) }
 {
-    plain_command(
+    class_command(
         alloc,
         "compile",
         "Compiles a program, and counts its classes, methods and threads",
@@ -36,10 +36,10 @@ pub(crate) fn compile_command<'a>(alloc: Global) -> Result<Command<'a>, AllocErr
 }
 
 pub(crate) fn source_command<'a>(alloc: Global) -> Result<Command<'a>, AllocError>
-    ensures shape { IfOk result (λ c. app_of c ≡ with_explain (codes "source")) }
+    ensures shape { IfOk result (λ c. app_of c ≡ with_java (codes "source")) }
     ensures local { IfOk result (λ c. (out-Command c).has_globals ≡ false) }
 {
-    plain_command(
+    class_command(
         alloc,
         "source",
         "Runs a program from its Java text under a schedule of source steps",
@@ -49,10 +49,10 @@ pub(crate) fn source_command<'a>(alloc: Global) -> Result<Command<'a>, AllocErro
 }
 
 pub(crate) fn aim_command<'a>(alloc: Global) -> Result<Command<'a>, AllocError>
-    ensures shape { IfOk result (λ c. app_of c ≡ with_explain (codes "aim")) }
+    ensures shape { IfOk result (λ c. app_of c ≡ with_java (codes "aim")) }
     ensures local { IfOk result (λ c. (out-Command c).has_globals ≡ false) }
 {
-    plain_command(
+    class_command(
         alloc,
         "aim",
         "Prints the schedule of source steps that stops threads before what they are to do",

@@ -4,9 +4,9 @@ ghost use Rattle.std.specs.Prelude.{◌≡◌, IfOk, codes, false};
 ghost use Rattle.clap.specs.Words.{app_of, rule_of, with_rule};
 ghost use Rattle.clap.specs.declared.builder.command.Command.TheViews.{out-Command};
 ghost use Rattle.ls_command_line.specs.Words.{bounds_line, cells_rule, explore_line, find_line, number_rule};
-ghost use Rattle.ls_command_line.specs.Words.{numbers_line, with_explain};
+ghost use Rattle.ls_command_line.specs.Words.{numbers_line, with_java};
 
-use crate::line::{flag_option, number_option, plain_command, with_option, with_reference};
+use crate::line::{class_command, flag_option, number_option, with_option, with_reference};
 use clap::{Arg, Command};
 use std::alloc::{AllocError, Global};
 
@@ -26,10 +26,10 @@ fn machine_option<'a>(alloc: Global) -> Arg<'a>
 /// The command with what it explores: a machine of so many words, or the source, up to so many states.
 fn states_command<'a>(alloc: Global) -> Result<Command<'a>, AllocError>
     ensures shape { IfOk result (λ c. app_of c ≡
-        with_rule (with_rule (with_explain (codes "explore")) cells_rule) (number_rule false (codes "states"))) }
+        with_rule (with_rule (with_java (codes "explore")) cells_rule) (number_rule false (codes "states"))) }
     ensures local { IfOk result (λ c. (out-Command c).has_globals ≡ false) }
 {
-    let command = plain_command(
+    let command = class_command(
         alloc,
         "explore",
         "Finds the histories of all schedules of a program, with a schedule of source steps for each",
@@ -107,7 +107,7 @@ fn bounds_command<'a>(alloc: Global) -> Result<Command<'a>, AllocError>
     ensures shape { IfOk result (λ c. app_of c ≡ bounds_line) }
     ensures local { IfOk result (λ c. (out-Command c).has_globals ≡ false) }
 {
-    let command = plain_command(
+    let command = class_command(
         alloc,
         "find",
         "Finds the first small program of a class that isn't linearizable, or whose threads wait or turn for ever",

@@ -203,6 +203,8 @@ pub struct CommandLine {
     pub explain: bool,
     /// Whether the last part is a reference: a class text by which the others are judged.
     pub spec: bool,
+    /// Whether the first part is a Java file, in whose place its class text is read.
+    pub java: bool,
 }
 
 impl Clone for CommandLine {
@@ -266,11 +268,13 @@ fn chosen(matches: &ArgMatches<'_>) -> CommandLine
             request: asked(name, options),
             explain: flag(options, "explain"),
             spec: flag(options, "spec"),
+            java: flag(options, "java"),
         },
         None => CommandLine {
             request: Request::Check,
             explain: false,
             spec: false,
+            java: false,
         },
     }
 }

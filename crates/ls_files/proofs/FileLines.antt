@@ -3,7 +3,7 @@ use Rattle.std.proofs.Common.{◌≡◌, ◌∙◌, ◌+◌, ◌==◌, ℕ, zero
 use Rattle.std.proofs.Common.{map, ◌≤◌, arith}
 use Rattle.std.proofs.Common.{refl, sym, ap}
 use Rattle.ls_items.specs.Parts.{lines_of, onto_first, part_of}
-use Rattle.ls_files.specs.Files.{Bytes, ends_file, ends_part, last_line_from, next_line, start_in, unmarked}
+use Rattle.ls_files.specs.Files.{Bytes, end_in, ends_file, ends_part, last_line_from, next_line, start_in, unmarked}
 use Rattle.ls_files.specs.Files.{unmarked_line}
 use Rattle.ls_files.specs.declared.lines.FileLine.{FileLine}
 
@@ -89,3 +89,16 @@ next_room here line first = go (ends_file line)
     go : (t : Bool) → (1 ≤ (next t).line) × ((next t).file + (next t).line ≤ here.file + here.line + 1)
     go true = (omega arith, omega (arith, first))
     go false = (omega arith, omega arith)
+
+-- the first line that ends a part: at such a line, and at another
+pub end_here : (at : ℕ) (bs line : Bytes) (lines : List Bytes) →
+    lines_of bs ≡ line ∷ lines →
+    ends_part line ≡ true →
+    end_in at (lines_of bs) ≡ at
+end_here at bs line lines e is = ap (end_in at) e ∙ ap (λ b. cond b at (end_in (at + length line + 1) lines)) is
+
+pub end_goes_on : (at : ℕ) (bs line : Bytes) (lines : List Bytes) →
+    lines_of bs ≡ line ∷ lines →
+    ends_part line ≡ false →
+    end_in at (lines_of bs) ≡ end_in (at + length line + 1) lines
+end_goes_on at bs line lines e is = ap (end_in at) e ∙ ap (λ b. cond b at (end_in (at + length line + 1) lines)) is

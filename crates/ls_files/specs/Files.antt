@@ -53,3 +53,12 @@ start_in (suc number) at (line ∷ lines) =
 -- the byte with which the part of a number begins, from 0
 abbrev pub part_start : Bytes → ℕ → ℕ
 part_start input number = start_in number 0 (lines_of input)
+
+-- where the first line begins that ends a part, in lines of which the first begins at a byte
+abbrev pub end_in : ℕ → List Bytes → ℕ
+end_in at [] = at
+end_in at (line ∷ lines) = if ends_part line then at else end_in (at + length line + 1) lines
+
+-- the byte with which the line begins that ends the first part; where there is one part alone, it comes after the end
+abbrev pub first_end : Bytes → ℕ
+first_end input = end_in 0 (lines_of input)

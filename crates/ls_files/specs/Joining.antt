@@ -1,6 +1,7 @@
 -- What files hold as one input.
-use Rattle.std.specs.Prelude.{◌==◌, ◌-◌, Bool, true, List, [], ◌∷◌, ◌++◌, length, slice_index_or, if◌then◌else◌}
-use Rattle.ls_files.specs.Files.{Bytes}
+use Rattle.std.specs.Prelude.{◌==◌, ◌-◌, Bool, true, List, [], ◌∷◌, ◌++◌, length, drop, slice_index_or}
+use Rattle.std.specs.Prelude.{if◌then◌else◌}
+use Rattle.ls_files.specs.Files.{Bytes, first_end}
 
 -- nothing, or it ends with a line feed
 abbrev pub is_ended : Bytes → Bool
@@ -21,3 +22,8 @@ with_files input (file ∷ files) = with_files (with_file input file) files
 abbrev pub joined : List Bytes → Bytes
 joined [] = []
 joined (file ∷ files) = with_files file files
+
+-- an input with another text in the place of its first part: that text, whose last line is ended, and the input from
+-- the line on that ends its first part
+abbrev pub with_first : Bytes → Bytes → Bytes
+with_first text input = ended text ++ drop (first_end input) input

@@ -1,8 +1,9 @@
 // What files hold as one input.
 
 ghost use Rattle.std.specs.Prelude.{◌≡◌, IfOk, OnOk, map};
-ghost use Rattle.ls_files.specs.Joining.{ended, is_ended, joined, with_file, with_files};
+ghost use Rattle.ls_files.specs.Joining.{ended, is_ended, joined, with_file, with_files, with_first};
 
+use crate::lines::first_end;
 use std::alloc::{AllocError, Global};
 
 /// Whether nothing is there, or a line feed is last.
@@ -52,4 +53,16 @@ pub fn joined(alloc: Global, files: &[Vec<u8>]) -> Result<Vec<u8>, AllocError>
         add_files(&mut input, more)?;
     }
     Ok(input)
+}
+
+/// An input with another text in the place of its first part. The only refusal is that memory ran out.
+pub fn with_first(alloc: Global, text: &[u8], input: &[u8]) -> Result<Vec<u8>, AllocError>
+    ensures { IfOk result (λ more. more.items ≡ with_first text.now input.now) }
+{
+    let mut more = Vec::new(alloc);
+    more.extend_from_slice(text)?;
+    end(&mut more)?;
+    let upto = first_end(input).min(input.len());
+    more.extend_from_slice(&input[upto..])?;
+    Ok(more)
 }

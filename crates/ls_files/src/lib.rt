@@ -6,7 +6,7 @@ mod lines;
 mod marks;
 mod names;
 
-pub use joining::joined;
+pub use joining::{joined, with_first};
 pub use lines::{FileLine, file_line, part_start};
 pub use marks::unmarked;
 pub use names::{asking, file_names_in};

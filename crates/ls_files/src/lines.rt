@@ -3,7 +3,7 @@
 ghost use Rattle.std.specs.Prelude.{◌≡◌, ◌+◌, ◌-◌, ◌^◌, ◌<◌, ◌≤◌, ◌∷◌, [], IfNone, IfSome, length};
 ghost use Rattle.std.specs.List.{position_or_len};
 ghost use Rattle.ls_items.specs.Parts.{lines_of};
-ghost use Rattle.ls_files.specs.Files.{ends_file, ends_part, file_line, is_feed, next_line, part_start};
+ghost use Rattle.ls_files.specs.Files.{ends_file, ends_part, file_line, first_end, is_feed, next_line, part_start};
 
 use std::alloc::AllocError;
 
@@ -112,4 +112,23 @@ pub fn part_start(input: &[u8], number: usize) -> usize
         rest = after;
     }
     at
+}
+
+/// The byte with which the line begins that ends the first part. If there is one part alone, it comes after the end.
+pub fn first_end(input: &[u8]) -> usize
+    ensures { result ≡ first_end input.now }
+{
+    let mut at = 0;
+    let mut rest = input;
+    while let Some((line, after)) = cut_line(rest) {
+        if ends_part(line) {
+            return at;
+        }
+        at += line.len() + 1;
+        rest = after;
+    }
+    if ends_part(rest) {
+        return at;
+    }
+    at + rest.len() + 1
 }

@@ -1,7 +1,8 @@
 // A Java file as a class text.
 
-ghost use Rattle.std.specs.Prelude.{IfOk, string_bytes};
-ghost use Rattle.ls_java.specs.Accepted.{IsAccepted};
+ghost use Rattle.std.specs.Prelude.{◌≡◌, IfOk, IfSome, string_bytes, true};
+ghost use Rattle.ls_java.specs.Accepted.{IsAccepted, IsRestatement};
+ghost use Rattle.ls_java_output.specs.Lines.{AreOnLines};
 
 use crate::accepting::{NotAccepted, accept};
 use crate::fault::NotRestated;
@@ -10,6 +11,7 @@ use ls_java_lexer::lexing::lex_java;
 use ls_java_lexer::token::Token;
 use ls_java_library::added::added_classes;
 use ls_java_members::restating::restate_file;
+use ls_java_output::keeping::layout_on_lines;
 use ls_java_output::layout::{Made, Written, layout};
 use ls_java_output::lines::{line_at, token_lines};
 use ls_java_output::place::{Place, token_at};
@@ -19,7 +21,7 @@ use ls_java_tables::ropes::Text;
 use ls_java_tree::declarations::File;
 use ls_lexer::fault::TextFault;
 use ls_types_elaboration::rule::CheckFault;
-use std::alloc::Global;
+use std::alloc::{AllocError, Global};
 
 /// A Java file restated: the class text, where its words come from, the line of each token of the file, and what was
 /// restated otherwise than it is written.
@@ -31,13 +33,33 @@ pub struct Restated {
     pub notes: Vec<Remark>,
 }
 
-// What is written of a file, before it is laid out.
+// The class text, on the lines of the file or laid out anew.
+fn laid_out(
+    made: Made,
+    whole: Text,
+    added: Text,
+    on_lines: bool,
+) -> Result<Option<Written>, AllocError>
+    ensures { on_lines ≡ true → IfOk result (λ found. IfSome found (λ w.
+        AreOnLines made.entry.text.now (string_bytes w.text) 0 w.places.items)) }
+{
+    if on_lines {
+        return layout_on_lines(made, whole, added);
+    }
+    layout(made, whole, added)
+}
+
+// What is written of a file, on its lines or laid out anew.
 fn write(
     restater: &mut Restater,
     text: &str,
     tokens: &[Token],
     whole: Text,
-) -> Result<Written, NotRestated> {
+    on_lines: bool,
+) -> Result<Written, NotRestated>
+    ensures { on_lines ≡ true →
+        IfOk result (λ w. AreOnLines text.entry.now (string_bytes w.text) 0 w.places.items) }
+{
     let added = added_classes(restater)?;
     let made = Made {
         alloc: restater.alloc,
@@ -46,7 +68,7 @@ fn write(
         text,
         tokens,
     };
-    match layout(made, whole, added)? {
+    match laid_out(made, whole, added, on_lines)? {
         Some(written) => Ok(written),
         None => Err(NotRestated::TooLong),
     }
@@ -58,7 +80,11 @@ fn draft<'a>(
     text: &'a str,
     tokens: &'a [Token<'a>],
     file: &'a File,
-) -> Result<Restated, NotRestated> {
+    on_lines: bool,
+) -> Result<Restated, NotRestated>
+    ensures { on_lines ≡ true →
+        IfOk result (λ r. AreOnLines text.entry.now (string_bytes r.text) 0 r.places.items) }
+{
     let lines = token_lines(alloc, text, tokens)?;
     let mut made = restate_file(alloc, file, tokens)?;
     let notes = notes_of(alloc, &mut made.restater, &lines)?;
@@ -67,7 +93,7 @@ fn draft<'a>(
         return Err(NotRestated::Refused { refusals, notes });
     }
     let whole = made.text;
-    let written = write(&mut made.restater, text, tokens, whole)?;
+    let written = write(&mut made.restater, text, tokens, whole, on_lines)?;
     let Written { text, places } = written;
     Ok(Restated {
         text,
@@ -114,15 +140,34 @@ fn rejected(restated: &Restated, fault: NotAccepted) -> NotRestated {
     }
 }
 
+// A Java file, restated on its lines or laid out anew.
+fn restate_as(alloc: Global, text: &str, on_lines: bool) -> Result<Restated, NotRestated>
+    ensures accepted { IfOk result (λ r. IsAccepted (string_bytes r.text)) }
+    ensures lines { on_lines ≡ true →
+        IfOk result (λ r. AreOnLines text.entry.now (string_bytes r.text) 0 r.places.items) }
+{
+    let tokens = lex_java(alloc, text)?;
+    let file = parse_java(alloc, &tokens)?;
+    let restated = draft(alloc, text, &tokens, &file, on_lines)?;
+    match accept(alloc, restated.text.as_str()) {
+        Ok(()) => Ok(restated),
+        Err(fault) => Err(rejected(&restated, fault)),
+    }
+}
+
 /// A Java file (JLS 7.3), restated as a class text that keeps every rule, or why it isn't.
 pub fn restate(alloc: Global, text: &str) -> Result<Restated, NotRestated>
     ensures { IfOk result (λ r. IsAccepted (string_bytes r.text)) }
 {
-    let tokens = lex_java(alloc, text)?;
-    let file = parse_java(alloc, &tokens)?;
-    let restated = draft(alloc, text, &tokens, &file)?;
-    match accept(alloc, restated.text.as_str()) {
-        Ok(()) => Ok(restated),
-        Err(fault) => Err(rejected(&restated, fault)),
+    restate_as(alloc, text, false)
+}
+
+/// The same, laid out so that a word of the file stands on its line, where no word before it comes from a later one.
+pub fn restate_on_lines(alloc: Global, text: &str) -> Result<Restated, NotRestated>
+    ensures { IfOk result (λ r. IsRestatement text.now (string_bytes r.text)) }
+{
+    match restate_as(alloc, text, true) {
+        Ok(made) => Ok(made),
+        Err(why) => Err(why),
     }
 }

@@ -103,8 +103,10 @@ fn tell_fault(
         Some(at) => {
             let line = line_ends(text, 0, at).saturating_add(1);
             let column = column_at(text, at);
-            begin(out, name, line, "error")?;
-            write!(out, "column {column}: ")?;
+            match name {
+                Some(name) => write!(out, "{name}:{line}:{column}: error: ")?,
+                None => write!(out, "line {line}:{column}: error: ")?,
+            }
         }
         None => begin(out, name, 0, "error")?,
     }

@@ -1,1 +1,3 @@
+mod LineLemmas
+mod LineRows
 mod Orders

@@ -113,9 +113,9 @@ fn end_file(page: &mut Page, source: Source, starts: &mut [usize]) -> Result<(),
     write_gap(page, source.step, plain(Gap::Line), "")
 }
 
-// The words that come from no token of the file, and the end of the line.
+/// The words that come from no token of the file, and the end of the line.
 #[tactic(auto, using(crate::proofs::Orders::longer))]
-fn write_added(
+pub fn write_added(
     page: &mut Page,
     made: &Made,
     source: Source,

@@ -3,9 +3,13 @@
 
 mod comments;
 mod gaps;
+mod going;
+pub mod keeping;
+mod kept;
 pub mod layout;
 mod leaves;
 pub mod lines;
+mod order;
 mod page;
 pub mod place;
 mod spacing;

@@ -1,28 +1,59 @@
 // The lines of a file's tokens, and how its lines are indented.
 
+ghost use Rattle.std.specs.Prelude.{◌≡◌, IfOk};
+ghost use Rattle.ls_java_output.specs.Lines.{ends_before, ends_in, lines_of};
+
 use ls_java_lexer::token::Token;
 use std::alloc::{AllocError, Global};
 
 /// The widest white space that is taken for one step of indentation.
 const WIDEST_STEP: usize = 8;
 
+/// How many lines end in these bytes.
+pub fn feeds(bytes: &[u8]) -> usize
+    ensures { result ≡ ends_in bytes.now }
+{
+    let mut count = 0;
+    for byte in bytes {
+        if *byte == b'\n' {
+            count += 1;
+        }
+    }
+    count
+}
+
 /// How many lines end from one byte to another.
 pub fn line_ends(text: &str, from: usize, to: usize) -> usize {
     match text.as_bytes().get(from..to) {
-        Some(part) => part.iter().filter(|b| **b == b'\n').count(),
+        Some(part) => feeds(part),
         None => 0,
     }
 }
 
+// How many lines end before a byte, if so many end before another one.
+fn ends_upto(text: &str, from: usize, ends: usize, to: usize) -> usize
+    requires { ends ≡ ends_before from text.now }
+    ensures { result ≡ ends_before to text.now }
+{
+    let bytes = text.as_bytes();
+    let upto = to.min(bytes.len());
+    if from <= upto {
+        return ends + feeds(&bytes[from..upto]);
+    }
+    feeds(&bytes[..upto])
+}
+
 /// The line of each token of a file, from 1.
-pub fn token_lines(alloc: Global, text: &str, tokens: &[Token]) -> Result<Vec<usize>, AllocError> {
+pub fn token_lines(alloc: Global, text: &str, tokens: &[Token]) -> Result<Vec<usize>, AllocError>
+    ensures { IfOk result (λ lines. lines.items ≡ lines_of text.now tokens.now) }
+{
     let mut lines = Vec::new(alloc);
-    let mut line: usize = 1;
+    let mut ends: usize = 0;
     let mut at = 0;
     for token in tokens {
-        line = line.saturating_add(line_ends(text, at, token.start));
+        ends = ends_upto(text, at, ends, token.start);
         at = token.start;
-        lines.push(line)?;
+        lines.push(1 + ends)?;
     }
     Ok(lines)
 }

@@ -230,14 +230,22 @@ pub fn write_word(
     let start = page.text.len();
     page.text.push_str(word)?;
     let end = page.text.len();
-    if token < source.tokens.len() {
-        page.places.push(Place { start, end, token })?;
+    let own = is_copied(source, word, token);
+    if let Some(found) = source.tokens.get(token) {
+        let at = found.start;
+        page.places.push(Place {
+            start,
+            end,
+            token,
+            at,
+            own,
+        })?;
     }
     count_open(page, word)?;
     page.last = Last {
         ending: ending_of(page.last.ending, word),
         token,
-        copied: is_copied(source, word, token),
+        copied: own,
         line: line_at(source.lines, token),
     };
     Ok(())

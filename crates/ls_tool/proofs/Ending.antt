@@ -1,6 +1,6 @@
 -- From what a layer answers to what a run does.
 use Rattle.std.specs.Prelude.{IfSome, String, string_bytes, if◌then◌else◌}
-use Rattle.std.proofs.Common.{ℕ, ◌≡◌, ◌∙◌, ◌⊎◌, inl, inr, ap, sym, List, [], Bool, true, false, refl, subst, Option}
+use Rattle.std.proofs.Common.{ℕ, ◌≡◌, ◌∙◌, ap, sym, List, [], Bool, true, false, refl, subst, Option}
 use Rattle.std.proofs.Common.{Some, None}
 use Rattle.std.proofs.Common.{Result, Ok, Err, ◌==◌, ◌∷◌, arith, eqb-true, length}
 use Rattle.std.specs.Global.{Global}
@@ -21,21 +21,16 @@ use Rattle.ls_faults.specs.declared.fault.ToolFault.TheVariants as fault
 use Rattle.ls_tool.specs.declared.refusal.Refusal.{Refusal}
 use Rattle.ls_tool.specs.declared.refusal.Refusal.TheVariants as refusal
 use Rattle.ls_faults.specs.Given.{GivesText}
-use Rattle.ls_tool.specs.Output.{Answered, AnswersText, AsAsked, Asks, BadLine, Closes, Decided, Decides, Ends}
+use Rattle.ls_tool.specs.Output.{Answered, AnswersText, AsAsked, Asks, BadLine, Closes, Decides, Ends}
 use Rattle.ls_tool.specs.Output.{HasToldAs}
 use Rattle.ls_tool.specs.Output.{programs_text, progress_of, status_for}
 use Rattle.ls_tool.specs.declared.said.Said.{Said}
 use Rattle.ls_tool.specs.declared.said.Telling.{Telling}
 use Rattle.ls_tool.specs.declared.said.Telling.TheVariants as tellings
 use Rattle.ls_tool.specs.Output.{IsEnding, IsTaken, Left, OfInput, OutOfMemory, Prints, Progressed, Progresses}
-use Rattle.ls_tool.specs.Output.{NotesAs, ReaderFailed, ReadsAfterWords, Refused, RefusesAs, Responds, Silent, Tells}
-use Rattle.ls_tool.specs.Output.{TellsFirst, Unreadable, Usage, WriterFailed}
+use Rattle.ls_tool.specs.Output.{NotesAs, Refused, RefusesAs, Silent, Tells}
+use Rattle.ls_tool.specs.Output.{TellsFirst, WriterFailed}
 use Rattle.ls_tool.specs.Output.{is_bare, left, noted, progress_text, refused_words, told}
-
--- what follows of an input's answer
-pub if_known : (o : Option Text) (P Q : Text → Type 0) → ((x : Text) → P x → Q x) → OfInput o P → OfInput o Q
-if_known None P Q f h = (h.0, f h.0 h.1)
-if_known (Some x) P Q f h = f x h
 
 -- what holds of each input
 pub always : (o : Option Text) (Q : Text → Type 0) → ((x : Text) → Q x) → OfInput o Q
@@ -185,17 +180,6 @@ pub refused : (words : List Text) (input : Text) (f : WordsFault) →
 refused words input word_fault.Memory h = tt
 refused words input (word_fault.BadLine e) h = BadLine h
 
-pub is_unread : {R : Type 0} (reader : R) (f : WordsFault) → ReadsAfterWords reader reader (Err (refused_words f))
-is_unread reader word_fault.Memory = tt
-is_unread reader (word_fault.BadLine e) = refl
-
--- once the words are taken, the reader is read
-pub is_read : {R : Type 0} (old new : R) (r : Result Said Refusal) → IsTaken r → ReadsAfterWords old new r
-is_read old new (Ok said) h = h
-is_read old new (Err (refusal.BadLine e)) h = absurd h
-is_read old new (Err (refusal.Fault f)) h = tt
-is_read old new (Err (refusal.Explained x)) h = tt
-
 -- a refusal of a fault says that the words were taken
 pub takes : (names : Option (List Text)) (l : CommandLine) (f : ToolFault) (input : Text) (r : Refusal) →
     RefusesAs names l f input r →
@@ -203,24 +187,6 @@ pub takes : (names : Option (List Text)) (l : CommandLine) (f : ToolFault) (inpu
 takes names l f input (refusal.BadLine e) h = absurd h
 takes names l f input (refusal.Fault g) h = tt
 takes names l f input (refusal.Explained x) h = tt
-
--- the reader failed
-pub unreadable : (words : List Text) (input : Text) (l : CommandLine) (f : ToolFault) →
-    Asks words (Some l) →
-    (f ≡ fault.Memory) ⊎ (f ≡ fault.ReadFailed)
-    → Responds words input (Err (refusal.Fault f))
-unreadable words input l f e (inl h) = subst (λ g. Responds words input (Err (refusal.Fault g))) (sym h)
-    (Decided (Err (refusal.Fault fault.Memory)) tt)
-unreadable words input l f e (inr h) = subst (λ g. Responds words input (Err (refusal.Fault g))) (sym h)
-    (Unreadable l e)
-
--- what isn't that the reader failed is decided
-pub is_decided : (words : List Text) (input : Text) {r : Result Said Refusal} →
-    ¬ (r ≡ Err (refusal.Fault fault.ReadFailed)) →
-    Responds words input r →
-    Decides words input r
-is_decided words input unlike (Decided r d) = d
-is_decided words input unlike (Unreadable l e) = absurd (unlike refl)
 
 -- a run that tells a fault
 tells : (words : List Text) (input : Text) (f : ToolFault) (exit : Exit) (out err : Left) →
@@ -264,22 +230,14 @@ tells words input fault.TooManyTrapped exit out err s k t d =
 tells words input fault.NotText exit out err s k t d = AsAsked (Tells (fault_line fault.NotText)) d (s, k, t)
 tells words input fault.WriteFailed exit out err s k t d = AsAsked (Tells (fault_line fault.WriteFailed)) d (s, k, t)
 
--- the same, or the reader failed
-pub tells_fault : (words : List Text) (input : Text) (f : ToolFault) (exit : Exit) (out err : Left)
-    {r : Result Said Refusal} →
-    r ≡ Err (refusal.Fault f) →
+-- the same of an answer that is that fault
+pub tells_fault : (words : List Text) (input : Text) (f : ToolFault) (exit : Exit) (out err : Left) →
     exit.status ≡ 1 →
     Keeps out.old out.new →
     IsWritten (fault_line f) exit.is_told err.old err.new err.has_failed →
-    Responds words input r →
+    Decides words input (Err (refusal.Fault f)) →
     Closes words input exit out err
-tells_fault words input f exit out err e s k t (Decided r d) = tells words input f exit out err s k t
-    (subst (Decides words input) e d)
-tells_fault words input f exit out err e s k t (Unreadable l a) =
-    let same : fault.ReadFailed ≡ f = cc in
-    let told : IsWritten (fault_line fault.ReadFailed) exit.is_told err.old err.new err.has_failed =
-    subst (λ g. IsWritten (fault_line g) exit.is_told err.old err.new err.has_failed) (sym same) t in
-    ReaderFailed l a (s, k, told)
+tells_fault words input f exit out err s k t d = tells words input f exit out err s k t d
 
 -- and one that tells it with what is said of it
 pub explains : (words : List Text) (input told : Text) (exit : Exit) (out err : Left) →
@@ -294,28 +252,19 @@ pub done : (words : List Text) (input : Text) (said : Said) (exit : Exit) (out e
     exit.status ≡ said.status →
     IsWritten (string_bytes said.beside) exit.is_told err.old err.new err.has_failed →
     Appends out.old out.new (string_bytes said.text) →
-    Responds words input (Ok said) →
+    Decides words input (Ok said) →
     Closes words input exit out err
 done words input said exit out err s k a d =
-    AsAsked (Prints said.status (string_bytes said.text) (string_bytes said.beside))
-    (is_decided words input (λ e. absurd (cc)) d) (s, a, k)
+    AsAsked (Prints said.status (string_bytes said.text) (string_bytes said.beside)) d (s, a, k)
 
 pub cut_short : (words : List Text) (input : Text) (said : Said) (exit : Exit) (out err : Left) →
     exit.status ≡ 1 →
     Begins out.old out.new (string_bytes said.text) × (out.has_failed ≡ true) →
     IsWritten (fault_line fault.WriteFailed) exit.is_told err.old err.new err.has_failed →
-    Responds words input (Ok said) →
+    Decides words input (Ok said) →
     Closes words input exit out err
 cut_short words input said exit out err s b t d =
-    WriterFailed said.status (string_bytes said.text) (string_bytes said.beside)
-    (is_decided words input (λ e. absurd (cc)) d) (s, b.0, b.1, t)
-
-pub bad_line : (words : List Text) (input : Text) (e : Error) (exit : Exit) (out err : Left) →
-    exit.status ≡ 2 →
-    Keeps out.old out.new →
-    Responds words input (Err (refusal.BadLine e)) →
-    Closes words input exit out err
-bad_line words input e exit out err s k d = AsAsked Usage (is_decided words input (λ x. absurd (cc)) d) (s, k)
+    WriterFailed said.status (string_bytes said.text) (string_bytes said.beside) d (s, b.0, b.1, t)
 
 -- no bytes
 pub nothing_there : (bytes : Text) → (length bytes == 0) ≡ true → bytes ≡ []
@@ -380,9 +329,3 @@ ends_so words input exit out err between before kept p e = record {
   progress = later_first words err.old between before err.has_failed kept p;
   end = e;
 }
-
--- and where nothing comes before
-pub ends_alone : (words : List Text) (input : Text) (exit : Exit) (out err : Left) →
-    Closes words input exit out err →
-    Ends words input exit out err
-ends_alone words input exit out err e = record { between = err.old; progress = Silent; end = e }

@@ -4,5 +4,6 @@ pub mod Inputs
 pub mod Noting
 pub mod Referring
 pub mod Restating
+pub mod Runs
 pub mod Statuses
 pub mod Telling

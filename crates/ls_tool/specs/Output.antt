@@ -326,23 +326,10 @@ Decides words input (Err (refusals.Fault faults.Memory)) = Unit {0}
 Decides words input (Err (refusals.Fault f)) = IsEnding words input (Tells (fault_line f))
 Decides words input (Err (refusals.Explained bytes)) = IsEnding words input (Tells bytes.items)
 
--- the same over a reader, which may fail once the command line is taken
-pub data Responds (words : List Text) (input : Text) : Result Said Refusal → Type 0 where
-  Decided : (answer : Result Said Refusal) → Decides words input answer → Responds words input answer
-  Unreadable : (l : CommandLine) →
-      Asks words (Some l) →
-      Responds words input (Err (refusals.Fault faults.ReadFailed))
-
 -- it holds of what a reader has left, where that is known, and else of some input
 abbrev pub OfInput : Option Text → (Text → Type 0) → Type 0
 OfInput None May = (input : Text) × May input
 OfInput (Some input) May = May input
-
--- where the words ask for nothing, the reader is as it was; no text has the status 2
-abbrev pub ReadsAfterWords : {R : Type 0} → R → R → Result Said Refusal → Type 0
-ReadsAfterWords old new (Ok said) = said.status ≢ 2
-ReadsAfterWords old new (Err (refusals.BadLine e)) = new ≡ old
-ReadsAfterWords old new other = Unit {0}
 
 -- ---- what a run leaves
 
@@ -432,17 +419,13 @@ abbrev pub CutShort : Text → Exit → Left → Left → Type 0
 CutShort text exit out err = (exit.status ≡ 1) × Begins out.old out.new text × (out.has_failed ≡ true) ×
     IsWritten (fault_line faults.WriteFailed) exit.is_told err.old err.new err.has_failed
 
--- a run ends as the words and the input ask, or it tells that memory ran out or that a stream failed
+-- a run ends as the words and the input ask, or it tells that memory ran out or that the writer failed
 pub data Closes (words : List Text) (input : Text) (exit : Exit) (out err : Left) : Type 0 where
   AsAsked : (ending : Ending) →
       IsEnding words input ending →
       Shows ending exit out err →
       Closes words input exit out err
   OutOfMemory : Shows (Tells (fault_line faults.Memory)) exit out err →
-      Closes words input exit out err
-  ReaderFailed : (l : CommandLine) →
-      Asks words (Some l) →
-      Shows (Tells (fault_line faults.ReadFailed)) exit out err →
       Closes words input exit out err
   WriterFailed : (status : ℕ) (text beside : Text) →
       IsEnding words input (Prints status text beside) →

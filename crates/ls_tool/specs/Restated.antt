@@ -1,7 +1,8 @@
--- What `java` answers of one Java file.
+-- What `java` answers of one Java file, and what other commands read in the place of one.
 use Rattle.std.specs.Prelude.{◌≡◌, List, [], ◌∷◌, Option, Some, None, Result, Ok, Err, string_bytes}
 use Rattle.ls_report.specs.Events.{Text}
-use Rattle.ls_java.specs.Accepted.{IsAccepted}
+use Rattle.ls_java.specs.Accepted.{IsAccepted, IsRestatement}
+use Rattle.ls_files.specs.Joining.{with_first}
 use Rattle.ls_faults.specs.declared.fault.ToolFault.{ToolFault}
 use Rattle.ls_faults.specs.declared.fault.ToolFault.TheVariants as faults
 use Rattle.ls_tool.specs.declared.refusal.Refusal.{Refusal}
@@ -31,3 +32,9 @@ abbrev pub RestatesParts : List Text → Option (Result Said Refusal) → Type 0
 RestatesParts (file ∷ []) None = ⊥
 RestatesParts (file ∷ []) (Some answer) = Restates answer
 RestatesParts other answer = answer ≡ None
+
+-- the class text of a Java file, whose words stand on their lines, in the place of the first part of an input
+pub record Replaces (file input more : Text) : Type 0 where
+  pub text : Text
+  pub restated : IsRestatement file text
+  pub is : more ≡ with_first text input

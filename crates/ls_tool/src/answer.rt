@@ -237,7 +237,7 @@ pub(crate) fn answer_line<R: Threads + Wait + Sync, W: Watch>(
 }
 
 /// The whole output for the words of a command line and the bytes of an input, with its status, or why there is none.
-/// The first word is the program's own name. It is the program without its streams.
+/// The first word is the program's own name. It is the program without its streams, and without `--java`.
 pub fn answer<'a, R: Threads + Wait + Sync>(
     rt: &R,
     alloc: Global,

@@ -7,17 +7,18 @@ ghost use Rattle.ls_items.specs.Cutting.{plain_text};
 ghost use Rattle.ls_items.specs.Parts.{parts_of};
 ghost use Rattle.ls_report.specs.Events.{Text};
 ghost use Rattle.ls_tool.specs.Output.{Asks, Decides, IsTaken, names_of, read_as};
-ghost use Rattle.ls_tool.specs.Restated.{Restates, RestatesParts};
+ghost use Rattle.ls_tool.specs.Restated.{Replaces, Restates, RestatesParts};
+ghost use Rattle.ls_tool.specs.Running.{RestatesFirst};
 
 use crate::explained::refusal_of;
 use crate::refusal::Refusal;
 use crate::said::Said;
 use ls_command_line::CommandLine;
 use ls_faults::fault::ToolFault;
-use ls_files::unmarked;
+use ls_files::{unmarked, with_first};
 use ls_items::{parts_of, text_of};
 use ls_java::fault::NotRestated;
-use ls_java::restating::{Restated, restate};
+use ls_java::restating::{Restated, restate, restate_on_lines};
 use ls_java::told::{notes_told, refusal_told};
 use std::alloc::{AllocError, Global};
 
@@ -130,5 +131,71 @@ pub(crate) fn on_java(
         Ok(Some(answer)) => answer,
         Ok(None) => Err(refusal_of(alloc, line, names, ToolFault::WrongParts, input)),
         Err(_) => Err(Refusal::Fault(ToolFault::Memory)),
+    }
+}
+
+/// An input that has a class text in the place of a Java file, and what is told of how that was restated.
+#[derive(Drop)]
+pub(crate) struct Instead {
+    pub(crate) input: Vec<u8>,
+    pub(crate) notes: String,
+}
+
+/// Why there is no class text.
+#[derive(Drop)]
+pub(crate) enum NoClassText {
+    Memory,
+    /// What is told of what can't be restated.
+    Told(Vec<u8>),
+}
+
+impl From<AllocError> for NoClassText {
+    fn from(_: AllocError) -> NoClassText {
+        NoClassText::Memory
+    }
+}
+
+/// What is told of a Java file that isn't restated.
+fn no_class_text(alloc: Global, name: Option<&str>, file: &str, why: &NotRestated) -> NoClassText {
+    match why {
+        NotRestated::Memory => NoClassText::Memory,
+        other => match refusal_told(alloc, name, file, other) {
+            Ok(told) => NoClassText::Told(told.into_bytes()),
+            Err(_) => NoClassText::Memory,
+        },
+    }
+}
+
+/// An input with the class text of this Java file in the place of its first part.
+fn instead_of(
+    alloc: Global,
+    name: Option<&str>,
+    file: &str,
+    input: &str,
+) -> Result<Instead, NoClassText>
+    ensures { IfOk result (λ instead. Replaces file.now input.now instead.input.items) }
+{
+    let made = match restate_on_lines(alloc, file) {
+        Ok(made) => made,
+        Err(why) => return Err(no_class_text(alloc, name, file, &why)),
+    };
+    let notes = notes_told(alloc, name, &made.notes)?;
+    let input = with_first(alloc, made.text.as_bytes(), input.as_bytes())?;
+    Ok(Instead { input, notes })
+}
+
+/// An input whose first part is a Java file, with its class text in that place.
+pub(crate) fn with_class_text(
+    alloc: Global,
+    names: Option<&[String]>,
+    input: &str,
+) -> Result<Instead, NoClassText>
+    ensures { IfOk result (λ instead. RestatesFirst (names_of names.entry) input.now instead.input.items) }
+{
+    let read = read_as(alloc, names, input)?;
+    let parts = parts_of(alloc, read.as_str())?;
+    match parts.as_slice() {
+        [file, ..] => instead_of(alloc, name_of(names), file, input),
+        [] => Err(NoClassText::Memory),
     }
 }

@@ -1,24 +1,27 @@
 // The whole run, over any streams.
 
-ghost use Rattle.std.specs.Prelude.{◌≡◌, List, Some, map, string_bytes, true};
+ghost use Rattle.std.specs.Prelude.{◌≡◌, ◌≢◌, List, Some, map, string_bytes, true};
 ghost use Rattle.ls_faults.specs.Faults.{fault_line};
 ghost use Rattle.ls_files.specs.Names.{file_names_in};
+ghost use Rattle.ls_items.specs.Parts.{is_text};
 ghost use Rattle.ls_outlets.specs.Written.{IsWritten};
 ghost use Rattle.ls_report.specs.Events.{Text};
-ghost use Rattle.ls_tool.specs.Output.{Asks, Decides, Ends, IsTaken, OfInput, Progresses, ReadsAfterWords};
-ghost use Rattle.ls_tool.specs.Output.{Responds, TellsFirst, left, names_of};
+ghost use Rattle.ls_tool.specs.Output.{Asks, Decides, Ends, IsTaken, OfInput, Progresses, left, names_of};
+ghost use Rattle.ls_tool.specs.Running.{Runs};
 
 use crate::answer::answer_line;
+use crate::java::{Instead, NoClassText, with_class_text};
 use crate::programs::Programs;
 use crate::progress::Progress;
 use crate::refusal::Refusal;
 use crate::said::{Said, Telling, progress_of};
 use crate::streams::read_whole;
-use ls_command_line::{CommandLine, read_words};
+use ls_command_line::{CommandLine, WordsFault, read_words};
 use ls_explore::Nobody;
 use ls_faults::fault::ToolFault;
 use ls_faults::line::fault_line;
 use ls_files::{asking, file_names_in};
+use ls_items::text_of;
 use ls_outlets::{Outlet, write_out};
 use std::alloc::{AllocError, Global};
 use std::io::{Read, Write};
@@ -100,45 +103,42 @@ fn answer_telling<H: Threads + Wait + Sync, E: Outlet>(
     }
 }
 
-/// The answer to the words and to what the reader has left. Words that ask for nothing are answered before anything is
-/// read.
-fn respond<'a, H: Threads + Wait + Sync, R: Read, E: Outlet>(
-    rt: &H,
-    alloc: Global,
+/// Words, and what they ask for.
+#[derive(Copy)]
+struct Asked<'a> {
     words: &'a [String],
-    reader: &mut R,
-    err: &mut E,
-) -> Result<Said, Refusal>
-    ensures responds { OfInput (R.remaining reader.old)
-        (λ input. Responds (map string_bytes words.entry.now) input result) }
-    ensures unread { ReadsAfterWords reader.old reader.new result }
-    ensures progress { TellsFirst (map string_bytes words.entry.now) (E.contents err.old) (E.has_failed err.new)
-        (E.contents err.new) }
-{
-    let line = read_words(alloc, asking(words))?;
-    let input = read_whole(alloc, reader)?;
-    answer_telling(rt, alloc, line, file_names_in(words), input.as_slice(), err)
+    line: CommandLine,
 }
 
-/// Does what the words ask for: reads the input, answers it as `answer` does, and writes. Answers the exit status; with
-/// status 2 nothing is read. If it isn't known what the reader has left, as it isn't of standard input, the run ends as
-/// for some input. All is written that is to be, unless the writer has failed. The words after `--names` name the files
-/// that the input holds; a fault is told with its place in them. Threads are started by `live`, `batch`,
-/// `find` and `replay --live` alone. `explore --progress` and `find --progress` alone tell of their progress.
-pub fn run<'a, H: Threads + Wait + Sync, R: Read, W: Outlet, E: Outlet>(
+impl Clone for Asked<'_> {
+    fn clone(&self) -> Result<Self, AllocError> {
+        Ok(*self)
+    }
+}
+
+/// Does what a command line asks for of an input, and writes.
+fn run_input<H: Threads + Wait + Sync, W: Outlet, E: Outlet>(
     rt: &H,
     alloc: Global,
-    words: &'a [String],
-    reader: &mut R,
+    asked: Asked<'_>,
+    input: &[u8],
     out: &mut W,
     err: &mut E,
 ) -> Exit
-    ensures ends { OfInput (R.remaining reader.old) (λ input. Ends (map string_bytes words.entry.now) input result
+    requires { Asks (map string_bytes asked.words.now) (Some asked.line) }
+    ensures ends { Ends (map string_bytes asked.entry.words.now) input.now result
         (left (W.contents out.old) (W.contents out.new) (W.has_failed out.new))
-        (left (E.contents err.old) (E.contents err.new) (E.has_failed err.new))) }
-    ensures unread { result.status ≡ 2 → reader.new ≡ reader.old }
+        (left (E.contents err.old) (E.contents err.new) (E.has_failed err.new)) }
+    ensures apart { result.status ≢ 2 }
 {
-    match respond(rt, alloc, words, reader, err) {
+    match answer_telling(
+        rt,
+        alloc,
+        asked.line,
+        file_names_in(asked.words),
+        input,
+        err,
+    ) {
         Ok(said) => {
             if !write_out(out, said.text.as_bytes()) {
                 return tell_line(err, ToolFault::WriteFailed);
@@ -151,7 +151,99 @@ pub fn run<'a, H: Threads + Wait + Sync, R: Read, W: Outlet, E: Outlet>(
         }
         Err(Refusal::Fault(fault)) => tell_line(err, fault),
         Err(Refusal::Explained(told)) => tell(err, told.as_slice()),
-        Err(Refusal::BadLine(error)) => Exit {
+        Err(Refusal::BadLine(_)) => Exit {
+            status: 1,
+            is_told: false,
+        },
+    }
+}
+
+/// The same of a text whose first part is a Java file: first it tells how that is restated.
+fn run_java<H: Threads + Wait + Sync, W: Outlet, E: Outlet>(
+    rt: &H,
+    alloc: Global,
+    asked: Asked<'_>,
+    text: &str,
+    out: &mut W,
+    err: &mut E,
+) -> Exit
+    requires asks { Asks (map string_bytes asked.words.now) (Some asked.line) }
+    requires java { asked.line.java ≡ true }
+    requires text { is_text text.now ≡ true }
+    ensures runs { Runs (map string_bytes asked.entry.words.now) text.now result
+        (left (W.contents out.old) (W.contents out.new) (W.has_failed out.new))
+        (left (E.contents err.old) (E.contents err.new) (E.has_failed err.new)) }
+    ensures apart { result.status ≢ 2 }
+{
+    match with_class_text(alloc, file_names_in(asked.words), text) {
+        Ok(Instead { input, notes }) => {
+            if !tell_beside(err, notes.as_bytes()) {
+                return Exit {
+                    status: 1,
+                    is_told: false,
+                };
+            }
+            run_input(rt, alloc, asked, input.as_slice(), out, err)
+        }
+        Err(NoClassText::Memory) => tell_line(err, ToolFault::Memory),
+        Err(NoClassText::Told(told)) => tell(err, told.as_slice()),
+    }
+}
+
+/// The same of an input, whose first part may be a Java file.
+fn run_read<H: Threads + Wait + Sync, W: Outlet, E: Outlet>(
+    rt: &H,
+    alloc: Global,
+    asked: Asked<'_>,
+    input: &[u8],
+    out: &mut W,
+    err: &mut E,
+) -> Exit
+    requires { Asks (map string_bytes asked.words.now) (Some asked.line) }
+    ensures runs { Runs (map string_bytes asked.entry.words.now) input.now result
+        (left (W.contents out.old) (W.contents out.new) (W.has_failed out.new))
+        (left (E.contents err.old) (E.contents err.new) (E.has_failed err.new)) }
+    ensures apart { result.status ≢ 2 }
+{
+    if !asked.line.java {
+        return run_input(rt, alloc, asked, input, out, err);
+    }
+    match text_of(input) {
+        Some(text) => run_java(rt, alloc, asked, text, out, err),
+        None => run_input(rt, alloc, asked, input, out, err),
+    }
+}
+
+/// Does what the words ask for: reads the input, answers it as `answer` does, and writes. Answers the exit status; with
+/// status 2 nothing is read. If it isn't known what the reader has left, as it isn't of standard input, the run ends as
+/// for some input. All is written that is to be, unless the writer has failed. The words after `--names` name the files
+/// that the input holds; a fault is told with its place in them. With `--java` the first part is a Java file: first it
+/// is told how that is restated, and then the input is answered in which its class text stands in its place. Threads
+/// are started by `live`, `batch`, `find` and `replay --live` alone. `explore --progress` and `find --progress` alone
+/// tell of their progress.
+pub fn run<'a, H: Threads + Wait + Sync, R: Read, W: Outlet, E: Outlet>(
+    rt: &H,
+    alloc: Global,
+    words: &'a [String],
+    reader: &mut R,
+    out: &mut W,
+    err: &mut E,
+) -> Exit
+    ensures runs { OfInput (R.remaining reader.old) (λ input. Runs (map string_bytes words.entry.now) input result
+        (left (W.contents out.old) (W.contents out.new) (W.has_failed out.new))
+        (left (E.contents err.old) (E.contents err.new) (E.has_failed err.new))) }
+    ensures unread { result.status ≡ 2 → reader.new ≡ reader.old }
+{
+    match read_words(alloc, asking(words)) {
+        Ok(line) => match read_whole(alloc, reader) {
+            Ok(input) => {
+                let asked = Asked { words, line };
+                run_read(rt, alloc, asked, input.as_slice(), out, err)
+            }
+            Err(fault) => tell_line(err, fault),
+        },
+        Err(WordsFault::Memory) => tell_line(err, ToolFault::Memory),
+        Err(WordsFault::BadLine(error)) => Exit {
             status: 2,
             is_told: write!(err, "{error}").is_ok(),
         },

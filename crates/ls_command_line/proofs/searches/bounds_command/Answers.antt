@@ -4,7 +4,7 @@ use Rattle.ls_command_line.proofs.searches.bounds_command.Goals as goal
 
 pub returns-clause-shape : goal.returns-clause-shape
 returns-clause-shape c =
-    let one = c.with_option-command.ensures.shape _ _ c.plain_command-command.ensures.shape
+    let one = c.with_option-command.ensures.shape _ _ c.class_command-command.ensures.shape
     c.number_option-threads.ensures.rule in
     let two = c.with_option-command-2.ensures.shape _ _ one c.number_option-calls.ensures.rule in
     let three = c.with_option-command-3.ensures.shape _ _ two c.number_option-setup.ensures.rule in

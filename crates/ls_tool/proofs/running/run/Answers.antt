@@ -1,101 +1,51 @@
--- Why `run` in src/running.rt keeps its clauses `ends` and `unread`.
+-- Why `run` in src/running.rt keeps its clauses `runs` and `unread`.
 
-use Rattle.std.proofs.Common.{map, refl, subst}
+use Rattle.std.proofs.Common.{map, refl, subst, None, Some}
 use Rattle.std.proofs.KnownBytes.{Keeps-refl}
 use Rattle.std.specs.Prelude.{string_bytes}
-use Rattle.ls_outlets.specs.Written.{IsWritten}
+use Rattle.ls_command_line.specs.Words.{AsksFor}
 use Rattle.ls_tool.specs.Output.{left}
-use Rattle.ls_tool.proofs.Ending.{all_written, bad_line, cut_short, done, ends_alone, ends_so, explains, if_known}
-use Rattle.ls_tool.proofs.Ending.{is_decided, part_written, tells_fault}
+use Rattle.ls_tool.specs.Running.{Runs, Unable, Unasked}
+use Rattle.ls_tool.proofs.Ending.{always, of_bytes}
+use Rattle.ls_tool.proofs.Runs.{not_read}
 use Rattle.ls_tool.proofs.running.run.Goals as goal
 
-pub returns-then-not-write_out-clause-ends : goal.returns-then-not-write_out-clause-ends
-returns-then-not-write_out-clause-ends g c =
+pub returns-in-Ok-read_whole-clause-runs : goal.returns-in-Ok-read_whole-clause-runs
+returns-in-Ok-read_whole-clause-runs g c =
     let words = map string_bytes c.args.words.now in
+    let ran = c.run_read.new in
+    let out = left (g.W.Write.contents c.args.out.now) (g.W.Write.contents ran.out) (g.W.Outlet.has_failed ran.out) in
+    let err = left (g.E.Write.contents c.args.err.now) (g.E.Write.contents ran.err) (g.E.Outlet.has_failed ran.err) in
+    of_bytes (g.R.Read.remaining c.args.reader.now) c.in-Ok-read_whole.input.items
+    (λ input. Runs words input c.run_read.result out err) c.in-Ok-read_whole.ensures.ok
+    (subst (λ bytes. Runs words bytes c.run_read.result out err) c.as_slice.ensures.value c.run_read.ensures.runs)
+
+pub returns-in-Err-clause-runs : goal.returns-in-Err-clause-runs
+returns-in-Err-clause-runs g c =
+    let words = map string_bytes c.args.words.now in
+    let out = g.W.Write.contents c.args.out.now in
+    let tell = c.tell_line in
+    always (g.R.Read.remaining c.args.reader.now) _ (λ input.
+    not_read words input c.in-Ok.line c.in-Err.fault tell.result
+    (left out out (g.W.Outlet.has_failed c.args.out.now))
+    (left (g.E.Write.contents c.args.err.now) (g.E.Write.contents tell.new.err) (g.E.Outlet.has_failed tell.new.err))
+    (subst (λ ws. AsksFor ws (Some c.in-Ok.line)) c.asking.ensures c.in-Ok.ensures) c.in-Err.ensures.err
+    tell.ensures.status (Keeps-refl out) tell.ensures.told)
+
+pub returns-in-Err-Memory-clause-runs : goal.returns-in-Err-Memory-clause-runs
+returns-in-Err-Memory-clause-runs g c =
+    let words = map string_bytes c.args.words.now in
+    let tell = c.tell_line-in-Err-Memory in
     let old = g.W.Write.contents c.args.out.now in
-    let new = g.W.Write.contents c.write_out.new.writer in
-    let failed = g.W.Outlet.has_failed c.write_out.new.writer in
-    let between = g.E.Write.contents c.respond.new.err in
-    let err = g.E.Write.contents c.tell_line.new.err in
-    let err_failed = g.E.Outlet.has_failed c.tell_line.new.err in
-    let part = part_written (string_bytes c.in-Ok.said.text) c.write_out.result old new failed c.if-not-write_out.true
-    (subst (λ z. IsWritten z c.write_out.result old new failed) c.as_bytes.ensures.value c.write_out.ensures.written) in
-    if_known (g.R.Read.remaining c.args.reader.now) _ _ (λ input d.
-    ends_so words input c.tell_line.result (left old new failed)
-    (left (g.E.Write.contents c.args.err.now) err err_failed) between (g.E.Outlet.has_failed c.respond.new.err)
-    c.tell_line.ensures.kept c.in-Ok.ensures.progress
-    (cut_short words input c.in-Ok.said c.tell_line.result (left old new failed) (left between err err_failed)
-    c.tell_line.ensures.status part c.tell_line.ensures.told d)) c.in-Ok.ensures.responds
+    let out = left old old (g.W.Outlet.has_failed c.args.out.now) in
+    let err = left (g.E.Write.contents c.args.err.now) (g.E.Write.contents tell.new.err)
+    (g.E.Outlet.has_failed tell.new.err) in
+    always (g.R.Read.remaining c.args.reader.now) (λ input. Runs words input tell.result out err) (λ input.
+    Unable (tell.ensures.status, Keeps-refl (g.W.Write.contents c.args.out.now), tell.ensures.told))
 
-pub returns-else-not-write_out-clause-ends : goal.returns-else-not-write_out-clause-ends
-returns-else-not-write_out-clause-ends g c =
-    let words = map string_bytes c.args.words.now in
-    let old = g.W.Write.contents c.args.out.now in
-    let new = g.W.Write.contents c.write_out.new.writer in
-    let failed = g.W.Outlet.has_failed c.write_out.new.writer in
-    let between = g.E.Write.contents c.respond.new.err in
-    let err = g.E.Write.contents c.tell_beside-is_told.new.err in
-    let err_failed = g.E.Outlet.has_failed c.tell_beside-is_told.new.err in
-    let is_told = c.tell_beside-is_told.result in
-    let told = subst (λ z. IsWritten z is_told between err err_failed) c.as_bytes-in-Ok.ensures.value
-    c.tell_beside-is_told.ensures.told in
-    let whole = all_written (string_bytes c.in-Ok.said.text) c.write_out.result old new failed c.if-not-write_out.false
-    (subst (λ z. IsWritten z c.write_out.result old new failed) c.as_bytes.ensures.value c.write_out.ensures.written) in
-    if_known (g.R.Read.remaining c.args.reader.now) _ _ (λ input d.
-    ends_so words input (record { status = c.in-Ok.said.status; is_told = is_told }) (left old new failed)
-    (left (g.E.Write.contents c.args.err.now) err err_failed) between (g.E.Outlet.has_failed c.respond.new.err)
-    c.tell_beside-is_told.ensures.kept c.in-Ok.ensures.progress
-    (done words input c.in-Ok.said (record { status = c.in-Ok.said.status; is_told = is_told }) (left old new failed)
-    (left between err err_failed) refl told whole d)) c.in-Ok.ensures.responds
-
-pub returns-in-Err-Fault-clause-ends : goal.returns-in-Err-Fault-clause-ends
-returns-in-Err-Fault-clause-ends g c =
-    let words = map string_bytes c.args.words.now in
-    let out = g.W.Write.contents c.args.out.now in
-    let out_failed = g.W.Outlet.has_failed c.args.out.now in
-    let between = g.E.Write.contents c.respond.new.err in
-    let tell = c.tell_line-in-Err-Fault in
-    let err = g.E.Write.contents tell.new.err in
-    let err_failed = g.E.Outlet.has_failed tell.new.err in
-    if_known (g.R.Read.remaining c.args.reader.now) _ _ (λ input d.
-    ends_so words input tell.result (left out out out_failed)
-    (left (g.E.Write.contents c.args.err.now) err err_failed) between (g.E.Outlet.has_failed c.respond.new.err)
-    tell.ensures.kept c.in-Err-Fault.ensures.progress
-    (tells_fault words input c.in-Err-Fault.fault tell.result (left out out out_failed) (left between err err_failed)
-    refl tell.ensures.status (Keeps-refl out) tell.ensures.told d))
-    (rw c.in-Err-Fault.field-0-is at c.in-Err-Fault.ensures.responds)
-
-pub returns-in-Err-Explained-clause-ends : goal.returns-in-Err-Explained-clause-ends
-returns-in-Err-Explained-clause-ends g c =
-    let words = map string_bytes c.args.words.now in
-    let out = g.W.Write.contents c.args.out.now in
-    let out_failed = g.W.Outlet.has_failed c.args.out.now in
-    let between = g.E.Write.contents c.respond.new.err in
-    let err = g.E.Write.contents c.tell.new.err in
-    let err_failed = g.E.Outlet.has_failed c.tell.new.err in
-    let told = subst (λ z. IsWritten z c.tell.result.is_told between err err_failed) c.as_slice.ensures.value
-    c.tell.ensures.told in
-    if_known (g.R.Read.remaining c.args.reader.now) _ _ (λ input d.
-    ends_so words input c.tell.result (left out out out_failed)
-    (left (g.E.Write.contents c.args.err.now) err err_failed) between (g.E.Outlet.has_failed c.respond.new.err)
-    c.tell.ensures.kept c.in-Err-Explained.ensures.progress
-    (explains words input c.in-Err-Explained.told.items c.tell.result (left out out out_failed)
-    (left between err err_failed) c.tell.ensures.status (Keeps-refl out) told
-    (is_decided words input (λ e. absurd (cc)) d)))
-    (rw c.in-Err-Explained.field-0-is at c.in-Err-Explained.ensures.responds)
-
-pub returns-in-Err-BadLine-clause-ends : goal.returns-in-Err-BadLine-clause-ends
-returns-in-Err-BadLine-clause-ends g c =
-    let words = map string_bytes c.args.words.now in
-    let out = g.W.Write.contents c.args.out.now in
-    let out_failed = g.W.Outlet.has_failed c.args.out.now in
-    if_known (g.R.Read.remaining c.args.reader.now) _ _ (λ input d.
-    ends_alone words input _ (left out out out_failed) _
-    (bad_line words input c.in-Err-BadLine.error _ (left out out out_failed) _ refl (Keeps-refl out) d))
-    (rw c.in-Err-BadLine.field-0-is at c.in-Err-BadLine.ensures.responds)
-
-pub returns-in-Err-BadLine-clause-unread : goal.returns-in-Err-BadLine-clause-unread
-returns-in-Err-BadLine-clause-unread g c = λ e. rw c.in-Err-BadLine.field-0-is at c.in-Err-BadLine.ensures.unread
-
-pub returns-else-not-write_out-clause-unread : goal.returns-else-not-write_out-clause-unread
-returns-else-not-write_out-clause-unread g c = λ two. absurd (c.in-Ok.ensures.unread two)
+pub returns-in-Err-BadLine-clause-runs : goal.returns-in-Err-BadLine-clause-runs
+returns-in-Err-BadLine-clause-runs g c =
+    let found = rw c.in-Err-BadLine.field-0-is at c.in-Err-BadLine.ensures in
+    let none = subst (λ ws. AsksFor ws None) c.asking.ensures found in
+    always (g.R.Read.remaining c.args.reader.now) _ (λ input.
+    Unasked none (refl, Keeps-refl (g.W.Write.contents c.args.out.now)))
