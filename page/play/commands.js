@@ -26,10 +26,7 @@ async function start(words, does) {
   clearTexts();
   say("", "");
   showBusy(words);
-  try {
-    await readClass();
-    await does();
-  } catch (failure) {
+  try { await does(); } catch (failure) {
     if (task !== mine) return;
     if (failure instanceof Stopped) say("", "stopped");
     else if (failure instanceof Refused) showFaults(failure.message);
@@ -38,10 +35,7 @@ async function start(words, does) {
       outcome("bad", `The browser ended the run: ${failure.message}. Smaller bounds may do.`, null);
     }
   } finally {
-    if (task === mine) {
-      leave();
-      tellReading();
-    }
+    if (task === mine) leave();
   }
 }
 // Ends what is being done, if anything is.
@@ -53,8 +47,7 @@ function leave() {
 }
 // A run goes on only if it wasn't left meanwhile.
 async function asked(words, given) {
-  const java = given[0]?.name === classFile().name ? reading.words : [];
-  const mine = task, out = await answer([...words, ...java], given);
+  const mine = task, out = await answer(words, given);
   if (task !== mine) throw new Stopped();
   return out;
 }
@@ -64,7 +57,7 @@ async function drawn(words, count) {
 }
 
 const find = () => start("explored", async () => {
-  const mine = task, search = new Search([...findWords(), ...reading.words], findTexts(), (some, all) => {
+  const mine = task, search = new Search(findWords(), findTexts(), (some, all) => {
     done = `${some} of ${all} programs, `;
   });
   const out = await search.result();

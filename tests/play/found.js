@@ -15,8 +15,8 @@ async function found(trial, page, number) {
   const printed = trial.run(["find", ...words, "--to", "999999"], [text]);
   trial.same("find of " + name, await trial.printed(page), printed);
   if (!printed.includes("\n%%\n")) return trial.holds("no run is shown of " + name, !await trial.isRun(page));
-  const sheet = trial.sheet([], [text, printed.replace(/^\/\/.*\n/gm, "")]);
-  trial.same("the page of " + name, await page.evaluate("page"), sheet);
+  const data = trial.run(["page"], [text, printed.replace(/^\/\/.*\n/gm, "")]);
+  trial.same("the page of " + name, await page.evaluate("page"), trial.whole(data));
   trial.holds("the run is shown of " + name, await trial.isRun(page));
 }
 
@@ -77,6 +77,6 @@ module.exports = {
     await trial.done(page, "explore()");
     trial.same("explore", await trial.printed(page), trial.run(["explore", "--verdict", "--states", "30"], parts));
     await trial.done(page, "play()");
-    trial.same("play", await page.evaluate("page"), trial.sheet(["--states", "30"], parts));
+    trial.same("play", await page.evaluate("page"), trial.whole(trial.run(["page", "--states", "30"], parts)));
   },
 };

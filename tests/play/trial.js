@@ -38,13 +38,18 @@ class Trial {
     return page.evaluate(`(shown => ${what})(byId('frame').contentDocument)`);
   }
   // What the native program prints.
-  run(words, parts, env = {}) {
+  run(words, parts, ...more) {
     const input = parts.map(it => it.replace(/\n?$/, "\n")).join("%%\n");
-    const done = spawnSync(this.native, words, { input, env: { ...process.env, ...env }, maxBuffer: 1 << 28 });
+    const done = spawnSync(this.native, [...words, ...more], { input, maxBuffer: 1 << 28 });
     return done.stdout.toString();
   }
-  // The page of a run, as ./listset page prints it.
-  sheet(words, parts) { return this.run(["page", ...words], parts, { LISTSET_PAGE: TOP + "/page/page.html" }); }
+  // The page of a run round data, as ./listset page makes it.
+  whole(data) {
+    const part = which => spawnSync("awk",
+      ["-v", "part=" + which, "-f", TOP + "/scripts/run/whole-page.awk", TOP + "/page/page.html"],
+      { env: { ...process.env, LC_ALL: "C" } }).stdout.toString();
+    return part("before") + data + part("after");
+  }
   kept(file) { return fs.readFileSync(path.join(TOP, file), "utf8"); }
   same(what, is, wanted) {
     if (is === wanted) return;

@@ -99,7 +99,7 @@ module.exports = {
     await page.evaluate("link()");
     const other = await trial.open({ hash: new URL(await page.evaluate("location.href")).hash });
     await trial.until(other, "byId('main').classList.contains('shown') && task === null");
-    const wanted = trial.sheet(["--choose"], [...parts, walk]);
+    const wanted = trial.whole(trial.run(["page", "--choose"], [...parts, walk]));
     trial.same("its data", await other.evaluate("page"), wanted);
   },
   async "stopping a search at any moment"(trial) {

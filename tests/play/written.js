@@ -10,15 +10,7 @@ const FAULTS = [
   [CLASS, "setup { a = new A(); }\nthread A { a.f(); }\n", "setup*9 C*2\n", "step()", "schedule", "C"],
   ["", "", "", "find()", null, ""],
 ];
-const JAVA = `import java.util.concurrent.atomic.AtomicInteger;
-public class Hits {
-  private final AtomicInteger all = new AtomicInteger();
-  private int last;
-  public int hit() { last = all.incrementAndGet(); return last; }
-}
-`;
 const TOLD = "JSON.stringify(Object.entries(texts).filter(([, it]) => !it.fault.hidden).map(([it]) => it))";
-const TWO = "[texts.program, texts.schedule].map(it => it.text).join('%%\\n')";
 const THREE = "[texts.classes, texts.program, texts.schedule].map(it => it.text).join('%%\\n')";
 
 module.exports = {
@@ -36,24 +28,6 @@ module.exports = {
       trial.same("the place", await page.evaluate(`texts.${name}.area.selectionStart`), marked.indexOf(word));
       trial.holds("one writes on there", await page.evaluate(`document.activeElement === texts.${name}.area`));
     }
-  },
-  // A class that isn't taken as it stands is read as Java; a link of it opens the same run.
-  async "Java as people write it"(trial) {
-    const page = await trial.open();
-    await trial.put(page, JAVA);
-    await trial.done(page, "find()");
-    trial.same("find", await trial.printed(page), trial.run(["find", "--java"], [JAVA]));
-    trial.has("what came out", await trial.outcome(page), "Restated as Java: ");
-    trial.has("its lines", await trial.outcome(page), "Hits.java:3: note: AtomicInteger");
-    const sheet = trial.sheet(["--java"], [JAVA, ...(await page.evaluate(TWO)).split("%%\n")]);
-    trial.same("the page", await page.evaluate("page"), sheet);
-    await trial.put(page, JAVA.replace("AtomicInteger", "Phaser"));
-    await trial.done(page, "find()");
-    trial.has("the verdict", await trial.verdict(page), "refused");
-    trial.has("what can't be restated", await trial.outcome(page), "Hits.java:3: error: ");
-    await trial.put(page, CLASS);
-    await trial.done(page, "find()");
-    trial.holds("nothing is told of a class text", !(await trial.outcome(page)).includes("estated"));
   },
   async "a fault of the menu"(trial) {
     const page = await trial.open();
@@ -105,7 +79,7 @@ module.exports = {
     const page = await trial.open(), [classes, program, schedule] = parts(trial);
     await trial.put(page, classes, program, schedule);
     await trial.done(page, "byId('through').click()");
-    trial.same("the page", await page.evaluate("page"), trial.sheet([], [classes, program, schedule]));
+    trial.same("the page", await page.evaluate("page"), trial.whole(trial.run(["page"], [classes, program, schedule])));
   },
   async "a program that is brought back"(trial) {
     const page = await trial.open(), own = "setup { t = new Tickets(); } // mine\nthread A { t.sell(); }\n";

@@ -71,12 +71,13 @@ module _ (file : File) (program : Program) where
   one_told s t = traced_events t (step file program s t).did (step file program s t).after []
       ∙ append-nil (events_of t (step file program s t).did)
 
-  more_told : (s : State) (j t : ℕ) → told s (replicate (j + 1) t) ≡
+  -- what one step more of a thread tells, and where it leads
+  pub more_told : (s : State) (j t : ℕ) → told s (replicate (j + 1) t) ≡
       told s (replicate j t) ++ events_of t (step file program (run does s (replicate j t)) t).did
   more_told s j t = ap (told s) (sym (replicate_more j t)) ∙ told_append s (replicate j t) (t ∷ [])
       ∙ ap (λ l. told s (replicate j t) ++ l) (one_told (run does s (replicate j t)) t)
 
-  more_run : (s : State) (j t : ℕ) → run does s (replicate (j + 1) t) ≡
+  pub more_run : (s : State) (j t : ℕ) → run does s (replicate (j + 1) t) ≡
       (step file program (run does s (replicate j t)) t).after
   more_run s j t = ap (run does s) (sym (replicate_more j t)) ∙ run-append does s (replicate j t) (t ∷ [])
       ∙ step_after file program (run does s (replicate j t)) t

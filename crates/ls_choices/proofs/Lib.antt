@@ -1,9 +1,16 @@
+pub mod Lists
 pub mod Steps
 pub mod Words
 pub mod Tracing
 pub mod Leading
 pub mod Walking
+pub mod Standing
+pub mod Wording
+pub mod Placing
+pub mod Turning
+pub mod Rowing
 pub mod Seeing
+pub mod Arriving
 pub mod Weighing
-pub mod Growing
+pub mod Gathering
 pub mod Cutting

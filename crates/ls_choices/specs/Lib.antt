@@ -4,4 +4,9 @@ pub mod Rows
 pub mod Walks
 pub mod Laws
 pub mod Reaching
+pub mod Standing
+pub mod StandingRows
+pub mod Telling
+pub mod Points
+pub mod Paths
 pub mod Seen

@@ -1,118 +1,132 @@
-// The states that have a number.
+// States by numbers, and those after a step.
 
-use crate::moment::Moment;
-use ls_transitions::hash_index::HashIndex;
+ghost use Rattle.std.specs.Prelude.{◌≡◌, ◌<◌, ◌++◌, IfOk, IsTrue, length, option_to_list, slice_set};
+ghost use Rattle.ls_labels.specs.Labels.{label_of};
+ghost use Rattle.ls_trace.specs.Told.{call_noted};
+ghost use Rattle.ls_transitions.specs.Seen.{table_of};
+ghost use Rattle.ls_choices.specs.Points.{IsSamePoint};
+
+use ls_labels::label::Label;
+use ls_search::advancing::take;
+use ls_search::places::NumberedState;
+use ls_search::searching::copy_place;
+use ls_trace::teller::note;
+use ls_transitions::hashing;
+use ls_transitions::moves::Step;
+use ls_transitions::transitions::Transitions;
 use std::alloc::{AllocError, Global};
 
-/// A state with the schedule by which it was found.
+/// A state by numbers, with the labels of its objects and the number of each thread's last call.
 #[derive(Drop)]
-pub struct Point<'a> {
-    pub path: Vec<u8>,
-    pub(crate) moment: Moment<'a>,
+pub struct Point {
+    pub(crate) place: NumberedState,
+    pub(crate) labels: Vec<Label>,
+    pub(crate) calls: Vec<usize>,
+    /// How many steps led there from the start, when it was found.
+    pub(crate) steps: usize,
+    /// 1 for each object, and 1 for each 16 of these steps.
+    pub(crate) weight: usize,
 }
 
-/// States, each once, by number.
-#[derive(Drop)]
-pub struct Points<'a> {
-    pub points: Vec<Point<'a>>,
-    // How much more they may weigh together, and 1. No more are kept where that is 0.
-    pub(crate) room: usize,
-    hints: HashIndex,
+// Whether a label is the other.
+fn is_same_label(label: Label, other: Label) -> bool
+    ensures { IsTrue result → label ≡ other }
+{
+    match (label, other) {
+        (Label::Class(a), Label::Class(b)) => a == b,
+        (Label::Lock, Label::Lock) => true,
+        (Label::Markable, Label::Markable) => true,
+        (Label::Array, Label::Array) => true,
+        _ => false,
+    }
 }
 
-// The most that states weigh together, but for the last of them. A state weighs 1 for each object of its store, and 1
-// for each 16 steps of its path. A bound on states alone wouldn't bound memory, since a program may make objects, and
-// steps that lead to new states, without end.
-const MOST_WEIGHT: usize = 0x40_0000;
-
-impl<'a> Points<'a> {
-    ghost use Rattle.std.specs.Prelude.{◌≡◌, ◌≤◌, ◌++◌, ◌∷◌, [], IfOk, IfSome, None, OnOk, length};
-    ghost use Rattle.ls_labels.specs.Names.{Names as Named};
-    ghost use Rattle.ls_transitions.specs.Tables.{Keeps};
-    ghost use Rattle.ls_choices.specs.Schedules.{told_after};
-    ghost use Rattle.ls_choices.specs.Rows.{AreLight, IsFull};
-    ghost use Rattle.ls_choices.specs.Seen.{AreSeen, IsFound, IsSeen, IsWeighed, seen_of, weighs};
-
-    /// No states.
-    pub fn new(alloc: Global) -> Points<'a>
-        ensures none { result.points.items ≡ [] }
-        ensures weighed { IsWeighed result }
-    {
-        Points {
-            points: Vec::new(alloc),
-            room: MOST_WEIGHT + 1,
-            hints: HashIndex::new(alloc),
+// Whether labels are the same, one by one.
+fn are_same_labels(labels: &[Label], others: &[Label]) -> bool
+    ensures { IsTrue result → labels.now ≡ others.now }
+{
+    if labels.len() != others.len() {
+        return false;
+    }
+    for i in 0..labels.len() {
+        if !is_same_label(labels[i], others[i]) {
+            return false;
         }
     }
+    true
+}
 
-    // The number of a state that is like a moment.
-    fn find(&self, hash: u64, moment: &Moment<'a>) -> Option<usize>
-        ensures { IfSome result (λ n. IsFound self.now.points.items moment.now n) }
+// Whether numbers are the same, one by one.
+fn are_same_numbers(numbers: &[usize], others: &[usize]) -> bool
+    ensures { IsTrue result → numbers.now ≡ others.now }
+{
+    numbers == others
+}
+
+/// What a state weighs, by its store and the steps that led there.
+pub(crate) fn weigh(transitions: &Transitions<'_>, store: usize, steps: usize) -> usize
+    requires { store < length (table_of transitions.now).stores }
+{
+    let objects = transitions.store_at(store).things.len();
+    objects.saturating_add(steps / 16)
+}
+
+impl Point {
+    /// Whether later lines depend on the same. True only where they do.
+    pub(crate) fn is_same(&self, other: &Point) -> bool
+        ensures { IsTrue result → IsSamePoint self.now other.now }
     {
-        let mut hint = self.hints.last(hash);
-        for _ in 0..self.points.len() {
-            let place = hint?;
-            let point = self.points.get(place)?;
-            if point.moment.is_same(moment) {
-                return Some(place);
-            }
-            hint = self.hints.before(place);
-        }
-        None
+        self.place.store == other.place.store
+            && are_same_numbers(&self.place.works, &other.place.works)
+            && are_same_labels(&self.labels, &other.labels)
+            && are_same_numbers(&self.calls, &other.calls)
     }
 
-    /// Adds a state, and answers its number.
-    pub(crate) fn add(
-        &mut self,
+    /// A number by which the same states are looked for. Nothing depends on it.
+    pub(crate) fn hash(&self) -> u64 {
+        let mut hash = hashing::hash_of_key(1, self.place.store, self.labels.len());
+        for work in &self.place.works {
+            hash = hashing::hash_of_key(2, hash as usize, *work);
+        }
+        for call in &self.calls {
+            hash = hashing::hash_of_key(3, hash as usize, *call);
+        }
+        hash
+    }
+
+    /// The state after a step of a thread. The only refusal is that memory ran out.
+    pub(crate) fn after(
+        &self,
         alloc: Global,
-        hash: u64,
-        path: Vec<u8>,
-        moment: Moment<'a>,
-    ) -> Result<usize, AllocError>
-        ensures added { OnOk result (self.new.points.items ≡ self.old.points.items ++
-            (record { path = path; moment = moment.entry }) ∷ []) }
-        ensures number { IfOk result (λ n. n ≡ length self.old.points.items) }
-        ensures weighed { OnOk result (IsWeighed self.old → IsWeighed self.new) }
+        transitions: &Transitions<'_>,
+        thread: usize,
+        step: &Step,
+    ) -> Result<Point, AllocError>
+        requires within { thread < length self.now.place.works.items }
+        requires store { step.now.store < length (table_of transitions.now).stores }
+        ensures store { IfOk result (λ p. p.place.store ≡ step.now.store) }
+        ensures works { IfOk result (λ p. p.place.works.items ≡
+            slice_set self.now.place.works.items thread step.now.work) }
+        ensures labels { IfOk result (λ p. p.labels.items ≡ self.now.labels.items ++
+            option_to_list (label_of step.now.action)) }
+        ensures calls { IfOk result (λ p. p.calls.items ≡
+            call_noted self.now.calls.items thread step.now.action) }
     {
-        let number = self.points.len();
-        self.hints.add(alloc, hash)?;
-        let objects = moment.playing.store_and_events.store.things.len();
-        self.room = self
-            .room
-            .saturating_sub(objects)
-            .saturating_sub(path.len() / 16);
-        self.points.push(Point { path, moment })?;
-        Ok(number)
-    }
-
-    /// The number of the state of a path. It is kept if it is new, there are fewer than so many, and they weigh no more
-    /// than they may. Otherwise there is none.
-    pub fn keep(
-        &mut self,
-        alloc: Global,
-        path: Vec<u8>,
-        moment: Moment<'a>,
-        most: usize,
-    ) -> Result<Option<usize>, AllocError>
-        requires { IsWeighed self.old }
-        ensures found { IfOk result (λ o. IfSome o (λ n. IsFound self.new.points.items moment.entry n)) }
-        ensures seen { OnOk result ((names : Named) → AreSeen names self.old.points.items →
-            IsSeen names (seen_of moment.entry) (told_after names path.items) →
-            AreSeen names self.new.points.items) }
-        ensures keeps { OnOk result (Keeps self.old.points.items self.new.points.items) }
-        ensures full { IfOk result (λ o. o ≡ None → IsFull weighs most self.new.points.items) }
-        ensures few { OnOk result (length self.old.points.items ≤ most → length self.new.points.items ≤ most) }
-        ensures light { OnOk result (AreLight weighs self.old.points.items → AreLight weighs self.new.points.items) }
-        ensures weighed { OnOk result (IsWeighed self.new) }
-    {
-        let hash = moment.hash();
-        if let Some(number) = self.find(hash, &moment) {
-            return Ok(Some(number));
-        }
-        if self.points.len() >= most || self.room == 0 {
-            return Ok(None);
-        }
-        let number = self.add(alloc, hash, path, moment)?;
-        Ok(Some(number))
+        let mut place = copy_place(alloc, &self.place)?;
+        take(&mut place, thread, step);
+        let mut labels = Vec::new(alloc);
+        labels.extend_from_slice(&self.labels)?;
+        let mut calls = Vec::new(alloc);
+        calls.extend_from_slice(&self.calls)?;
+        note(&mut labels, &mut calls, thread, &step.action)?;
+        let steps = self.steps.saturating_add(1);
+        let weight = weigh(transitions, place.store, steps);
+        Ok(Point {
+            place,
+            labels,
+            calls,
+            steps,
+            weight,
+        })
     }
 }

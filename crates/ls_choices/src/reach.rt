@@ -116,11 +116,11 @@ fn are_kept(choices: &Choices, count: usize, depths: &[usize], steps: usize) -> 
 fn depths_of(alloc: Global, choices: &Choices) -> Result<Vec<usize>, AllocError> {
     let mut depths = Vec::new(alloc);
     let mut least = 0;
-    for point in &choices.points.points {
+    for path in &choices.paths {
         if depths.len() == 0 {
-            least = point.path.len();
+            least = path.len();
         }
-        depths.push(point.path.len().saturating_sub(least))?;
+        depths.push(path.len().saturating_sub(least))?;
     }
     Ok(depths)
 }

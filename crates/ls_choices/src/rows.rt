@@ -1,19 +1,26 @@
-// What each thread's next step does after a schedule.
+// What each thread's next step does at a state.
 
-ghost use Rattle.std.specs.Prelude.{◌≡◌, ◌≤◌, ◌∷◌, ◌++◌, [], ℕ, IfOk, None, OnOk, Some, length, map, string_bytes};
+ghost use Rattle.std.specs.Prelude.{◌≡◌, ◌<◌, IfOk, None, Some, false, length, map, slice_get, string_bytes, true};
+ghost use Rattle.ls_checked.specs.Plain.{plain_file};
 ghost use Rattle.ls_labels.specs.Names.{names_of};
-ghost use Rattle.ls_trace.specs.SeenTeller.{RunsNamed, names_in, told_of};
-ghost use Rattle.ls_trace.specs.Told.{after_step};
-ghost use Rattle.ls_transitions.specs.Tables.{Keeps};
-ghost use Rattle.ls_choices.specs.Rows.{AreLight, AreRows, AreRowsCut, IsFull, IsRow, LeadsTo, rows_of_threads};
-ghost use Rattle.ls_choices.specs.Schedules.{acts, is_action, is_waiting, told_after, waits, words_of};
-ghost use Rattle.ls_choices.specs.Seen.{AreSeen, IsWeighed, path_of, row_of, weighs};
+ghost use Rattle.ls_transitions.specs.Tables.{Grows};
+ghost use Rattle.ls_transitions.specs.Seen.{table_of};
+ghost use Rattle.ls_search.specs.Places.{configuration_of};
+ghost use Rattle.ls_choices.specs.Points.{ArePlaced, IsActing, standing_at};
+ghost use Rattle.ls_choices.specs.Rows.{AreCut, AreRowsCut, HaveRows, rows_of_threads};
+ghost use Rattle.ls_choices.specs.Seen.{row_of};
+ghost use Rattle.ls_choices.specs.Standing.{Standing};
+ghost use Rattle.ls_choices.specs.StandingRows.{AreStandingRows, AreStandingRowsOfAll, IsStandingRow};
 
-use crate::moment::Moment;
-use crate::points::Points;
+use crate::finding::find;
+use crate::points::Point;
+use crate::telling::{acted_words, idle_words, waiting_words};
+use crate::turns::{Turn, turn_of};
 use ls_labels::names::Names;
-use ls_meaning::step::Did;
-use ls_trace::teller::Teller;
+use ls_labels::threads::{end_words, start_words};
+use ls_transitions::hash_index::HashIndex;
+use ls_transitions::moves::Step;
+use ls_transitions::transitions::Transitions;
 use std::alloc::{AllocError, Global};
 
 /// A step of a thread: what is told of it, whether it does anything, whether it waits, and the number of the state
@@ -26,165 +33,138 @@ pub struct Row {
     pub to: Option<usize>,
 }
 
-// What is told of a step, whether it does anything, and whether it waits.
+/// The states that are kept.
 #[derive(Drop)]
-struct Told {
-    words: String,
-    acts: bool,
-    waits: bool,
+pub(crate) struct Scene<'a, 's> {
+    pub(crate) alloc: Global,
+    pub(crate) names: Names<'a>,
+    pub(crate) points: &'s [Point],
+    pub(crate) index: &'s HashIndex,
+    /// Whether no more may be kept.
+    pub(crate) full: bool,
 }
 
-// Whether a step does more than wait, or nothing.
-fn is_action(did: &Did) -> bool
-    ensures { result ≡ is_action did.now }
+// The row of a step that does nothing at the state of a number.
+fn still_row(words: String, waits: bool, number: usize) -> Row
+    ensures { row_of result ≡ record { words = string_bytes words; acts = false; waits = waits; to = Some number } }
 {
-    match did {
-        Did::Acted(_, _) => true,
-        Did::Waits => false,
-        Did::Idle => false,
-    }
-}
-
-// Whether a step waits.
-fn is_waiting(did: &Did) -> bool
-    ensures { result ≡ is_waiting did.now }
-{
-    match did {
-        Did::Acted(_, _) => false,
-        Did::Waits => true,
-        Did::Idle => false,
-    }
-}
-
-// The run of a schedule, whose next steps are told.
-fn teller_after<'a>(alloc: Global, names: Names<'a>, steps: &[u8]) -> Result<Teller<'a>, AllocError>
-    ensures run { IfOk result (λ t. told_of t ≡ told_after (names_of names.entry) steps.now) }
-    ensures names { IfOk result (λ t. names_in t ≡ names_of names.entry) }
-    ensures runs { IfOk result (λ t. RunsNamed t) }
-{
-    let mut teller = Teller::new(alloc, names)?;
-    for thread in steps {
-        teller.step(alloc, *thread as usize)?;
-    }
-    Ok(teller)
-}
-
-// What is told of a step of a thread after a schedule.
-fn tell<'a>(
-    alloc: Global,
-    names: Names<'a>,
-    steps: &[u8],
-    thread: usize,
-) -> Result<Told, AllocError>
-    ensures words { IfOk result (λ t. string_bytes t.words ≡
-        words_of (names_of names.entry) (told_after (names_of names.entry) steps.now) thread) }
-    ensures acts { IfOk result (λ t. t.acts ≡
-        acts (names_of names.entry) (told_after (names_of names.entry) steps.now) thread) }
-    ensures waits { IfOk result (λ t. t.waits ≡
-        waits (names_of names.entry) (told_after (names_of names.entry) steps.now) thread) }
-{
-    let mut teller = teller_after(alloc, names, steps)?;
-    let did = teller.step(alloc, thread)?;
-    let mut words = String::new(alloc);
-    teller.push_step(alloc, &mut words, thread, &did)?;
-    Ok(Told {
+    Row {
         words,
-        acts: is_action(&did),
-        waits: is_waiting(&did),
-    })
+        acts: false,
+        waits,
+        to: Some(number),
+    }
 }
 
-// A schedule with one more step.
-fn path_with(alloc: Global, steps: &[u8], thread: u8) -> Result<Vec<u8>, AllocError>
-    ensures { IfOk result (λ v. v.items ≡ steps.now ++ thread ∷ []) }
-{
-    let mut path = Vec::new(alloc);
-    path.extend_from_slice(steps)?;
-    path.push(thread)?;
-    Ok(path)
-}
-
-// The number of the state after a schedule and a step of a thread.
-fn lead<'a>(
-    alloc: Global,
-    names: Names<'a>,
-    points: &mut Points<'a>,
-    steps: &[u8],
-    thread: u8,
-    most: usize,
-) -> Result<Option<usize>, AllocError>
-    requires seen { AreSeen (names_of names) points.old.points.items }
-    requires weighed { IsWeighed points.old }
-    ensures leads { IfOk result (λ o. (n : ℕ) → o ≡ Some n →
-        LeadsTo (names_of names.entry) (map path_of points.new.points.items)
-        (after_step (names_of names.entry) (told_after (names_of names.entry) steps.now) thread) n) }
-    ensures seen { OnOk result (AreSeen (names_of names.entry) points.new.points.items) }
-    ensures keeps { OnOk result (Keeps points.old.points.items points.new.points.items) }
-    ensures full { IfOk result (λ o. o ≡ None → IsFull weighs most points.new.points.items) }
-    ensures few { OnOk result (length points.old.points.items ≤ most → length points.new.points.items ≤ most) }
-    ensures light { OnOk result (AreLight weighs points.old.points.items → AreLight weighs points.new.points.items) }
-    ensures weighed { OnOk result (IsWeighed points.new) }
-{
-    let path = path_with(alloc, steps, thread)?;
-    let moment = Moment::after(alloc, names, &path)?;
-    let to = points.keep(alloc, path, moment, most)?;
-    Ok(to)
-}
-
-// The row of a thread after a schedule.
-fn row_of_thread<'a>(
-    alloc: Global,
-    names: Names<'a>,
-    points: &mut Points<'a>,
-    steps: &[u8],
-    thread: u8,
-    most: usize,
+// The row of a step that acts. It is refused where the state after it isn't kept though more may be.
+fn acting_row<'a>(
+    scene: &Scene<'a, '_>,
+    transitions: &Transitions<'a>,
+    point: &Point,
+    thread: usize,
+    step: &Step,
 ) -> Result<Row, AllocError>
-    requires seen { AreSeen (names_of names) points.old.points.items }
-    requires weighed { IsWeighed points.old }
-    ensures row { IfOk result (λ r. IsRow (names_of names.entry) (map path_of points.new.points.items)
-        (told_after (names_of names.entry) steps.now) thread (row_of r)) }
-    ensures seen { OnOk result (AreSeen (names_of names.entry) points.new.points.items) }
-    ensures keeps { OnOk result (Keeps points.old.points.items points.new.points.items) }
-    ensures full { IfOk result (λ r. r.to ≡ None → IsFull weighs most points.new.points.items) }
-    ensures few { OnOk result (length points.old.points.items ≤ most → length points.new.points.items ≤ most) }
-    ensures light { OnOk result (AreLight weighs points.old.points.items → AreLight weighs points.new.points.items) }
-    ensures weighed { OnOk result (IsWeighed points.new) }
+    requires file { (table_of transitions.now).file ≡ plain_file scene.now.names.file.now }
+    requires acts { IsActing (table_of transitions.now).file (table_of transitions.now)
+        (configuration_of (table_of transitions.now) point.now.place) point.now.place.works.items thread step.now }
+    ensures row { IfOk result (λ r. IsStandingRow (names_of scene.now.names)
+        (map (standing_at (table_of transitions.now)) scene.now.points.now)
+        (standing_at (table_of transitions.now) point.now) thread (row_of r)) }
+    ensures full { IfOk result (λ r. r.to ≡ None → scene.now.full ≡ true) }
 {
-    let Told { words, acts, waits } = tell(alloc, names, steps, thread as usize)?;
-    let to = lead(alloc, names, points, steps, thread, most)?;
+    let after = point.after(scene.alloc, transitions, thread, step)?;
+    let words = acted_words(scene.alloc, &scene.names, &after, thread, step)?;
+    let to = find(scene.points, scene.index, &after);
+    if to.is_none() && !scene.full {
+        return Err(AllocError);
+    }
     Ok(Row {
         words,
-        acts,
-        waits,
+        acts: true,
+        waits: false,
         to,
     })
 }
 
-/// The rows of all threads after a schedule, the setup first, and of 256 at most. The only refusal is that memory ran
-/// out.
-pub fn rows_after<'a>(
-    alloc: Global,
-    names: Names<'a>,
-    points: &mut Points<'a>,
-    steps: &[u8],
-    most: usize,
-) -> Result<Vec<Row>, AllocError>
-    requires seen { AreSeen (names_of names) points.old.points.items }
-    requires weighed { IsWeighed points.old }
-    ensures rows { IfOk result (λ v. AreRows (names_of names.entry) (map path_of points.new.points.items)
-        (told_after (names_of names.entry) steps.now) (map row_of v.items)) }
-    ensures seen { OnOk result (AreSeen (names_of names.entry) points.new.points.items) }
-    ensures keeps { OnOk result (Keeps points.old.points.items points.new.points.items) }
-    ensures full { IfOk result (λ v. AreRowsCut (IsFull weighs most points.new.points.items) (map row_of v.items)) }
-    ensures few { OnOk result (length points.old.points.items ≤ most → length points.new.points.items ≤ most) }
-    ensures light { OnOk result (AreLight weighs points.old.points.items → AreLight weighs points.new.points.items) }
-    ensures weighed { OnOk result (IsWeighed points.new) }
-    ensures threads { IfOk result (λ v. length v.items ≡ rows_of_threads (names_of names.entry).program) }
+// The row of a thread at the state of a number.
+fn row_of_thread<'a>(
+    scene: &Scene<'a, '_>,
+    transitions: &mut Transitions<'a>,
+    number: usize,
+    thread: usize,
+) -> Result<Row, AllocError>
+    requires placed { ArePlaced (plain_file scene.now.names.file.now) (table_of transitions.old)
+        scene.now.points.now }
+    requires there { number < length scene.now.points.now }
+    requires within { thread < length (names_of scene.now.names).program.threads }
+    ensures row { IfOk result (λ r. (s : Standing) →
+        slice_get (map (standing_at (table_of transitions.old)) scene.now.points.now) number ≡ Some s →
+        IsStandingRow (names_of scene.now.names)
+        (map (standing_at (table_of transitions.old)) scene.now.points.now) s thread (row_of r)) }
+    ensures full { IfOk result (λ r. r.to ≡ None → scene.now.full ≡ true) }
+    ensures grows { Grows (table_of transitions.old) (table_of transitions.new) }
 {
-    let mut rows = Vec::new(alloc);
-    for thread in 0..names.program.threads.len().min(256) {
-        rows.push(row_of_thread(alloc, names, points, steps, thread as u8, most)?)?;
+    let alloc = scene.alloc;
+    let point = &scene.points[number];
+    match turn_of(alloc, transitions, &point.place, thread)? {
+        Turn::NotStarted(trapped) => {
+            let words = idle_words(alloc, &scene.names, thread, start_words(trapped))?;
+            Ok(still_row(words, false, number))
+        }
+        Turn::Ended(trapped) => {
+            let words = idle_words(alloc, &scene.names, thread, end_words(trapped))?;
+            Ok(still_row(words, false, number))
+        }
+        Turn::Waits(work) => {
+            let words = waiting_words(alloc, &scene.names, transitions, point, thread, work)?;
+            Ok(still_row(words, true, number))
+        }
+        Turn::Acts(step) => acting_row(scene, transitions, point, thread, &step),
+    }
+}
+
+// The rows of all threads at the state of a number, the setup first.
+fn rows_at<'a>(
+    scene: &Scene<'a, '_>,
+    transitions: &mut Transitions<'a>,
+    number: usize,
+) -> Result<Vec<Row>, AllocError>
+    requires placed { ArePlaced (plain_file scene.now.names.file.now) (table_of transitions.old)
+        scene.now.points.now }
+    requires there { number < length scene.now.points.now }
+    ensures rows { IfOk result (λ v. (s : Standing) →
+        slice_get (map (standing_at (table_of transitions.old)) scene.now.points.now) number ≡ Some s →
+        AreStandingRows (names_of scene.now.names)
+        (map (standing_at (table_of transitions.old)) scene.now.points.now) s (map row_of v.items)) }
+    ensures full { IfOk result (λ v. AreRowsCut (scene.now.full ≡ true) (map row_of v.items)) }
+    ensures threads { IfOk result (λ v. length v.items ≡ rows_of_threads (names_of scene.now.names).program) }
+    ensures grows { Grows (table_of transitions.old) (table_of transitions.new) }
+{
+    let mut rows = Vec::new(scene.alloc);
+    for thread in 0..scene.names.program.threads.len().min(256) {
+        rows.push(row_of_thread(scene, transitions, number, thread)?)?;
     }
     Ok(rows)
+}
+
+/// The rows of all threads at each state, and of 256 at most. A refusal is that memory ran out, that a store or a work
+/// has no number left, or that a state isn't kept though more may be. That the last is never so isn't proved.
+pub(crate) fn rows_of_all<'a>(
+    scene: &Scene<'a, '_>,
+    transitions: &mut Transitions<'a>,
+) -> Result<Vec<Vec<Row>>, AllocError>
+    requires placed { ArePlaced (plain_file scene.now.names.file.now) (table_of transitions.old)
+        scene.now.points.now }
+    ensures rows { IfOk result (λ v. AreStandingRowsOfAll (names_of scene.now.names)
+        (map (standing_at (table_of transitions.old)) scene.now.points.now) (map (λ r. map row_of r.items) v.items)) }
+    ensures full { IfOk result (λ v. AreCut (scene.now.full ≡ true) (map (λ r. map row_of r.items) v.items)) }
+    ensures threads { IfOk result (λ v. HaveRows (rows_of_threads (names_of scene.now.names).program)
+        (map (λ r. map row_of r.items) v.items)) }
+    ensures many { IfOk result (λ v. length v.items ≡ length scene.now.points.now) }
+{
+    let mut all = Vec::new(scene.alloc);
+    for number in 0..scene.points.len() {
+        all.push(rows_at(scene, transitions, number)?)?;
+    }
+    Ok(all)
 }

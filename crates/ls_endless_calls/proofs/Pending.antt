@@ -96,17 +96,17 @@ module _ (file : File) (program : Program) where
   calls_of t = calls_in (slice_get program.threads t)
 
   -- the call's thread has started, and stands in the call
-  record IsInside (s : State) (c : Event) : Type 0 where
-    started : has_started file program s c.thread ≡ true
-    inside : IsIn file program c.call 1 (calls_of c.thread) (answers_of s c.thread)
+  pub record IsInside (s : State) (c : Event) : Type 0 where
+    pub started : has_started file program s c.thread ≡ true
+    pub inside : IsIn file program c.call 1 (calls_of c.thread) (answers_of s c.thread)
 
-  abbrev HasEnd : List Event → Event → Type 0
+  abbrev pub HasEnd : List Event → Event → Type 0
   HasEnd h c = (e : Event) × Contains h e × IsEndOf c e
 
   -- each call has ended, or its thread stands in it
-  record AreInside (s : State) (h : List Event) : Type 0 where
-    count : length s.answers ≡ length program.threads
-    inside : (c : Event) → Contains h c → IsCall c → HasEnd h c ⊎ IsInside s c
+  pub record AreInside (s : State) (h : List Event) : Type 0 where
+    pub count : length s.answers ≡ length program.threads
+    pub inside : (c : Event) → Contains h c → IsCall c → HasEnd h c ⊎ IsInside s c
 
   module _ (s : State) (h : List Event) (t : ℕ) (r : AreInside s h) (acts : IsActing (step file program s t).did) where
     abbrev n : Next
@@ -218,7 +218,8 @@ module _ (file : File) (program : Program) where
     inside = λ c there. absurd (omega (arith, there.1));
   }
 
-  all_inside : (schedule : List ℕ) → AreInside (source_run file program schedule) (source_history file program schedule)
+  pub all_inside : (schedule : List ℕ) → AreInside (source_run file program schedule)
+      (source_history file program schedule)
   all_inside schedule = holds_of_all file program AreInside (λ s h t r acts. kept s h t r acts) at_start schedule
 
 pub pending_waits : PendingWaits

@@ -126,7 +126,7 @@ fn goes_on<'a>(
 }
 
 /// Whether steps come from a state to an event, or to where none of so many threads acts. True only where they do.
-pub(crate) fn comes_to_break<'a>(
+pub fn comes_to_break<'a>(
     alloc: Global,
     transitions: &mut Transitions<'a>,
     place: &NumberedState,

@@ -9,5 +9,6 @@ pub mod laws;
 mod listing;
 mod waiting;
 
+pub use breaking::comes_to_break;
 pub use finding::{Endless, find_endless};
 pub use waiting::first_unexcused;

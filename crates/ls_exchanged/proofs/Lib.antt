@@ -8,7 +8,6 @@ pub mod Turning
 pub mod Texts
 pub mod Legal
 pub mod Naming
-pub mod Same
 pub mod Named
 pub mod Below
 pub mod Places

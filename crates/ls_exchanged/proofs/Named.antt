@@ -5,7 +5,7 @@ use Rattle.ls_checked.specs.CheckedProgram as plain
 use Rattle.ls_checked.specs.PlainProgram.{plain_thread}
 use Rattle.ls_checked.specs.declared.program.ThreadProgram.{ThreadProgram}
 use Rattle.ls_exchanged.specs.Doubles.{names_of}
-use Rattle.ls_exchanged.proofs.Same.{map_twice}
+use Rattle.ls_same_calls.proofs.Same.{map_twice}
 
 abbrev pub name_in : ThreadProgram → List ℕ
 name_in t = string_bytes t.name

@@ -7,8 +7,8 @@ ghost use Rattle.ls_exchanged.specs.Exchanged.{exchanged};
 ghost use Rattle.ls_exchanged.specs.Doubles.{AreDoubles, AreExchangedAt, HaveExchangedAt, HaveSameNames};
 ghost use Rattle.ls_exchanged.specs.Doubles.{IsExchangedAt, names_of};
 
-use crate::calls::{same_calls, same_names};
 use ls_checked::program::{Program, ThreadProgram};
+use ls_same_calls::calls::{same_calls, same_names};
 
 /// Whether two threads have the same name.
 fn same_thread_name(first: &ThreadProgram, second: &ThreadProgram) -> bool

@@ -1,7 +1,6 @@
 //! Programs with two threads exchanged: their histories are the same with these exchanged, and so are their verdicts.
 #![tactic(auto)]
 
-mod calls;
 pub mod doubles;
 mod exchanges;
 pub mod laws;

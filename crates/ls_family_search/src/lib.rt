@@ -9,5 +9,5 @@ mod windows;
 
 pub use judging::{Halted, Judge, Judgement, Passed};
 pub use programs::{Numbers, Programs};
-pub use searching::{Finding, search};
+pub use searching::{Finding, Stretch, search, search_stretch, whole_stretch};
 pub use watching::SearchWatch;

@@ -6,7 +6,7 @@ ghost use Rattle.ls_families.specs.Families.{plans};
 ghost use Rattle.ls_family_search.specs.Searched.{IsFinding, PassedAreGood};
 
 use ls_explore::Watch;
-use ls_family_search::{Finding, Judge, Numbers, Programs, SearchWatch, search};
+use ls_family_search::{Finding, Judge, Numbers, Programs, SearchWatch, Stretch, search, search_stretch};
 use std::alloc::{AllocError, Global};
 use std::thread::Threads;
 
@@ -56,4 +56,24 @@ pub(crate) fn searched<J: Judge + Sync, W: Watch>(
 {
     let mut noting = Noting::new(watch);
     search(rt, judge, alloc, programs, numbers, &mut noting)
+}
+
+/// What a search of a stretch of programs finds. The watch notes how many are done.
+pub(crate) fn searched_stretch<J: Judge + Sync, W: Watch>(
+    rt: &(impl Threads + Sync),
+    judge: &J,
+    alloc: Global,
+    programs: &Programs<'_>,
+    stretch: Stretch,
+    watch: &mut W,
+) -> Result<Finding<J::Why>, AllocError>
+    requires order { stretch.numbers.from ≤ stretch.numbers.to }
+    requires there { stretch.numbers.to ≤ length (plans programs.now.family) }
+    ensures finding { IfOk result (IsFinding programs.now (J.IsGood judge.now) (J.IsCut judge.now) (J.Halts judge.now)
+        stretch.numbers.from stretch.numbers.to) }
+    ensures good { IfOk result (PassedAreGood programs.now (J.IsGood judge.now) stretch.numbers.from) }
+    ensures watched { GoesOn W.Since watch.old watch.new }
+{
+    let mut noting = Noting::new(watch);
+    search_stretch(rt, judge, alloc, programs, stretch, &mut noting)
 }

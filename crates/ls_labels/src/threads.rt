@@ -1,8 +1,9 @@
 // Threads in words.
 
-ghost use Rattle.std.specs.Prelude.{◌≡◌, ◌++◌, OnOk, option_map, string_bytes};
+ghost use Rattle.std.specs.Prelude.{◌≡◌, ◌++◌, OnOk, map, option_map, string_bytes};
 ghost use Rattle.std.specs.Option.{option_copied};
 ghost use Rattle.ls_checked.specs.PlainProgram.{plain_program};
+ghost use Rattle.ls_meaning.specs.Store.{Store, thing_at};
 ghost use Rattle.ls_source_store.specs.SeenThing.{thing_of};
 ghost use Rattle.ls_source.specs.Shown.{progress_of};
 ghost use Rattle.ls_labels.specs.Names.{names_of};
@@ -85,24 +86,34 @@ fn push_awaited(
     out.push_str(" owns")
 }
 
-/// As `push_wait`.
-pub fn add_wait(
+/// The thing of this number among all things of a store. 0, which is null, names none.
+fn thing_among(things: &[Thing], number: u64) -> Option<&Thing>
+    ensures { (s : Store) → s.things ≡ map thing_of things.now →
+        option_map thing_of (option_copied result) ≡ thing_at s number }
+{
+    if number == 0 {
+        return None;
+    }
+    things.get((number - 1) as usize)
+}
+
+/// As `push_wait`, by the things of the run's store.
+pub fn add_wait_among(
     out: &mut String,
     names: &Names,
     labels: &[Label],
-    run: &SourceRun,
+    things: &[Thing],
     action: &Action<Value>,
 ) -> Result<(), AllocError>
-    ensures { OnOk result (string_bytes out.new
-        ≡ string_bytes out.old ++ wait_text (names_of names.now) labels.now
-        (progress_of run.now).state.store action.now) }
+    ensures { (s : Store) → s.things ≡ map thing_of things.now → OnOk result (string_bytes out.new
+        ≡ string_bytes out.old ++ wait_text (names_of names.now) labels.now s action.now) }
 {
     match action {
-        Action::Lock(lock) => match owner_of(run.thing(*lock)) {
+        Action::Lock(lock) => match owner_of(thing_among(things, *lock)) {
             Some(owner) => push_awaited(out, names, labels, "waits for ", *lock, owner),
             None => Ok(()),
         },
-        Action::LockMonitor(object) => match owner_of(run.thing(*object)) {
+        Action::LockMonitor(object) => match owner_of(thing_among(things, *object)) {
             Some(owner) => push_awaited(
                 out,
                 names,
@@ -115,6 +126,21 @@ pub fn add_wait(
         },
         _ => Ok(()),
     }
+}
+
+/// As `push_wait`.
+pub fn add_wait(
+    out: &mut String,
+    names: &Names,
+    labels: &[Label],
+    run: &SourceRun,
+    action: &Action<Value>,
+) -> Result<(), AllocError>
+    ensures { OnOk result (string_bytes out.new
+        ≡ string_bytes out.old ++ wait_text (names_of names.now) labels.now
+        (progress_of run.now).state.store action.now) }
+{
+    add_wait_among(out, names, labels, run.things(), action)
 }
 
 /// Adds what a thread waits for, by the action that it asks for, as `waits for ReentrantLock#2, which A owns`. If the

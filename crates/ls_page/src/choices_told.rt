@@ -155,8 +155,8 @@ fn push_tables(
 
 // What is known of the states.
 #[derive(Clone, Copy)]
-struct Told<'a, 't> {
-    choices: &'t Choices<'a>,
+struct Told<'t> {
+    choices: &'t Choices,
     reach: Reach,
     tables: &'t Tables,
 }

@@ -4,14 +4,13 @@ ghost use Rattle.std.specs.Prelude.{◌≡◌, ◌++◌, [], IfOk, OnOk, map, sl
 ghost use Rattle.ls_labels.specs.Names.{names_of};
 ghost use Rattle.ls_state.specs.Parts.{numbered};
 ghost use Rattle.ls_state.specs.State.{state_text};
-ghost use Rattle.ls_choices.specs.Seen.{graph_of, path_of, row_of};
+ghost use Rattle.ls_choices.specs.Seen.{graph_of, row_of};
 ghost use Rattle.ls_page.specs.Lists.{element};
 ghost use Rattle.ls_page.specs.States.{end_text, ends_from, ends_text, is_end, told_text, waits_in};
 
 use crate::choices_parts::{push_comma, push_truth};
 use crate::push_quoted;
 use ls_choices::graph::Choices;
-use ls_choices::points::Point;
 use ls_choices::rows::Row;
 use ls_labels::names::Names;
 use ls_state::state;
@@ -66,11 +65,11 @@ fn rows_at(all: &[Vec<Row>], number: usize) -> &[Row]
 }
 
 // The path of a state, or none.
-fn path_at<'p>(points: &'p [Point<'_>], number: usize) -> &'p [u8]
-    ensures { result.now ≡ slice_index_or (map path_of points.now) number [] }
+fn path_at(paths: &[Vec<u8>], number: usize) -> &[u8]
+    ensures { result.now ≡ slice_index_or (map (λ p. p.items) paths.now) number [] }
 {
-    match points.get(number) {
-        Some(point) => point.path.as_slice(),
+    match paths.get(number) {
+        Some(path) => path.as_slice(),
         None => &[],
     }
 }
@@ -98,7 +97,7 @@ fn push_end<'a>(
     ensures { OnOk result (string_bytes out.new ≡ string_bytes out.old ++
         element (end_text (names_of names.entry) (graph_of choices.now)) place number) }
 {
-    let words = state(alloc, names, path_at(&choices.points.points, number))?;
+    let words = state(alloc, names, path_at(&choices.paths, number))?;
     let waits = waits_in(rows_at(&choices.rows, number));
     push_comma(out, place)?;
     push_told(out, number, words.as_str(), waits)?;

@@ -15,3 +15,4 @@ pub use accesses::is_unsure;
 pub use finding::{Race, Races, Scope, find_races, is_free};
 pub use flags::flags_of;
 pub use one_graph::{TurningAndRaces, turning_and_races};
+pub use space::meet_at;

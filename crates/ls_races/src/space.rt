@@ -34,7 +34,7 @@ pub struct RaceSpace<'a, 'b, 'c> {
 
 /// Whether accesses of the first so many threads meet at a state, on a variable of a kind that wasn't told. False only
 /// where none do.
-pub(crate) fn meet_at<'a>(
+pub fn meet_at<'a>(
     alloc: Global,
     classes: &[Vec<bool>],
     told: &[Kind],

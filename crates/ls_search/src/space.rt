@@ -281,7 +281,7 @@ fn waits_with(waits: bool, looked: Looked) -> bool
 }
 
 /// Whether no thread acts at a state, and one waits.
-pub(crate) fn is_stuck_at<'a>(
+pub fn is_stuck_at<'a>(
     alloc: Global,
     threads: u8,
     transitions: &mut Transitions<'a>,

@@ -9,6 +9,7 @@ pub mod Strides
 pub mod Telling
 pub mod AtOnce
 pub mod AtOnceRenamed
+pub mod Founding
 pub mod Search
 pub mod Cells
 pub mod Histories

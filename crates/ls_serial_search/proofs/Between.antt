@@ -258,10 +258,11 @@ module _ (file : File) (program : Program) where
     pub orderly_kept : IsOrderly s' (h ++ es)
     orderly_kept = let a = has_acted file program s t acts in by_event a (event_of t a.action) refl
 
-  abbrev none_of : ThreadProgram → Answers
+  abbrev pub none_of : ThreadProgram → Answers
   none_of t = []
 
-  none_at_start : (xs : List ThreadProgram) (u : ℕ) → slice_index_or (map none_of xs) u [] ≡ []
+  -- at the start no thread has had an answer
+  pub none_at_start : (xs : List ThreadProgram) (u : ℕ) → slice_index_or (map none_of xs) u [] ≡ []
   none_at_start [] u = refl
   none_at_start (x ∷ xs) zero = refl
   none_at_start (x ∷ xs) (suc u) = none_at_start xs u

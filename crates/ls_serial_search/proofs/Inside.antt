@@ -74,7 +74,8 @@ cut (x ∷ b) (w ∷ q) y z r e =
     let same : w ≡ x = cc in
     (m.0, ap (λ l. w ∷ l) m.1 ∙ ap (λ v. v ∷ b ++ m.0) same)
 
-abbrev IsUsedUp : {A : Type 0} → Evaluated A → Evaluated A → Type 0
+-- where it asks with an answer less, no answers are left
+abbrev pub IsUsedUp : {A : Type 0} → Evaluated A → Evaluated A → Type 0
 IsUsedUp (Asks a s) (Results v (z ∷ r)) = ⊥
 IsUsedUp (Asks a s) (Throws k (z ∷ r)) = ⊥
 IsUsedUp _ _ = Unit {0}
@@ -84,7 +85,7 @@ IsAsking (Asks a s) = Unit {0}
 IsAsking (Results v rest) = ⊥
 IsAsking (Throws k rest) = ⊥
 
-used_up : {A : Type 0} (f : Answers → Evaluated A) (q : Answers) (y : Answer Value) (x x' : Evaluated A) → f q ≡ x →
+pub used_up : {A : Type 0} (f : Answers → Evaluated A) (q : Answers) (y : Answer Value) (x x' : Evaluated A) → f q ≡ x →
     Splits f (q ++ y ∷ []) x' →
     IsUsedUp x x'
 used_up f q y (Asks a s) (Asks a' s') is h = tt
@@ -99,7 +100,7 @@ used_up f q y (Throws k rest) x' is h = tt
 
 -- ---- threads in a call
 
-abbrev InAfter : ℕ → ℕ → Evaluated (Option Value) → (Answers → Type 0) → Type 0
+abbrev pub InAfter : ℕ → ℕ → Evaluated (Option Value) → (Answers → Type 0) → Type 0
 InAfter k n (Asks a s) later = n ≡ k
 InAfter k n (Results v []) later = n ≡ k
 InAfter k n (Results v (y ∷ rest)) later = later rest

@@ -2,7 +2,7 @@
 
 use Rattle.std.proofs.Common.{refl, true, false}
 use Rattle.ls_exchanged.proofs.Named.{by_names, name_in}
-use Rattle.ls_exchanged.proofs.Same.{apart_at, one_more, same_all}
+use Rattle.ls_same_calls.proofs.Same.{apart_at, one_more, same_all}
 use Rattle.ls_exchanged.proofs.exchanges.same_thread_names.Goals as goal
 
 pub returns-then-not-same_thread_name : goal.returns-then-not-same_thread_name

@@ -1,0 +1,17 @@
+pub mod Cuts
+pub mod Spent
+pub mod Paths
+pub mod Ending
+pub mod Ahead
+pub mod Found
+pub mod Turning
+pub mod Good
+pub mod Leading
+pub mod Setup
+pub mod Alone
+pub mod Taking
+pub mod Phases
+pub mod Finishing
+pub mod Choosing
+pub mod Moving
+pub mod Pairs

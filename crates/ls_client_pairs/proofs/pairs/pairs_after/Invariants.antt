@@ -1,0 +1,11 @@
+-- What the loop `i` of `pairs_after` in src/pairs.rt keeps.
+
+use Rattle.std.proofs.Common.{◌≡◌, ◌++◌, drop}
+use Rattle.std.specs.List.{flat_map}
+use Rattle.ls_client_pairs.specs.Pairs.{helds_of, moved}
+use Rattle.ls_client_pairs.proofs.pairs.pairs_after.Given as goal
+
+abbrev pub invariant-loop-i : goal.invariant-loop-i
+invariant-loop-i l =
+    helds_of l.found.items ++ flat_map (moved l.outcomes l.event) (helds_of (drop l.i l.pairs))
+    ≡ flat_map (moved l.outcomes l.event) (helds_of l.pairs)

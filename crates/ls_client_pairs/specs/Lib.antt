@@ -1,0 +1,4 @@
+pub mod Clients
+pub mod Pairs
+pub mod Noting
+pub mod Alone

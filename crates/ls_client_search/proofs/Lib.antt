@@ -1,0 +1,4 @@
+pub mod Races
+pub mod Notes
+pub mod Numbers
+pub mod Closing

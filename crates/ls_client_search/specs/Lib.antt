@@ -1,0 +1,4 @@
+pub mod Space
+pub mod Watched
+pub mod Shown
+pub mod Races

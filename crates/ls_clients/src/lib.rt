@@ -1,0 +1,4 @@
+//! Whether a thread program is of the family of a client whose threads choose their calls.
+#![tactic(auto)]
+
+pub mod belonging;

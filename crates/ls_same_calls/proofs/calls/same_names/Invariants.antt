@@ -1,0 +1,8 @@
+-- What the loop `i` of `same_names` in src/calls.rt keeps.
+
+use Rattle.std.proofs.Common.{◌≡◌, map, take}
+use Rattle.ls_checked.specs.PlainProgram.{plain_name}
+use Rattle.ls_same_calls.proofs.calls.same_names.Given as goal
+
+abbrev pub invariant-loop-i : goal.invariant-loop-i
+invariant-loop-i l = take l.i (map plain_name l.first) ≡ take l.i (map plain_name l.second)

@@ -1,0 +1,4 @@
+//! Which calls and which setup names of thread programs are the same.
+#![tactic(auto)]
+
+pub mod calls;
