@@ -62,7 +62,7 @@ TESTS = ["yes({0})", "n.compareAndSet({0}, {1})", "on.getAndSet({2})", "on.compa
          "top.compareAndSet(top.get(), new Node({0}, top.get()))", "(b = {2})", "(b ^= {2})", "(b |= {2})"]
 SIMPLE = ["{place} = {0};", "{place} {op}= {0};", "{place}++;", "--{place};", "say({0});", "list = new Node({0}, list);", "box.put({0});",
           "n.set({0});", "on.set({2});", "mode = {2} ? Mode.BUSY : Mode.DONE;", "top.set(list);", "int {new} = {0}, {new}0; {new}0 = {new}; x -= {new}0;",
-          "x = y = {0};", "if (list.next != null) list = list.next;", "b = !b;"]
+          "System.arraycopy(a, {0} & 1, a, {1} & 1, {0} & 3);", "System.arraycopy(a, 0, a, 1, {0} & 1);", "x = y = {0};", "if (list.next != null) list = list.next;", "b = !b;"]
 
 
 class Maker:

@@ -62,6 +62,9 @@ CALLS = {
     "20": ("Cell", "read|write {0..9}"), "21": ("Singleton", "made|once"), "22": ("FineList", "add {0..5}"),
     "23": ("TwoLockQueue", "enqueue {0..9}|dequeue"), "24": ("LockFreeStack", "push {0..9}|pop"),
     "25": ("BufferConditions", "offer {0..9}|poll|size"), "26": ("Latch", "down|left|passed|tryAwait {0..3}"),
+    "28": ("Stock", "copy {-1..5} {-1..5} {-1..5}|copy {0..2} {0..2} {0..3}|move {0..2} {0..2} {0..3}|move {0..4} {0..4} {-1..5}|"
+                    "moveBy {-1..3}|copyNothing {0..1}|enter {0..1}|leave {0..1}|enterFair|fairLeft|read {0..5}|write {0..4} {0..9}|"
+                    "writeFirst {0..9}|attempt {0..5}"),
     "Rules": ("Rules", "push {0..3}|pop|grow {0..3}|put {0..5}|take|post|pre|both {0..3}|loop {0..9}|sum {0..5}|"
               "minus {0..3}|down|idx {-1..5}|safe {0..2}|sign {-1..1}|pick {0..3}|swap {0..3} {0..3}|locked|"
               "spread {0..4}|chain {0..4}|bump|bump"),

@@ -6,7 +6,8 @@ state that `state` prints, at some steps and at the end, and its own reading of 
 each line says. `programs`: random programs of one to four threads, for each hundredth seed of 64, under random
 schedules; each fourth is read from a later step on. `texts`: inputs of examples/, of the documents and of tests/rows,
 and the stored classes with random calls; of the class texts that tests/texts says to be accepted only that they
-are read. Needs Node. Ends with status 1 where something is wrong."""
+are read. Then tests/page/java.js tries places in Java files. Needs Node. Ends with status 1 where something is
+wrong."""
 import argparse
 import glob
 import json
@@ -151,7 +152,10 @@ def main():
     words = parser.parse_args()
     runs = Runs(words.program)
     (texts if words.way == "texts" else programs)(runs, range(words.seed, words.seed + words.count))
-    return runs.end()
+    status = runs.end()
+    if words.way == "texts":
+        status |= subprocess.run(["node", f"{TOP}/tests/page/java.js"], check=False).returncode
+    return status
 
 
 if __name__ == "__main__":

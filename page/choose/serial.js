@@ -9,7 +9,7 @@
 
 const nameOfEvent = row => row.thread + "." + row.call;
 const OPEN = "";             // noted of a call that hasn't taken effect
-const keyOf = ({ state, noted }) => [state, ...noted.flat()].join("\n");
+const keyOfPair = ({ state, noted }) => [state, ...noted.flat()].join("\n");
 
 class SerialStates {
   constructor({ outcomes, next, texts }) {
@@ -25,7 +25,7 @@ class SerialStates {
   }
   // The number of a set of pairs.
   keep(pairs) {
-    const key = pairs.map(keyOf).sort().join("\n\n");
+    const key = pairs.map(keyOfPair).sort().join("\n\n");
     if (!this.numbers.has(key)) this.numbers.set(key, this.sets.push(pairs) - 1);
     return this.numbers.get(key);
   }
@@ -41,15 +41,15 @@ class SerialStates {
     return pairs.map(pair => ({ ...pair, noted: [...pair.noted, [call, OPEN]].sort() }));
   }
   ended(pairs, call, end) {
-    const found = new Map(), reached = new Map(pairs.map(pair => [keyOf(pair), pair]));
-    const add = (map, pair) => { if (!map.has(keyOf(pair))) map.set(keyOf(pair), pair); };
+    const found = new Map(), reached = new Map(pairs.map(pair => [keyOfPair(pair), pair]));
+    const add = (map, pair) => { if (!map.has(keyOfPair(pair))) map.set(keyOfPair(pair), pair); };
     for (const pair of reached.values()) {
       const [, noted] = pair.noted.find(([name]) => name === call);
       if (noted === OPEN) for (const taken of this.taken(pair)) add(reached, taken);
       if (noted === end) add(found, { ...pair, noted: pair.noted.filter(([name]) => name !== call) });
     }
-    const covered = new Set([...found.values()].flatMap(pair => this.taken(pair).map(keyOf)));
-    return [...found.values()].filter(pair => !covered.has(keyOf(pair)));
+    const covered = new Set([...found.values()].flatMap(pair => this.taken(pair).map(keyOfPair)));
+    return [...found.values()].filter(pair => !covered.has(keyOfPair(pair)));
   }
   // What a pair becomes where a pending call takes effect.
   taken({ state, noted, order }) {

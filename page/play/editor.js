@@ -4,7 +4,8 @@
 const KEYWORDS = new Set(("class interface new return if else while for do break continue try finally throw void int "
   + "boolean char long null true false this super static final volatile synchronized public private protected "
   + "implements extends import package setup thread").split(" "));
-const PIECE = /\/\/[^\n]*|\/\*[^]*?(?:\*\/|$)|[A-Za-z_$][\w$]*|[^]/g;
+const PIECE =
+  /\/\/[^\n]*|\/\*[^]*?(?:\*\/|$)|"(?:[^"\\\n]|\\[^\n])*"|'(?:[^'\\\n]|\\[^\n])+'|[A-Za-z_$][\w$]*|[^]/g;
 const MOST_COLOURED = 20_000;   // letters; a longer text has no colours and no mark, so that typing stays quick
 
 class Editor {

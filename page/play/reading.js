@@ -2,6 +2,8 @@
 // restates.
 
 const JAVA = "--java";   // the option by which a command restates the class text first
+// A command that checks the class text, and looks at a single state of its first program.
+const CHECK = ["find", "--from", "1", "--to", "1", "--states", "1"];
 
 // What is known of a class text: the words that it wants; and what was restated in it, or what of it isn't restated as
 // Java, a line each.
@@ -21,7 +23,7 @@ async function readClass() {
     return came;
   };
   let words = [], notes = "", refusals = "";
-  if (isOfClass(await come(["find", "--print", "1"]), file.name)) {
+  if (isOfClass(await come(CHECK), file.name)) {
     const restated = await come(["java"]);
     if (restated.status === 0) [words, notes] = [[JAVA], restated.errors];
     else refusals = restated.errors;

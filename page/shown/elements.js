@@ -28,8 +28,9 @@ const brief = name => name.length > MOST_LETTERS ? name.slice(0, 8) + "…" + na
 const textWidth = (text, size) => text.length * size * .605;
 
 // What the page is round, and the run that is shown: the one that is given, or on a page of choices the walk so far.
+// `java` is the Java file from which the class text was restated, or null.
 // Each file that keeps something of the run makes it anew when another one is read, in the order of the files.
-const given = JSON.parse(byId("data").textContent);
+const [given, java] = readData(byId("data").textContent);
 let data, run, following, calls, callNamed;
 const whenRead = [];
 function readRun(of) {

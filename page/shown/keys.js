@@ -59,6 +59,7 @@ const actions = {
   X: () => save(lanesAlone(), "history.svg"),
   "+": () => zoom(1.5), "-": () => zoom(1 / 1.5),
 };
+if (java !== null) actions.j = toggleRestated;
 // On a page of choices a thread has a letter, or a number, before any other key.
 if (graph !== null) {
   delete actions.a;
@@ -74,7 +75,7 @@ if (graph !== null) {
 const SHIFTED = { ArrowRight: "PageDown", ArrowLeft: "PageUp" };
 const BUTTONS = {
   first: "Home", back: "ArrowLeft", forth: "ArrowRight", last: "End", play: " ",
-  state: "s", steps: "l", every: "a", light: "d", help: "?",
+  state: "s", steps: "l", every: "a", light: "d", help: "?", restated: "j",
 };
 
 document.addEventListener("keydown", event => {

@@ -35,8 +35,8 @@ function redraw() {
   show();
 }
 
-// The comment with which the class text begins. On a page of choices that may tell what is to be found, so there the
-// classes are named of which the setup makes objects.
+// The comment with which the class text begins, or the Java file if there is one. On a page of choices that may tell
+// what is to be found, so there the classes are named of which the setup makes objects.
 function showTitle() {
   if (graph !== null) {
     const made = [...given.program.matchAll(/=\s*new\s+([\w$]+)/g)].map(([, name]) => name);
@@ -45,7 +45,7 @@ function showTitle() {
     document.title = "listset: " + shortened(words, 60);
     return;
   }
-  const comment = /^\s*((?:\/\/[^\n]*\n\s*)+)/.exec(data.classes);
+  const comment = /^\s*((?:\/\/[^\n]*\n\s*)+)/.exec(java === null ? data.classes : java.text);
   const lines = comment ? comment[1].split("\n").map(line => line.trim().replace(/^\/\/ ?/, ""))
     : ["A run, step by step"];
   const words = lines.join(" ").trim().replace(/^(source|state|trace)( --\w+)*: */, "").replace(HIDDEN, "");

@@ -1,4 +1,5 @@
-// The three texts, with what was just done, and what each thread does next.
+// The three texts, with what was just done, and what each thread does next. The Java file from which the class text was
+// restated stands in the place of that.
 
 const MOST_FRAMED = 3;                  // how many threads have their frames round one place
 const COUNT_WIDTH = 30;                 // in pixels: the room for how many more names there are at a line
@@ -12,7 +13,8 @@ function fitted(name, room) {
 // A text by lines. A range is { start, end, kind, colour }: it is shown by the class `kind`, and framed where it has a
 // colour.
 class Code {
-  constructor(id, text, isProgramText) {
+  constructor(box, text, isProgramText) {
+    this.box = box;
     this.text = text;
     this.isNumbered = isProgramText;
     this.lines = [];
@@ -24,15 +26,15 @@ class Code {
       while (first < marks.length && marks[first].end <= start) first++;
       const mine = [];
       for (let at = first; at < marks.length && marks[at].start < end; at++) mine.push(marks[at]);
-      if (start < text.length || words !== "") this.addLine(byId(id), start, end, mine);
+      if (start < text.length || words !== "") this.addLine(start, end, mine);
       start = end + 1;
     }
   }
-  addLine(box, start, end, marks) {
+  addLine(start, end, marks) {
     const margin = element("span", { class: "margin" }), words = element("span");
     const number = element("span", { class: "number" }, this.isNumbered ? String(this.lines.length + 1) : "");
     const row = element("div", { class: "line" }, margin, number, words);
-    box.append(row);
+    this.box.append(row);
     this.lines.push({ start, end, marks, margin, words, row });
     this.draw(this.lines.length - 1, []);
   }
@@ -106,38 +108,68 @@ class Code {
 }
 
 const codes = {
-  classes: new Code("classes", given.classes, true),
-  program: new Code("program", given.program, true),
+  classes: new Code(byId("classes").firstChild, given.classes, true),
+  program: new Code(byId("program"), given.program, true),
   schedule: null,
 };
 if (given.reference !== undefined) {
   byId("by-reference").hidden = false;
-  codes.reference = new Code("reference", given.reference, true);
+  codes.reference = new Code(byId("reference"), given.reference, true);
 }
+// Where there is a Java file it stands in the place of the class text, and a button leads to that and back.
+let showsJava = false;
+const restatedCode = codes.classes;
+const javaCode = java === null ? null : new Code(element("div", {}), java.text, true);
+function showJava(isShown) {
+  showsJava = isShown;
+  codes.classes = isShown ? javaCode : restatedCode;
+  byId("classes").replaceChildren(codes.classes.box);
+  byId("classes-name").textContent = isShown ? "Java file" : "restated class text";
+  byId("restated").setAttribute("aria-pressed", String(!isShown));
+}
+if (java !== null) {
+  byId("restated").hidden = byId("restating").hidden = false;
+  showJava(true);
+}
+function toggleRestated() {
+  showJava(!showsJava);
+  showSource();
+}
+
 let scheduleText = null;
 whenRead.push(() => {
   if (codes.schedule && codes.schedule.text === data.schedule) return;
   byId("schedule").replaceChildren();
-  codes.schedule = new Code("schedule", data.schedule, false);
+  codes.schedule = new Code(byId("schedule"), data.schedule, false);
   scheduleText = new ScheduleText(data.schedule, run.threads.length - 1);
 });
 
 // Two threads that are about to make accesses that race; null where none are, or where the text isn't followed.
 const racing = () => following.classes === null ? null : meeting(run, following.classes, view.count);
 
+// Where what a thread does is shown, { part, ranges, start, isCall }, and where a call: in the Java file, or where the
+// class text has it. Null where that is in a class that was added, and so are the calls around it.
+const asItStands = range => ({ part: range.part, ranges: [range], start: range.start, isCall: false });
+const placeOfStand = stand => showsJava ? java.shownStand(stand) : asItStands(stand);
+const placeOfCall = at => showsJava ? java.shown(at) : asItStands(at);
+
 // What a thread does next stands there, and the calls that it is in are named at their own lines.
 function markThread(thread, races, ranges, signs) {
   const name = run.threads[thread], next = following.standsAt(thread, view.count);
   if (!next || run.asked(thread, view.count)[0] === null) return null;
-  const kind = races !== null && races.includes(thread) ? "next races" : "next";
-  ranges[next.part].push({ start: next.start, end: next.end, kind, colour: colour(thread) });
-  signs[next.part].push({ start: next.start, name, isInner: true, title: name + " does this next" });
-  for (const { at, title } of next.frames) {
-    const isThere = at.part === next.part && codes[at.part].lineAt(at.start) === codes[at.part].lineAt(next.start);
-    if (!isThere)
-      signs[at.part].push({ start: at.start, name, isInner: false, title: name + " is in this call of " + title });
+  const kind = races !== null && races.includes(thread) ? "next races" : "next", place = placeOfStand(next);
+  if (place === null) return null;
+  const { part, start } = place, line = codes[part].lineAt(start);
+  ranges[part].push(...place.ranges.map(it => ({ start: it.start, end: it.end, kind, colour: colour(thread) })));
+  const title = name + (place.isCall ? " does this next, in what is called here" : " does this next");
+  signs[part].push({ start, name, isInner: true, title });
+  for (const frame of next.frames) {
+    const call = placeOfCall(frame.at);
+    if (call === null || (call.part === part && codes[part].lineAt(call.start) === line)) continue;
+    const within = name + " is in this call of " + frame.title;
+    signs[call.part].push({ start: call.start, name, isInner: false, title: within });
   }
-  return next.part === "classes" ? next.start : null;
+  return part === "classes" ? start : null;
 }
 
 function showSource() {
@@ -145,13 +177,14 @@ function showSource() {
   const races = racing();
   let revealed = null;
   run.threads.forEach((name, thread) => {
-    const place = markThread(thread, races, ranges, signs);
-    if (place !== null && (view.row ? view.row.thread === name : revealed === null)) revealed = place;
+    const start = markThread(thread, races, ranges, signs);
+    if (start !== null && (view.row ? view.row.thread === name : revealed === null)) revealed = start;
   });
   const done = view.stop > 0 ? following.places[view.count - 1] : null;
-  if (done) {
-    ranges[done.part].push({ start: done.start, end: done.end, kind: "done" });
-    if (done.part === "classes") revealed = done.start;
+  const place = done && placeOfStand(done);
+  if (place) {
+    ranges[place.part].push(...place.ranges.map(({ start, end }) => ({ start, end, kind: "done" })));
+    if (place.part === "classes") revealed = place.start;
   }
   const item = view.stop > 0 ? scheduleText.itemAt(view.step - 1) : null;
   if (item) ranges.schedule.push({ start: item.start, end: item.end, kind: "done" });

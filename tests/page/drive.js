@@ -174,7 +174,35 @@ async function* sizes(page, { screens }) {
   }
 }
 
-const KINDS = { states, says, keys, clicks, opens, address, theme, locals, sizes, ...choices };
+const LINES = `[...byId("classes").querySelectorAll(".line")]`;
+const SHOWN_CLASSES = `JSON.stringify({
+  name: byId("classes-name").textContent,
+  text: ${LINES}.map(line => line.lastChild.textContent.replace(/\\u200b/g, "")).join("\\n"),
+  marked: ["done", "next"].map(kind => ${LINES}.flatMap((line, at) => line.querySelector("." + kind) ? [at + 1] : [])),
+})`;
+// A page of a Java file shows the file; by `j` or its button the restated class text, and back. At each stop words of
+// the same lines are marked in both.
+async function* java(page, { file, classes, pressed }) {
+  const shown = async () => JSON.parse(await page.evaluate(SHOWN_CLASSES));
+  const wanted = [["Java file", file], ["restated class text", classes]];
+  let count = 0;
+  for (const key of ["Home", ...pressed]) {
+    await page.key(key);
+    const both = [await shown()];
+    if (count++ % 2) await page.key("j"); else await page.evaluate("byId('restated').click()");
+    both.push(await shown());
+    await page.key("j");
+    both.push(await shown());
+    for (const [at, { name, text }] of both.entries()) {
+      const [heading, whole] = wanted[at % 2];
+      if (name !== heading || text !== whole.replace(/\n$/, "")) yield `it shows as ${name} ${text}`;
+    }
+    const [first, second, third] = both.map(it => JSON.stringify(it.marked)), step = await page.evaluate("view.step");
+    if (first !== second || first !== third) yield `at step ${step} lines are marked: ${first}, ${second}, ${third}`;
+  }
+}
+
+const KINDS = { states, says, keys, clicks, opens, address, theme, locals, sizes, java, ...choices };
 
 async function main() {
   const browser = new Browser(), lines = readline.createInterface({ input: process.stdin });

@@ -1,8 +1,8 @@
 // Reads the data of a run's page, and says what the page marks as accesses that race two steps before the end: the next
 // steps of two threads, a line for each, or nothing. Before it stands the line of the class text, or 0.
-const { Run, Following, meeting } = require("./modules.js");
+const { Run, Following, meeting, readData } = require("./modules.js");
 
-const run = new Run(JSON.parse(require("fs").readFileSync(0, "utf8"))), following = new Following(run);
+const [data] = readData(require("fs").readFileSync(0, "utf8")), run = new Run(data), following = new Following(run);
 const count = Math.max(0, run.rows.length - 2);
 run.go(count);
 const races = following.classes === null ? null : meeting(run, following.classes, count);

@@ -4,7 +4,7 @@ const fs = require("fs"), path = require("path"), vm = require("vm");
 
 const PAGE = path.join(__dirname, "..", "..", "page");
 const NAMES = ["Run", "Following", "ScheduleText", "ClassReader", "callsOf", "nameOf", "labelOf", "readState",
-  "lineOf", "meeting"];
+  "lineOf", "meeting", "readData", "readTokens"];
 
 const files = fs.readFileSync(path.join(PAGE, "page.html"),
   "utf8").match(/^@@ (run|text)\/.*\.js$/gm).map(line => line.slice(3));

@@ -78,7 +78,7 @@ module.exports = {
       const text = `class L { int n; int f() { ${body} } }\n`;
       await trial.put(page, text);
       await trial.done(page, "byId('find').click()");
-      trial.same("find", await trial.printed(page), trial.run(["find", "--states", "2000"], [text]));
+      trial.same("find", await trial.printed(page), trial.run(["find", "--states", "2000", "--from", "1", "--to", "6"], [text]));
     }
   },
   async "a very long class"(trial) {

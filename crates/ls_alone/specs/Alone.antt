@@ -4,8 +4,8 @@ use Rattle.ls_events.specs.declared.kind.Kind.{Kind}
 use Rattle.ls_labels.specs.Names.{Names}
 use Rattle.ls_schedule.specs.Printing.{schedule_text}
 use Rattle.ls_search_laws.specs.Stepping.{ActAll}
-use Rattle.ls_serial_search.specs.Faults.{MeetsBound, NoneThrows, NoneTurns, NoneWaits, ThrowsAlone, TurnsAlone}
-use Rattle.ls_serial_search.specs.Faults.{WaitsAlone}
+use Rattle.ls_serial_faults.specs.Faults.{MeetsBound, NoneThrows, NoneTurns, NoneWaits, ThrowsAlone, TurnsAlone}
+use Rattle.ls_serial_faults.specs.Faults.{WaitsAlone}
 use Rattle.ls_serial_search.specs.Told.{usual}
 use Rattle.ls_alone.specs.Words.{Text, pending_text, fault_line, thrown_text, waits_text}
 use Rattle.ls_alone.specs.declared.telling.Fault.{Fault}

@@ -7,15 +7,16 @@ ghost use Rattle.ls_labels.specs.Names.{names_of};
 ghost use Rattle.ls_schedule.specs.Reading.{thread_names};
 ghost use Rattle.ls_checked.specs.Plain.{plain_file};
 ghost use Rattle.ls_checked.specs.PlainProgram.{plain_program};
-ghost use Rattle.ls_serial_search.specs.Faults.{IsThrown, IsTurning, IsWaiting, MeetsBound, NoneThrows, NoneTurns};
-ghost use Rattle.ls_serial_search.specs.Faults.{NoneWaits};
+ghost use Rattle.ls_serial_faults.specs.Faults.{IsThrown, IsTurning, IsWaiting, MeetsBound, NoneThrows, NoneTurns};
+ghost use Rattle.ls_serial_faults.specs.Faults.{NoneWaits};
 ghost use Rattle.ls_serial_search.specs.Told.{usual};
 
 use crate::words::{pending_words, thrown_words, waits_words};
 use ls_events::schedule::Schedule;
 use ls_labels::names::Names;
 use ls_schedule::print_schedule;
-use ls_serial_search::faults::{Stopped, Thrown, serial_faults};
+use ls_serial_faults::faults::{Stopped, Thrown};
+use ls_serial_faults::finding::serial_faults;
 use ls_serial_search::telling::Bounds;
 use std::alloc::{AllocError, Global};
 

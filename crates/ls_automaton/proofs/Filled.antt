@@ -24,7 +24,7 @@ some_is : {A : Type 0} {x y : A} → Some x ≡ Some y → x ≡ y
 some_is h = cc
 
 -- an element of the longer list stands in the shorter one, or is the last
-pushed_get : {A : Type 0} (xs : List A) (x y : A) (n : ℕ) → slice_get (xs ++ x ∷ []) n ≡ Some y →
+pub pushed_get : {A : Type 0} (xs : List A) (x y : A) (n : ℕ) → slice_get (xs ++ x ∷ []) n ≡ Some y →
     (slice_get xs n ≡ Some y) ⊎ ((n ≡ length xs) × (x ≡ y))
 pushed_get [] x y zero is = inr (refl, some_is is)
 pushed_get [] x y (suc n) is = absurd (nothing is)
@@ -236,6 +236,13 @@ module _ (file : File) (program : Program) (bound : ℕ) where
           let r = f.each n z there in
           subst (λ y. IsOutcome file program (schedules_of spots) y o) (some_is (sym r.there
           ∙ at)) (r.outcomes o inside)
+
+  -- and the schedules that stand for the states are those by which they were found
+  pub filled_whole : (g : Bool) (spots : List Spot) (rows : List (Vec Outcome Global)) → length spots ≤ length rows →
+      AreFilled g spots rows →
+      (a : AreOutcomes file program bound g rows) × (a.spots ≡ schedules_of spots)
+  unfolding filled_done
+  filled_whole g spots rows all f = (filled_done g spots rows all f, refl)
 
   -- steps that lead to a state are as those of a state
   pub serial_to : (spots : List Spot) (n : ℕ) (x : List ℕ) → AreSpots file program spots →

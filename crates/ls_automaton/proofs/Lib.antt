@@ -17,6 +17,7 @@ pub mod Entries
 pub mod Judged
 pub mod Reaching
 pub mod Filled
+pub mod Fated
 pub mod Ending
 pub mod Covering
 pub mod Layers

@@ -23,7 +23,7 @@ use Rattle.ls_automaton.specs.Automaton.{IsExplainedFrom, Serially}
 use Rattle.ls_automaton.specs.Laws.{RunsAreOnce}
 use Rattle.ls_automaton.specs.Programs.{IsExplainedWithin, Leads, LeadsWithin}
 use Rattle.ls_automaton.specs.Tables.{AreOutcomes, AreTold, Goes, HasOutcome, IsOutcome}
-use Rattle.ls_automaton.proofs.Alike.{alike_explain, alike_runs}
+use Rattle.ls_automaton.proofs.Alike.{alike_explain, alike_runs, comes_to}
 use Rattle.ls_automaton.proofs.Configurations.{goes_on_same, told, told_by, told_same, history_told}
 use Rattle.ls_automaton.proofs.Programs.{played, programs_are, runs_once}
 use Rattle.ls_automaton.proofs.Settled.{one_end}
@@ -55,12 +55,12 @@ module _ (file : File) (program : Program) (bound : ℕ) (goes_on : Bool) (rows 
   config x = configuration_of file program (source_run file program x)
 
   -- the number is that of the state after a schedule with the same configuration
-  record IsAlike (s : State) (n : ℕ) : Type 0 where
-    path : List ℕ
-    state : s ≡ source_run file program path
-    spot : List ℕ
-    there : slice_get are.spots n ≡ Some spot
-    same : config path ≡ config spot
+  pub record IsAlike (s : State) (n : ℕ) : Type 0 where
+    pub path : List ℕ
+    pub state : s ≡ source_run file program path
+    pub spot : List ℕ
+    pub there : slice_get are.spots n ≡ Some spot
+    pub same : config path ≡ config spot
 
   abbrev IsLeft : ℕ → State → Type 0
   IsLeft n s = IsAlike s n
@@ -189,6 +189,16 @@ module _ (file : File) (program : Program) (bound : ℕ) (goes_on : Bool) (rows 
   pub is_linearizable : (h : List Event) → IsExplainedFrom (Goes rows) 0 h → IsLinearizable file program h
   is_linearizable h e = (programs_are file program h).1
       (alike_explain (Goes rows) 0 (Leads file program) (start program) IsLeft goes_like h e)
+
+  -- a serial run leads to a state that has a number
+  pub reached : goes_on ≡ false → (g : List Event) (s : State) → Serially (Leads file program) (start program) g s →
+      (n : ℕ) × IsAlike s n
+  reached known g s run =
+      let r = comes_to (Leads file program) (start program) (Goes rows) 0 IsAlike (record {
+        begins = begins;
+        goes_on = λ s n c e m a call end l. goes s n c e m a call end l (inr known);
+      }) g (start program) s 0 begins run in
+      (r.last, r.alike)
 
   pub is_explained : goes_on ≡ false → (h : List Event) → IsLinearizable file program h →
       IsExplainedFrom (Goes rows) 0 h

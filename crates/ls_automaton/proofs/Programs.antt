@@ -209,7 +209,7 @@ module _ (file : File) (program : Program) where
     λ so. inl refl,
   ) schedule
 
-  serially : (schedule : List ℕ) → IsSerial (source_history file program schedule) →
+  pub serially : (schedule : List ℕ) → IsSerial (source_history file program schedule) →
       Serially leads (start program) (source_history file program schedule) (source_run file program schedule)
   serially schedule serial =
       by_known' ((known schedule).1 (serial_so_far (source_history file program schedule) serial))

@@ -5,6 +5,8 @@ pub mod Alike
 pub mod Once
 pub mod Tables
 pub mod Spots
+pub mod Fates
+pub mod States
 pub mod Held
 pub mod Layers
 pub mod Merged

@@ -3,6 +3,7 @@
 #![tactic(auto)]
 
 mod event_hashing;
+pub mod fate;
 pub mod laws;
 pub mod merging;
 pub mod next;
@@ -11,4 +12,5 @@ pub mod outcome;
 pub mod pairs;
 pub mod pending;
 mod spots;
+pub mod states;
 pub mod table;

@@ -45,7 +45,8 @@ no_others (x ∷ these) those none = absurd (some_isnt none)
 
 module _ (o : Choosing) (menu : Option Text) (c : ClassTree) where
   pub makings_fail : {T : Type 0} (e : MenuFault) →
-      (IsErrOf {T = T} (Err e) menus.TooMany → AreTooMany (from_to o.given) (constructor_parameters c.members)) →
+      (IsErrOf {T = T} (Err e) menus.TooMany →
+      AreTooMany (from_to o.given) (from_to o.given) (constructor_parameters c.members)) →
       LacksPrograms o menu c (fault_of_menu e)
   makings_fail menus.Memory many = tt
   makings_fail menus.TooMany many = inr (many refl)

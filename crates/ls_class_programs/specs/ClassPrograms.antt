@@ -76,7 +76,8 @@ LacksPrograms o menu c faults.NoMaking = makings o.given c ≡ []
 LacksPrograms o menu c faults.NoCalls = thread_calls menu o.values c ≡ []
 LacksPrograms o menu c faults.BadBounds = AreBad o.bounds
 LacksPrograms o menu c faults.TooManyCalls =
-    HasTooManyCalls menu o.values c ⊎ AreTooMany (from_to o.given) (constructor_parameters c.members)
+    HasTooManyCalls menu o.values c ⊎
+    AreTooMany (from_to o.given) (from_to o.given) (constructor_parameters c.members)
 LacksPrograms o menu c faults.TooManyPrograms =
     1000000 < count_of (family_of (sizes_of (menu_of o menu c)) o.bounds)
 

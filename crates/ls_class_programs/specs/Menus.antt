@@ -1,5 +1,6 @@
 -- The calls that a program makes on an object of a class, and how it makes the object.
-use Rattle.std.specs.Prelude.{ℕ, ◌-◌, Bool, true, false, ◌&&◌, not, List, [], ◌∷◌, ◌++◌, codes, map, take, drop}
+use Rattle.std.specs.Prelude.{ℕ, ◌-◌, Bool, true, false, ◌&&◌, ◌||◌, not, List, [], ◌∷◌, ◌++◌, bytes_eq, codes, map}
+use Rattle.std.specs.Prelude.{drop, take}
 use Rattle.std.specs.Prelude.{Option}
 use Rattle.std.specs.Prelude.{Some}
 use Rattle.std.specs.Prelude.{None}
@@ -44,9 +45,12 @@ abbrev pub with_arguments : List Text → List Text → List Parameter → List 
 with_arguments ints begun [] = begun
 with_arguments ints begun (p ∷ more) = with_arguments ints (with_argument begun (arguments_of ints p.type_name)) more
 
--- all lists of arguments for these parameters: none if one of them is a reference
-abbrev pub all_arguments : List Text → List Parameter → List Text
-all_arguments ints parameters = with_arguments ints ([] ∷ []) parameters
+-- all lists of arguments for these parameters, none if one of them is a reference; an int of the first parameter is one
+-- of the first integers
+abbrev pub all_arguments : List Text → List Text → List Parameter → List Text
+all_arguments firsts ints [] = [] ∷ []
+all_arguments firsts ints (p ∷ more) =
+    with_arguments ints (with_argument ([] ∷ []) (arguments_of firsts p.type_name)) more
 
 -- ---- calls
 
@@ -72,18 +76,37 @@ abbrev pub is_callable : List Modifier → List (List Modifier) → Option TypeN
 is_callable modifiers locked result =
     not (list_any is_private modifiers) && (not (list_any (list_any is_private) locked) && is_plain result)
 
+-- the annotation `@ThreadNumber` of a method says that its first int is the number of the thread that calls it
+abbrev pub is_of_number : Modifier → Bool
+is_of_number trees.Private = false
+is_of_number trees.Public = false
+is_of_number trees.Protected = false
+is_of_number trees.Final = false
+is_of_number trees.Volatile = false
+is_of_number (trees.Annotation name) = bytes_eq name (codes "ThreadNumber")
+
+-- whether a method has the annotation
+abbrev pub is_numbered : List Modifier → List (List Modifier) → Bool
+is_numbered modifiers locked = list_any is_of_number modifiers || list_any (list_any is_of_number) locked
+
+-- what its first int may be: the number of the thread, or one of these integers
+abbrev pub firsts_of : Bool → List Text → List Text
+firsts_of true ints = codes "#" ∷ []
+firsts_of false ints = ints
+
 -- as `s.add(1);`
 abbrev pub call_text : Text → Text → Text
 call_text name arguments = codes "s." ++ (name ++ (codes "(" ++ (arguments ++ codes ");")))
 
-abbrev pub calls_if : Bool → ℕ → Text → List Parameter → List Text
-calls_if true most name parameters = map (call_text name) (all_arguments (up_to most) parameters)
-calls_if false most name parameters = []
+abbrev pub calls_if : Bool → Bool → ℕ → Text → List Parameter → List Text
+calls_if true numbered most name parameters =
+    map (call_text name) (all_arguments (firsts_of numbered (up_to most)) (up_to most) parameters)
+calls_if false numbered most name parameters = []
 
 abbrev pub member_calls : ℕ → Member → List Text
 member_calls most (trees.Fields declaration) = []
 member_calls most (trees.Method modifiers locked result name parameters body) =
-    calls_if (is_callable modifiers locked result) most name parameters
+    calls_if (is_callable modifiers locked result) (is_numbered modifiers locked) most name parameters
 member_calls most (trees.Constructor modifiers name parameters body) = []
 
 -- the calls of a class: of each method that may be called, with all its arguments
@@ -105,4 +128,5 @@ making_text name arguments = codes "s = new " ++ (name ++ (codes "(" ++ (argumen
 
 -- all ways to make an object of a class whose constructor is given these integers
 abbrev pub makings : Integers → ClassTree → List Text
-makings given c = map (making_text c.name) (all_arguments (from_to given) (constructor_parameters c.members))
+makings given c =
+    map (making_text c.name) (all_arguments (from_to given) (from_to given) (constructor_parameters c.members))

@@ -4,8 +4,9 @@ ghost use Rattle.std.specs.Prelude.{◌≡◌, ◌<◌, ◌≤◌, ◌*◌, ◌+
 ghost use Rattle.std.specs.Prelude.{string_bytes};
 ghost use Rattle.ls_items.specs.Cutting.{plain_text};
 ghost use Rattle.ls_tree.specs.Views.{bare_parameter, bare_type};
-ghost use Rattle.ls_class_programs.specs.Limits.{AreTooMany};
-ghost use Rattle.ls_class_programs.specs.Menus.{all_arguments, and_then, arguments_of, from_to, up_to, with_argument};
+ghost use Rattle.ls_class_programs.specs.Limits.{AreTooMany, HaveTooMany};
+ghost use Rattle.ls_class_programs.specs.Menus.{all_arguments, and_then, arguments_of, firsts_of, from_to, up_to};
+ghost use Rattle.ls_class_programs.specs.Menus.{with_argument, with_arguments};
 
 use crate::menu_fault::MenuFault;
 use ls_tree::tree::{Parameter, Type};
@@ -20,6 +21,8 @@ const MOST_LISTS: usize = 1000;
 static INTEGERS: [&str; 9] = ["1", "2", "3", "4", "5", "6", "7", "8", "9"];
 
 static BOOLEANS: [&str; 2] = ["false", "true"];
+
+static NUMBERS: [&str; 1] = ["#"];
 
 /// The first so many integers.
 pub(crate) fn up_to(most: usize) -> &'static [&'static str]
@@ -54,6 +57,18 @@ pub(crate) fn from_to(integers: Integers) -> &'static [&'static str]
     let all = up_to(integers.last as usize);
     let (_, from_on) = all.split_at((integers.first - 1) as usize);
     from_on
+}
+
+/// What the first int of a method may be: the number of the thread that calls it, or one of these integers.
+pub(crate) fn firsts_of(
+    numbered: bool,
+    integers: &'static [&'static str],
+) -> &'static [&'static str]
+    requires { length integers.now ≤ 9 }
+    ensures is { map plain_text result.now ≡ firsts_of numbered (map plain_text integers.now) }
+    ensures few { length result.now ≤ 9 }
+{
+    if numbered { &NUMBERS } else { integers }
 }
 
 /// What an argument of a type may be, where an int is one of these integers.
@@ -110,20 +125,21 @@ fn with_argument(alloc: Global, begun: &[String], more: &[&str]) -> Result<Vec<S
     Ok(all)
 }
 
-/// All lists of arguments for parameters, where an int is one of these integers.
-pub(crate) fn all_arguments(
+/// These lists of arguments, with arguments for more parameters, where an int is one of these integers.
+fn with_arguments(
     alloc: Global,
     integers: &'static [&'static str],
+    begun: Vec<String>,
     parameters: &[Parameter],
 ) -> Result<Vec<String>, MenuFault>
-    requires { length integers.now ≤ 9 }
-    ensures all { IfOk result (λ all. map string_bytes all.items ≡
-        all_arguments (map plain_text integers.now) (map bare_parameter parameters.now)) }
-    ensures many { IsErrOf result MenuFault.TooMany →
-        AreTooMany (map plain_text integers.now) (map bare_parameter parameters.now) }
+    requires few { length integers.now ≤ 9 }
+    requires begun { length begun.items ≤ 9 }
+    ensures all { IfOk result (λ all. map string_bytes all.items ≡ with_arguments (map plain_text integers.now)
+        (map string_bytes begun.items) (map bare_parameter parameters.now)) }
+    ensures many { IsErrOf result MenuFault.TooMany → HaveTooMany (map plain_text integers.now)
+        (map string_bytes begun.items) (map bare_parameter parameters.now) }
 {
-    let mut all = Vec::new(alloc);
-    all.push(String::new(alloc))?;
+    let mut all = begun;
     for parameter in parameters {
         let more = arguments_of(integers, &parameter.type_name);
         if all.len() * more.len() > MOST_LISTS {
@@ -133,4 +149,42 @@ pub(crate) fn all_arguments(
         all = longer;
     }
     Ok(all)
+}
+
+/// The list of no arguments.
+fn no_arguments(alloc: Global) -> Result<Vec<String>, AllocError>
+    ensures { IfOk result (λ all. map string_bytes all.items ≡ [] ∷ []) }
+{
+    let mut all = Vec::new(alloc);
+    all.push(String::new(alloc))?;
+    Ok(all)
+}
+
+/// All lists of arguments for parameters, where an int is one of these integers, and that of the first parameter is one
+/// of the first integers.
+pub(crate) fn all_arguments(
+    alloc: Global,
+    firsts: &'static [&'static str],
+    integers: &'static [&'static str],
+    parameters: &[Parameter],
+) -> Result<Vec<String>, MenuFault>
+    requires firsts { length firsts.now ≤ 9 }
+    requires few { length integers.now ≤ 9 }
+    ensures all { IfOk result (λ all. map string_bytes all.items ≡ all_arguments (map plain_text firsts.now)
+        (map plain_text integers.now) (map bare_parameter parameters.now)) }
+    ensures many { IsErrOf result MenuFault.TooMany → AreTooMany (map plain_text firsts.now)
+        (map plain_text integers.now) (map bare_parameter parameters.now) }
+{
+    let none = no_arguments(alloc)?;
+    match parameters {
+        [] => Ok(none),
+        [first, others @ ..] => {
+            let begun = with_argument(
+                alloc,
+                none.as_slice(),
+                arguments_of(firsts, &first.type_name),
+            )?;
+            with_arguments(alloc, integers, begun, others)
+        }
+    }
 }

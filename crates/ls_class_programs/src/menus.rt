@@ -6,11 +6,11 @@ ghost use Rattle.ls_tree.specs.Views.{bare_class, bare_member, bare_modifier, ba
 ghost use Rattle.ls_tree.specs.Views.{bare_type};
 ghost use Rattle.ls_class_programs.specs.Limits.{AreTooMany, ClassHasTooMany, HasTooMany};
 ghost use Rattle.ls_class_programs.specs.Menus.{all_arguments, call_text, class_calls, constructor_parameters};
-ghost use Rattle.ls_class_programs.specs.Menus.{is_callable};
-ghost use Rattle.ls_class_programs.specs.Menus.{from_to, is_plain, is_private, making_text, makings, member_calls};
+ghost use Rattle.ls_class_programs.specs.Menus.{firsts_of, from_to, is_callable, is_numbered, is_of_number, is_plain};
+ghost use Rattle.ls_class_programs.specs.Menus.{is_private, making_text, makings, member_calls};
 ghost use Rattle.ls_class_programs.specs.Menus.{up_to};
 
-use crate::arguments::{Integers, all_arguments, from_to, up_to};
+use crate::arguments::{Integers, all_arguments, firsts_of, from_to, up_to};
 use crate::menu_fault::MenuFault;
 use ls_tree::tree::{Class, Member, Method, Modifier, Parameter, Type};
 use std::alloc::{AllocError, Global};
@@ -50,6 +50,52 @@ fn are_locked_private(locked: &[Vec<Modifier>]) -> bool
         }
     }
     false
+}
+
+/// Whether a modifier is the annotation `@ThreadNumber`.
+fn is_of_number(modifier: &Modifier) -> bool
+    ensures { result ≡ is_of_number (bare_modifier modifier.now) }
+{
+    match modifier {
+        Modifier::Annotation(name) => name.text.as_str() == "ThreadNumber",
+        Modifier::Public
+        | Modifier::Private
+        | Modifier::Protected
+        | Modifier::Final
+        | Modifier::Volatile => false,
+    }
+}
+
+/// Whether one of the modifiers is.
+fn have_number(modifiers: &[Modifier]) -> bool
+    ensures { result ≡ list_any is_of_number (map bare_modifier modifiers.now) }
+{
+    for modifier in modifiers {
+        if is_of_number(modifier) {
+            return true;
+        }
+    }
+    false
+}
+
+/// Whether one of the modifiers after a `synchronized` is.
+fn are_locked_of_number(locked: &[Vec<Modifier>]) -> bool
+    ensures { result ≡ list_any (list_any is_of_number) (map bare_modifiers locked.now) }
+{
+    for modifiers in locked {
+        if have_number(modifiers.as_slice()) {
+            return true;
+        }
+    }
+    false
+}
+
+/// Whether the first int of a method is the number of the thread that calls it.
+fn is_numbered(method: &Method) -> bool
+    ensures { result ≡ is_numbered (map bare_modifier method.now.modifiers.items)
+        (map bare_modifiers method.now.locked.items) }
+{
+    have_number(method.modifiers.as_slice()) || are_locked_of_number(method.locked.as_slice())
 }
 
 /// Whether a method answers nothing, an int or a boolean.
@@ -100,21 +146,31 @@ fn push_calls(
     Ok(())
 }
 
-/// Adds the calls of a method with these parameters.
+/// Adds the calls of a method that may be called.
 fn push_method(
     alloc: Global,
     calls: &mut Vec<String>,
     most: usize,
-    name: &str,
-    parameters: &[Parameter],
+    method: &Method,
 ) -> Result<(), MenuFault>
     requires { most ≤ 9 }
     ensures calls { OnOk result (map string_bytes calls.new.items ≡ map string_bytes calls.old.items ++
-        map (call_text name.now) (all_arguments (up_to most) (map bare_parameter parameters.now))) }
-    ensures many { IsErrOf result MenuFault.TooMany → AreTooMany (up_to most) (map bare_parameter parameters.now) }
+        map (call_text (string_bytes method.now.name.text)) (all_arguments (firsts_of
+        (is_numbered (map bare_modifier method.now.modifiers.items) (map bare_modifiers method.now.locked.items))
+        (up_to most)) (up_to most) (map bare_parameter method.now.parameters.items))) }
+    ensures many { IsErrOf result MenuFault.TooMany → AreTooMany (firsts_of
+        (is_numbered (map bare_modifier method.now.modifiers.items) (map bare_modifiers method.now.locked.items))
+        (up_to most)) (up_to most) (map bare_parameter method.now.parameters.items) }
 {
-    let arguments = all_arguments(alloc, up_to(most), parameters)?;
-    push_calls(alloc, calls, name, arguments.as_slice())?;
+    let integers = up_to(most);
+    let firsts = firsts_of(is_numbered(method), integers);
+    let arguments = all_arguments(alloc, firsts, integers, method.parameters.as_slice())?;
+    push_calls(
+        alloc,
+        calls,
+        method.name.text.as_str(),
+        arguments.as_slice(),
+    )?;
     Ok(())
 }
 
@@ -135,21 +191,16 @@ fn push_member(
             if !is_callable(method) {
                 return Ok(());
             }
-            push_method(
-                alloc,
-                calls,
-                most,
-                method.name.text.as_str(),
-                method.parameters.as_slice(),
-            )
+            push_method(alloc, calls, most, method)
         }
         Member::Field(_) | Member::Constructor(_) => Ok(()),
     }
 }
 
 /// The calls of a class on an object `s`: of each method that isn't private, answers no reference and takes none, with
-/// all its arguments. An int is one of the first so many integers, from 1. Methods come as they stand in the text. The
-/// last argument changes first.
+/// all its arguments. An int is one of the first so many integers, from 1. If the method has the annotation
+/// `@ThreadNumber`, its first argument is the number of the thread that calls it, if that is an int. Methods come as
+/// they stand in the text. The last argument changes first.
 ///
 /// `TooMany` comes only if some first parameters of a member have more than 1,000 lists of arguments. Else the only
 /// refusal is that memory ran out.
@@ -213,10 +264,11 @@ pub fn makings_of(alloc: Global, given: Integers, class: &Class) -> Result<Vec<S
     requires few { given.last ≤ 9 }
     ensures makings { IfOk result (λ all. map string_bytes all.items ≡ makings given (bare_class class.now)) }
     ensures many { IsErrOf result MenuFault.TooMany →
-        AreTooMany (from_to given) (constructor_parameters (bare_class class.now).members) }
+        AreTooMany (from_to given) (from_to given) (constructor_parameters (bare_class class.now).members) }
 {
     let parameters = constructor_parameters(class.members.as_slice());
-    let arguments = all_arguments(alloc, from_to(given), parameters)?;
+    let integers = from_to(given);
+    let arguments = all_arguments(alloc, integers, integers, parameters)?;
     let makings = makings_with(alloc, class.name.text.as_str(), arguments.as_slice())?;
     Ok(makings)
 }

@@ -434,7 +434,7 @@ fn top_command<'a>(alloc: Global) -> Command<'a>
     Command::new(alloc, "listset")
         .about("List-based concurrent sets in Java, run under schedules that you choose")
         .after_help("Input ends with Ctrl-D. 'listset help COMMAND' tells what a command reads.")
-        .version("0.1.0")
+        .version("0.2.0")
         .subcommand_required(true)
 }
 

@@ -29,6 +29,9 @@ pub enum NotRestated {
         line: usize,
         fault: TextFault,
     },
+    /// Words of what was restated don't come from the tokens of the file, or don't stand on their lines, as they
+    /// should. Then laying them out is wrong.
+    Misplaced,
     /// What was restated breaks a rule of typing, at a place that comes from this line, or from none. The file breaks
     /// it, or restating is wrong.
     BreaksRule {

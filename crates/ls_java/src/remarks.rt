@@ -7,7 +7,7 @@ use ls_java_tables::words::WordId;
 use std::alloc::{AllocError, Global};
 
 /// What is said: what was restated otherwise than it is written, or why it can't be restated.
-#[derive(Copy, Debug)]
+#[derive(Copy)]
 pub enum Said {
     Note(What),
     Refusal(Why),
@@ -20,7 +20,7 @@ impl Clone for Said {
 }
 
 /// What is said of a line, from 1, at a token. `word` is the word that is meant, or empty.
-#[derive(Debug, Drop)]
+#[derive(Drop)]
 pub struct Remark {
     pub line: usize,
     pub token: usize,

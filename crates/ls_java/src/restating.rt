@@ -1,8 +1,9 @@
 // A Java file as a class text.
 
-ghost use Rattle.std.specs.Prelude.{◌≡◌, IfOk, IfSome, string_bytes, true};
+ghost use Rattle.std.specs.Prelude.{◌≡◌, IfOk, IfSome, OnOk, string_bytes, true};
 ghost use Rattle.ls_java.specs.Accepted.{IsAccepted, IsRestatement};
-ghost use Rattle.ls_java_output.specs.Lines.{AreOnLines};
+ghost use Rattle.ls_java_output.specs.Lines.{AreOnLines, lines_of};
+ghost use Rattle.ls_java_output.specs.Words.{AreWords, ComeFrom};
 
 use crate::accepting::{NotAccepted, accept};
 use crate::fault::NotRestated;
@@ -15,6 +16,7 @@ use ls_java_output::keeping::layout_on_lines;
 use ls_java_output::layout::{Made, Written, layout};
 use ls_java_output::lines::{line_at, token_lines};
 use ls_java_output::place::{Place, token_at};
+use ls_java_output::placed::{are_words, come_from};
 use ls_java_parser::reading::parse_java;
 use ls_java_tables::restater::Restater;
 use ls_java_tables::ropes::Text;
@@ -82,8 +84,9 @@ fn draft<'a>(
     file: &'a File,
     on_lines: bool,
 ) -> Result<Restated, NotRestated>
-    ensures { on_lines ≡ true →
+    ensures on_lines { on_lines ≡ true →
         IfOk result (λ r. AreOnLines text.entry.now (string_bytes r.text) 0 r.places.items) }
+    ensures lines { IfOk result (λ r. r.lines.items ≡ lines_of text.entry.now tokens.entry.now) }
 {
     let lines = token_lines(alloc, text, tokens)?;
     let mut made = restate_file(alloc, file, tokens)?;
@@ -140,19 +143,60 @@ fn rejected(restated: &Restated, fault: NotAccepted) -> NotRestated {
     }
 }
 
+// Whether the places of a restated file are those of its words.
+fn are_placed(
+    alloc: Global,
+    text: &str,
+    tokens: &[Token],
+    restated: &Restated,
+) -> Result<bool, TextFault>
+    requires { restated.now.lines.items ≡ lines_of text.now tokens.now }
+    ensures words { IfOk result (λ found. found ≡ true →
+        AreWords text.now (string_bytes restated.now.text) restated.now.places.items) }
+    ensures come { IfOk result (λ found. found ≡ true →
+        ComeFrom text.now tokens.now (string_bytes restated.now.text) restated.now.places.items) }
+{
+    let made = restated.text.as_str();
+    let places = restated.places.as_slice();
+    let words = are_words(alloc, text, made, places)?;
+    Ok(words && come_from(text, tokens, restated.lines.as_slice(), made, places))
+}
+
+// Why the places of a restated file aren't those of its words, if they aren't.
+fn misplaced(
+    alloc: Global,
+    text: &str,
+    tokens: &[Token],
+    restated: &Restated,
+) -> Result<(), NotRestated>
+    requires { restated.now.lines.items ≡ lines_of text.now tokens.now }
+    ensures words { OnOk result (AreWords text.now (string_bytes restated.now.text) restated.now.places.items) }
+    ensures come { OnOk result
+        (ComeFrom text.now tokens.now (string_bytes restated.now.text) restated.now.places.items) }
+{
+    match are_placed(alloc, text, tokens, restated) {
+        Ok(true) => Ok(()),
+        Ok(false) => Err(NotRestated::Misplaced),
+        Err(fault) => Err(rejected(restated, NotAccepted::Text(fault))),
+    }
+}
+
 // A Java file, restated on its lines or laid out anew.
 fn restate_as(alloc: Global, text: &str, on_lines: bool) -> Result<Restated, NotRestated>
     ensures accepted { IfOk result (λ r. IsAccepted (string_bytes r.text)) }
     ensures lines { on_lines ≡ true →
-        IfOk result (λ r. AreOnLines text.entry.now (string_bytes r.text) 0 r.places.items) }
+        IfOk result (λ r. IsRestatement text.entry.now (string_bytes r.text) r.places.items) }
 {
     let tokens = lex_java(alloc, text)?;
     let file = parse_java(alloc, &tokens)?;
     let restated = draft(alloc, text, &tokens, &file, on_lines)?;
-    match accept(alloc, restated.text.as_str()) {
-        Ok(()) => Ok(restated),
-        Err(fault) => Err(rejected(&restated, fault)),
+    if let Err(fault) = accept(alloc, restated.text.as_str()) {
+        return Err(rejected(&restated, fault));
     }
+    if on_lines {
+        misplaced(alloc, text, &tokens, &restated)?;
+    }
+    Ok(restated)
 }
 
 /// A Java file (JLS 7.3), restated as a class text that keeps every rule, or why it isn't.
@@ -163,8 +207,10 @@ pub fn restate(alloc: Global, text: &str) -> Result<Restated, NotRestated>
 }
 
 /// The same, laid out so that a word of the file stands on its line, where no word before it comes from a later one.
+/// The places are those of all its words but of what comes from no token of the file. That stands behind the last line
+/// of the file.
 pub fn restate_on_lines(alloc: Global, text: &str) -> Result<Restated, NotRestated>
-    ensures { IfOk result (λ r. IsRestatement text.now (string_bytes r.text)) }
+    ensures { IfOk result (λ r. IsRestatement text.now (string_bytes r.text) r.places.items) }
 {
     match restate_as(alloc, text, true) {
         Ok(made) => Ok(made),

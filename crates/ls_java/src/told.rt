@@ -4,41 +4,63 @@ use crate::fault::NotRestated;
 use crate::remarks::{Remark, Said};
 use ls_java_lexer::fault::JavaFault;
 use ls_java_output::lines::{column_at, line_ends};
+use ls_java_tables::remarks::Why;
+use ls_java_tables::sentences::number_of;
 use std::alloc::{AllocError, Global};
 use std::fmt::Write;
 
+// The numbers of refusals that aren't of the file's forms: of its text, and of what comes out.
+const TOO_LONG: usize = 801;
+
+const NO_CLASS_TEXT: usize = 802;
+
+const BREAKS_RULE: usize = 803;
+
+const MISPLACED: usize = 804;
+
 // Where a line that is told begins: the name of the file, if it has one, and its line, if one is known.
+fn place(out: &mut String, name: Option<&str>, line: usize) -> Result<(), AllocError> {
+    match name {
+        Some(name) if line > 0 => write!(out, "{name}:{line}: "),
+        Some(name) => write!(out, "{name}: "),
+        None if line > 0 => write!(out, "line {line}: "),
+        None => Ok(()),
+    }
+}
+
+// Where a refusal begins: its place, and its number.
 fn begin(
     out: &mut String,
     name: Option<&str>,
     line: usize,
-    sort: &'static str,
+    number: usize,
 ) -> Result<(), AllocError> {
-    match name {
-        Some(name) if line > 0 => write!(out, "{name}:{line}: {sort}: "),
-        Some(name) => write!(out, "{name}: {sort}: "),
-        None if line > 0 => write!(out, "line {line}: {sort}: "),
-        None => write!(out, "{sort}: "),
-    }
+    place(out, name, line)?;
+    write!(out, "error[J{number}]: ")
 }
 
-fn sort_of(said: Said) -> &'static str {
-    match said {
-        Said::Note(_) => "note",
-        Said::Refusal(_) => "error",
+// The word that is meant, if there is one.
+fn tell_word(out: &mut String, word: &str) -> Result<(), AllocError> {
+    if word.is_empty() {
+        return Ok(());
     }
+    write!(out, "`{word}`: ")
 }
 
 // A remark: the word that is meant, if there is one, and a sentence.
 fn tell(out: &mut String, name: Option<&str>, remark: &Remark) -> Result<(), AllocError> {
-    begin(out, name, remark.line, sort_of(remark.said))?;
-    if !remark.word.is_empty() {
-        let word = remark.word.as_str();
-        write!(out, "`{word}`: ")?;
-    }
     match remark.said {
-        Said::Note(what) => writeln!(out, "{what}"),
-        Said::Refusal(why) => writeln!(out, "{why}"),
+        Said::Note(what) => {
+            place(out, name, remark.line)?;
+            write!(out, "note: ")?;
+            tell_word(out, remark.word.as_str())?;
+            writeln!(out, "{what}")
+        }
+        Said::Refusal(why) => {
+            begin(out, name, remark.line, number_of(why))?;
+            tell_word(out, remark.word.as_str())?;
+            writeln!(out, "{why}")
+        }
     }
 }
 
@@ -67,8 +89,46 @@ fn byte_of(fault: JavaFault) -> Option<usize> {
     }
 }
 
+// The number of a fault of reading. Want of memory has none.
+fn number_of_fault(fault: JavaFault) -> Option<usize> {
+    match fault {
+        JavaFault::Memory => None,
+        JavaFault::TooLong => Some(701),
+        JavaFault::BadByte { .. } => Some(702),
+        JavaFault::NotAscii { .. } => Some(703),
+        JavaFault::UnicodeEscape { .. } => Some(704),
+        JavaFault::OpenComment { .. } => Some(705),
+        JavaFault::OpenText { .. } => Some(706),
+        JavaFault::BadCharacter { .. } => Some(707),
+        JavaFault::BadNumber { .. } => Some(708),
+        JavaFault::LargeNumber { .. } => Some(709),
+        JavaFault::Expected { .. } => Some(710),
+        JavaFault::Unread { .. } => Some(711),
+        JavaFault::TooDeep { .. } => Some(712),
+    }
+}
+
+// What stands before what is wrong: `error`, with the number of the fault.
+fn sort_of_fault(out: &mut String, fault: JavaFault) -> Result<(), AllocError> {
+    match number_of_fault(fault) {
+        Some(number) => write!(out, "error[J{number}]: "),
+        None => write!(out, "error: "),
+    }
+}
+
+// Whether the place of a fault is a byte order mark at the head of the file.
+fn is_mark(text: &str, fault: JavaFault) -> bool {
+    matches!(fault, JavaFault::NotAscii { at: 0 }) && text.starts_with("\u{feff}")
+}
+
 // What is wrong at the place of a fault.
-fn say_fault(out: &mut String, fault: JavaFault) -> Result<(), AllocError> {
+fn say_fault(out: &mut String, text: &str, fault: JavaFault) -> Result<(), AllocError> {
+    if is_mark(text, fault) {
+        return write!(
+            out,
+            "a byte order mark (U+FEFF) before the first word: save the file as UTF-8 without it"
+        );
+    }
     match fault {
         JavaFault::Memory => write!(out, "out of memory"),
         JavaFault::TooLong => write!(out, "the text has more than 262,144 bytes"),
@@ -104,13 +164,14 @@ fn tell_fault(
             let line = line_ends(text, 0, at).saturating_add(1);
             let column = column_at(text, at);
             match name {
-                Some(name) => write!(out, "{name}:{line}:{column}: error: ")?,
-                None => write!(out, "line {line}:{column}: error: ")?,
+                Some(name) => write!(out, "{name}:{line}:{column}: ")?,
+                None => write!(out, "line {line}:{column}: ")?,
             }
         }
-        None => begin(out, name, 0, "error")?,
+        None => place(out, name, 0)?,
     }
-    say_fault(out, fault)?;
+    sort_of_fault(out, fault)?;
+    say_fault(out, text, fault)?;
     writeln!(out, "")
 }
 
@@ -138,29 +199,36 @@ pub fn refusal_told(
         NotRestated::Refused { refusals, .. } => tell_all(&mut out, name, refusals)?,
         NotRestated::Unread(fault) => tell_fault(&mut out, name, text, *fault)?,
         NotRestated::NoClassText { line, fault } => {
-            begin(&mut out, name, *line, "error")?;
+            begin(&mut out, name, *line, NO_CLASS_TEXT)?;
             writeln!(out, "the class text that comes out isn't accepted: {fault}")?;
         }
         NotRestated::BreaksRule { line, broken } => {
-            begin(&mut out, name, *line, "error")?;
+            begin(&mut out, name, *line, BREAKS_RULE)?;
             writeln!(
                 out,
                 "the class text that comes out isn't accepted: {broken}"
             )?;
         }
-        NotRestated::Memory => say_short(&mut out, name, "out of memory")?,
-        NotRestated::TooDeep => say_short(&mut out, name, "nested too deeply")?,
-        NotRestated::TooLong => say_short(&mut out, name, "what comes out is too long")?,
+        NotRestated::Memory => {
+            place(&mut out, name, 0)?;
+            writeln!(out, "error: out of memory")?;
+        }
+        NotRestated::Misplaced => {
+            begin(&mut out, name, 0, MISPLACED)?;
+            writeln!(
+                out,
+                "the class text that comes out isn't laid out as the file is"
+            )?;
+        }
+        NotRestated::TooDeep => {
+            let why = Why::TooDeep;
+            begin(&mut out, name, 0, number_of(why))?;
+            writeln!(out, "{why}")?;
+        }
+        NotRestated::TooLong => {
+            begin(&mut out, name, 0, TOO_LONG)?;
+            writeln!(out, "what comes out is too long")?;
+        }
     }
     Ok(out)
-}
-
-// A sentence that is said of the whole file.
-fn say_short(
-    out: &mut String,
-    name: Option<&str>,
-    sentence: &'static str,
-) -> Result<(), AllocError> {
-    begin(out, name, 0, "error")?;
-    writeln!(out, "{sentence}")
 }

@@ -9,11 +9,13 @@ use crate::expressions::{expression, operands, part_as, parts};
 use crate::parts::as_kind;
 use crate::writing::emit;
 use ls_java_tables::constants::fold;
-use ls_java_tables::finding::class_here;
+use ls_java_tables::finding::{class_here, field_of};
+use ls_java_tables::halves::own_name;
 use ls_java_tables::kinds::kind_of_element;
 use ls_java_tables::remarks::{Stop, Why};
-use ls_java_tables::restater::{Restater, is_named, name_of, refuse};
+use ls_java_tables::restater::{Restater, is_named, local_of, name_of, refuse};
 use ls_java_tables::ropes::Text;
+use ls_java_tables::tables::Field;
 use ls_java_tables::types::{kind_here, kind_with_brackets};
 use ls_java_tables::values::{Constant, Kind, Value};
 use ls_java_tree::declarations::{Body, Member};
@@ -109,8 +111,40 @@ fn returned(member: &Member) -> Option<&Expression> {
     }
 }
 
-// Whether a value can be made for all threads at once: a constant, `null`, or a new object of constants.
-fn is_simple(restater: &Restater, tree: &Expression) -> bool {
+// Whether an expression has the same value from here on: a constant; a local, which a lambda or a class in a method
+// names only if it is never assigned again (JLS 15.27.2, 8.1.3); or a final field that has its value where it is
+// declared, before.
+fn is_settled(restater: &Restater, at: usize, tree: &Expression) -> bool {
+    if fold(restater, tree).is_some() {
+        return true;
+    }
+    let Some(name) = own_name(tree) else {
+        return false;
+    };
+    let wanted = name_of(restater, name);
+    let by_name = matches!(&tree.kind, ExpressionKind::Name(_));
+    if by_name && local_of(restater, wanted).is_some() {
+        return true;
+    }
+    match field_of(restater, wanted) {
+        Some(number) => match restater.tables.fields.get(number) {
+            Some(field) => is_given_before(restater, field, at),
+            None => false,
+        },
+        None => false,
+    }
+}
+
+// Whether a final field of the class has its value before what stands at a token. It gets it where it is declared,
+// above, and initialisers come in the order of the file (JLS 12.5). A method may be called earlier.
+fn is_given_before(restater: &Restater, field: &Field, at: usize) -> bool {
+    let is_own = field.class == restater.place.class && restater.place.method.is_none();
+    let is_above = field.declarator.name.token < at;
+    is_own && is_above && field.is_final && field.declarator.value.is_some()
+}
+
+// Whether a value can be made for all threads at once: it is settled, `null`, or a new object of settled values.
+fn is_simple(restater: &Restater, at: usize, tree: &Expression) -> bool {
     match &tree.kind {
         ExpressionKind::Literal(_) => true,
         ExpressionKind::New {
@@ -121,9 +155,9 @@ fn is_simple(restater: &Restater, tree: &Expression) -> bool {
             body.is_none()
                 && arguments
                     .iter()
-                    .all(|argument| fold(restater, argument).is_some())
+                    .all(|argument| is_settled(restater, at, argument))
         }
-        _ => fold(restater, tree).is_some(),
+        _ => is_settled(restater, at, tree),
     }
 }
 
@@ -159,8 +193,8 @@ pub(crate) fn thread_local<'a>(
     if is_default(restater, first) {
         return Ok(array);
     }
-    if !is_simple(restater, first) {
-        return refuse(restater, at, Why::Other);
+    if !is_simple(restater, at, first) {
+        return refuse(restater, first.span.first, Why::FirstValue);
     }
     let index = each_thread(restater, out, at)?;
     let value = expression(restater, out, first, limit)?;

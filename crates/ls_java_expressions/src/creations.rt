@@ -6,6 +6,7 @@ use crate::parts::{as_kind, keep, keep_as, keep_reading};
 use crate::writing::{emit, write};
 use ls_java_tables::choosing::{choose_constructor, has_constructor};
 use ls_java_tables::finding::{object_of, outer_kind};
+use ls_java_tables::library::is_generic;
 use ls_java_tables::needs::{Helper, Operation, use_operation};
 use ls_java_tables::remarks::{Stop, What, Why};
 use ls_java_tables::restater::{
@@ -254,14 +255,11 @@ pub fn leave_delegate(restater: &mut Restater, outside: Outside) {
 
 // Whether a class of the library has an argument that isn't written, or is `<>`.
 fn is_raw(class: &ClassType) -> bool {
-    let generic = matches!(
-        class.name.text.as_str(),
-        "AtomicReference" | "AtomicMarkableReference" | "AtomicReferenceArray" | "ThreadLocal"
-    );
-    match &class.arguments {
-        None => generic,
-        Some(arguments) => generic && arguments.is_empty(),
-    }
+    is_generic(&class.name)
+        && match &class.arguments {
+            None => true,
+            Some(arguments) => arguments.is_empty(),
+        }
 }
 
 /// What is made: the type that is written, or where that is open, what is wanted (JLS 15.9.1, 15.9.3).
@@ -357,6 +355,11 @@ pub fn new_library(
             let text = new_text(restater, at, kind, list)?;
             Ok(object(restater, text, kind))
         }
+        (Kind::Semaphore, [permits, fair]) if is_pure(*fair) => {
+            note(restater, at, What::FairSemaphore)?;
+            let text = new_text(restater, at, kind, permits.text)?;
+            Ok(object(restater, text, kind))
+        }
         (Kind::ReadWrite | Kind::Key, _) => {
             let text = new_text(restater, at, kind, Text::EMPTY)?;
             Ok(object(restater, text, kind))
@@ -369,7 +372,7 @@ pub fn new_library(
             ..literal(restater, Constant::Int(0), at)?
         }),
         (Kind::Item, [value]) => Ok(*value),
-        _ => refuse_word(restater, at, wanted, Why::UnknownClass),
+        _ => refuse_word(restater, at, wanted, Why::NoConstructor),
     }
 }
 

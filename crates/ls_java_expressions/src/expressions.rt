@@ -176,7 +176,7 @@ pub fn part<'a>(
     let mut before = Text::EMPTY;
     let value = expression(restater, &mut before, tree, limit)?;
     if value.kind == Kind::Void {
-        return refuse(restater, tree.span.first, Why::OperatorTypes);
+        return refuse(restater, tree.span.first, Why::NoValue);
     }
     Ok(Part { value, before })
 }

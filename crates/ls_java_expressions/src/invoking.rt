@@ -4,7 +4,6 @@ use crate::atomics::{begin_update, end_update, held_kind, set_new};
 use crate::calls::{object_call, own_call};
 use crate::creating::thread_local;
 use crate::expressions::{expression, operands, part, parts};
-use crate::library::half_call;
 use crate::parts::{Part, keep_as, keep_reading, settle};
 use crate::receivers::{Receiver, receiver_of};
 use crate::simple::{printing, thread_call};
@@ -48,10 +47,6 @@ pub(crate) fn call<'a>(
         Receiver::Condition(lock) => {
             let lock = expression(restater, out, lock, limit)?;
             condition_call(restater, out, name, lock, !arguments.is_empty())
-        }
-        Receiver::Half { lock, of_write } => {
-            let lock = expression(restater, out, lock, limit)?;
-            half_call(restater, name, lock, of_write)
         }
         Receiver::Object(object) => {
             let first = part(restater, object, limit)?;

@@ -7,6 +7,7 @@ pub mod assignments;
 pub mod atomics;
 pub mod calls;
 pub mod choices;
+pub mod copying;
 pub mod creating;
 pub mod creations;
 pub mod expressions;

@@ -1,36 +1,54 @@
 // Calls of methods of the library's objects: locks, semaphores, latches, arrays, Random and ThreadLocal.
 
-use crate::arguments::{add_argument, listed, my_number};
+use crate::arguments::my_number;
 use crate::atomics::{atomic_call, call_by, markable_call, no_method, reference_call};
-use crate::parts::as_kind;
+use crate::parts::{as_kind, keep, keep_reading};
 use crate::writing::{emit, write};
+use ls_java_tables::halves::half_named;
 use ls_java_tables::kinds::kind_of_element;
 use ls_java_tables::remarks::{Stop, What, Why};
 use ls_java_tables::restater::{Restater, note};
 use ls_java_tables::ropes::Text;
 use ls_java_tables::spelling::{bound, literal, nothing, value_of};
-use ls_java_tables::values::{Constant, Element, Kind, PRIMARY, Sort, Value};
+use ls_java_tables::values::{Constant, Kind, PRIMARY, Sort, Value, reads};
 use ls_java_tree::names::Name;
 
 // A method of a lock.
 fn lock_call(
     restater: &mut Restater,
+    out: &mut Text,
     name: &Name,
     object: Value,
     arguments: &[Value],
 ) -> Result<Value, Stop> {
     let at = name.token;
-    let (pattern, kind) = match name.text.as_str() {
-        "lock" | "lockInterruptibly" => ("# . lock ( # )", Kind::Void),
-        "unlock" => ("# . unlock ( # )", Kind::Void),
-        "tryLock" => ("# . tryLock ( # )", Kind::Boolean),
-        "isHeldByCurrentThread" => ("# . isHeldByCurrentThread ( # )", Kind::Boolean),
+    let (pattern, kind) = match (name.text.as_str(), arguments) {
+        ("lock" | "lockInterruptibly", []) => ("# . lock ( # )", Kind::Void),
+        ("unlock", []) => ("# . unlock ( # )", Kind::Void),
+        ("tryLock", []) => ("# . tryLock ( # )", Kind::Boolean),
+        ("tryLock", [time, _]) => return timed_try(restater, out, at, object, *time),
+        ("isHeldByCurrentThread", []) => ("# . isHeldByCurrentThread ( # )", Kind::Boolean),
         _ => return no_method(restater, name, Why::NoLibraryMethod),
     };
-    if !arguments.is_empty() {
-        note(restater, at, What::TryLockTime)?;
-    }
     call_by(restater, at, pattern, object, Text::EMPTY, kind)
+}
+
+// `tryLock` with a time, which is evaluated: it doesn't wait, as if the time had passed at once.
+fn timed_try(
+    restater: &mut Restater,
+    out: &mut Text,
+    at: usize,
+    object: Value,
+    time: Value,
+) -> Result<Value, Stop> {
+    note(restater, at, What::TryLockTime)?;
+    let mut object = object;
+    if reads(time) {
+        object = keep_reading(restater, out, at, object)?;
+        keep(restater, out, at, time)?;
+    }
+    let pattern = "# . tryLock ( # )";
+    call_by(restater, at, pattern, object, Text::EMPTY, Kind::Boolean)
 }
 
 // A method of a Semaphore or a CountDownLatch.
@@ -54,18 +72,21 @@ fn gate_call(
     call_by(restater, name.token, pattern, object, Text::EMPTY, kind)
 }
 
-/// `lock` or `unlock` of one lock of a ReadWriteLock.
-pub fn half_call(
-    restater: &mut Restater,
-    name: &Name,
-    object: Value,
-    of_write: bool,
-) -> Result<Value, Stop> {
-    let pattern = match (name.text.as_str(), of_write, object.kind) {
-        ("lock", true, Kind::ReadWrite) => "# . lockWrite ( # )",
-        ("lock", false, Kind::ReadWrite) => "# . lockRead ( # )",
-        ("unlock", true, Kind::ReadWrite) => "# . unlockWrite ( # )",
-        ("unlock", false, Kind::ReadWrite) => "# . unlockRead ( # )",
+// A lock of a ReadWriteLock, which is written as that object.
+fn half(restater: &mut Restater, name: &Name, object: Value) -> Result<Value, Stop> {
+    match half_named(name) {
+        Some(kind) => Ok(Value { kind, ..object }),
+        None => no_method(restater, name, Why::NoLibraryMethod),
+    }
+}
+
+// `lock` or `unlock` of one lock of a ReadWriteLock.
+fn half_call(restater: &mut Restater, name: &Name, object: Value) -> Result<Value, Stop> {
+    let pattern = match (name.text.as_str(), object.kind == Kind::WriteLock) {
+        ("lock", true) => "# . lockWrite ( # )",
+        ("lock", false) => "# . lockRead ( # )",
+        ("unlock", true) => "# . unlockWrite ( # )",
+        ("unlock", false) => "# . unlockRead ( # )",
         _ => return no_method(restater, name, Why::NoLibraryMethod),
     };
     note(restater, name.token, What::ReadWrite)?;
@@ -164,7 +185,9 @@ pub fn library_call(
     arguments: &[Value],
 ) -> Result<Value, Stop> {
     match object.kind {
-        Kind::Lock => lock_call(restater, name, object, arguments),
+        Kind::Lock => lock_call(restater, out, name, object, arguments),
+        Kind::ReadWrite => half(restater, name, object),
+        Kind::ReadLock | Kind::WriteLock => half_call(restater, name, object),
         Kind::Semaphore => gate_call(restater, name, object, arguments),
         Kind::Latch => gate_call(restater, name, object, arguments),
         Kind::Random => random_call(restater, name),

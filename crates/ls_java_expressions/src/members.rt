@@ -91,8 +91,11 @@ pub fn type_name<'t>(restater: &Restater, written: &'t Expression) -> Option<&'t
     }
 }
 
-// A constant of the library, behind the name of its class.
+// A constant of the library, behind the name of its class. A unit of time is 0, since nothing waits for a time.
 fn library_constant(class: &Name, name: &Name) -> Option<Constant> {
+    if is_named(class, "TimeUnit") {
+        return Some(Constant::Int(0));
+    }
     if !is_named(class, "Integer") && !is_named(class, "Long") {
         return None;
     }

@@ -3,6 +3,7 @@
 ghost use Rattle.std.specs.Prelude.{◌≡◌, ◌≢◌, IfOk, IsTrue};
 
 use crate::writing::emit;
+use ls_java_tables::halves::is_half;
 use ls_java_tables::kinds::is_number;
 use ls_java_tables::remarks::{Stop, What, Why};
 use ls_java_tables::restater::{Restater, fresh, note, refuse};
@@ -163,6 +164,11 @@ pub fn settle_two(
     Ok((first, right.value))
 }
 
+// Whether one lock of a ReadWriteLock meets another kind than its own. They are written as different classes.
+fn is_other_half(value: Kind, kind: Kind) -> bool {
+    value != kind && (is_half(value) || is_half(kind))
+}
+
 /// A value where one of a kind is wanted: `null` is 0 where a number is.
 pub fn as_kind(
     restater: &mut Restater,
@@ -171,6 +177,9 @@ pub fn as_kind(
     kind: Kind,
 ) -> Result<Value, Stop> {
     if value.kind != Kind::Null {
+        if is_other_half(value.kind, kind) {
+            return refuse(restater, at, Why::HalfAsLock);
+        }
         return Ok(value);
     }
     if kind == Kind::Boolean {

@@ -1,13 +1,14 @@
 // What stands before the name of a method that is called.
 
 use crate::members::type_name;
+use ls_java_tables::halves::own_name;
 use ls_java_tables::restater::{Restater, is_named, local_of, name_of};
 use ls_java_tree::expressions::{Expression, ExpressionKind};
 use ls_java_tree::names::Name;
 use std::alloc::AllocError;
 
 /// What a call is of: a method by its name alone; a static one of a class; what prints; the thread itself; a condition,
-/// with its lock; one lock of a ReadWriteLock; or an object.
+/// with its lock; or an object.
 #[derive(Copy)]
 pub enum Receiver<'t> {
     Own,
@@ -15,28 +16,12 @@ pub enum Receiver<'t> {
     Printing,
     ThisThread,
     Condition(&'t Expression),
-    Half {
-        lock: &'t Expression,
-        of_write: bool,
-    },
     Object(&'t Expression),
 }
 
 impl<'t> Clone for Receiver<'t> {
     fn clone(&self) -> Result<Receiver<'t>, AllocError> {
         Ok(*self)
-    }
-}
-
-// The name that an expression is, alone or behind `this`.
-fn own_name(target: &Expression) -> Option<&Name> {
-    match &target.kind {
-        ExpressionKind::Name(name) => Some(name),
-        ExpressionKind::Field { target, name } => match &target.kind {
-            ExpressionKind::This(None) => Some(name),
-            _ => None,
-        },
-        _ => None,
     }
 }
 
@@ -65,25 +50,12 @@ fn library_field(restater: &Restater, target: &Expression) -> bool {
     }
 }
 
-// What a call is of whose target is a call: `currentThread()`, `readLock()`, `writeLock()`.
-fn called(target: &Expression) -> Option<Receiver<'_>> {
-    let ExpressionKind::Call {
-        target: lock,
-        name,
-        ..
-    } = &target.kind
-    else {
-        return None;
-    };
-    if is_named(name, "currentThread") {
-        return Some(Receiver::ThisThread);
+// Whether the target of a call is `currentThread()`.
+fn is_this_thread(target: &Expression) -> bool {
+    match &target.kind {
+        ExpressionKind::Call { name, .. } => is_named(name, "currentThread"),
+        _ => false,
     }
-    let lock = lock.as_deref()?;
-    let of_write = is_named(name, "writeLock");
-    if of_write || is_named(name, "readLock") {
-        return Some(Receiver::Half { lock, of_write });
-    }
-    None
 }
 
 /// What a call is of.
@@ -97,8 +69,8 @@ pub fn receiver_of<'a>(restater: &Restater<'a>, target: Option<&'a Expression>) 
     if library_field(restater, target) {
         return Receiver::Printing;
     }
-    if let Some(found) = called(target) {
-        return found;
+    if is_this_thread(target) {
+        return Receiver::ThisThread;
     }
     match type_name(restater, target) {
         Some(class) => Receiver::Class(class),

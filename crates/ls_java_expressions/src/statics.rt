@@ -1,9 +1,9 @@
 // Calls behind the name of a class (JLS 15.12.1): of the file, or of the library.
 
 use crate::arguments::my_number;
-use crate::arrays::{counting, element, length, made, write_element};
 use crate::atomics::no_method;
 use crate::calls::method_call;
+use crate::copying::{array_copy, arrays};
 use crate::members::is_around;
 use crate::numbers::comparison;
 use crate::operators::{binary, joined};
@@ -67,6 +67,7 @@ fn library_static(
         "Integer" | "Long" | "Boolean" => boxed(restater, out, name, arguments),
         "Objects" => objects(restater, out, name, arguments),
         "Arrays" => arrays(restater, out, name, arguments),
+        "System" => array_copy(restater, out, name, arguments),
         "Thread" | "TimeUnit" | "LockSupport" => thread(restater, name),
         _ => {
             let owner = name_of(restater, class);
@@ -195,53 +196,4 @@ fn objects(
         }
         _ => no_method(restater, name, Why::NoLibraryMethod),
     }
-}
-
-// A static method of Arrays: a loop.
-fn arrays(
-    restater: &mut Restater,
-    out: &mut Text,
-    name: &Name,
-    arguments: &[Value],
-) -> Result<Value, Stop> {
-    let (Some(array), Some(other)) = (arguments.first(), arguments.get(1)) else {
-        return no_method(restater, name, Why::NoLibraryMethod);
-    };
-    let at = name.token;
-    let array = keep_reading(restater, out, at, *array)?;
-    let other = keep_reading(restater, out, at, *other)?;
-    note(restater, at, What::CopyLoop)?;
-    if is_named(name, "fill") && arguments.len() == 2 {
-        let limit = length(restater, at, array)?;
-        let index = counting(restater, out, at, limit.text)?;
-        write_element(restater, out, array, index, other)?;
-        emit(restater, out, at, "}", &[])?;
-        return Ok(nothing());
-    }
-    if is_named(name, "copyOf") && arguments.len() == 2 {
-        return copy_of(restater, out, at, array, other);
-    }
-    no_method(restater, name, Why::NoLibraryMethod)
-}
-
-// `Arrays.copyOf`.
-fn copy_of(
-    restater: &mut Restater,
-    out: &mut Text,
-    at: usize,
-    array: Value,
-    count: Value,
-) -> Result<Value, Stop> {
-    let new = made(restater, at, array.kind, count)?;
-    let copy = keep(restater, out, at, new)?;
-    let size = length(restater, at, array)?;
-    let size = keep(restater, out, at, size)?;
-    let limit = bound(restater, count, SUM)?;
-    let parts = [limit, size.text, size.text, limit];
-    emit(restater, out, at, "if ( # < # ) # = # ;", &parts)?;
-    let index = counting(restater, out, at, size.text)?;
-    let item = element(restater, at, array, index)?;
-    write_element(restater, out, copy, index, item)?;
-    emit(restater, out, at, "}", &[])?;
-    Ok(copy)
 }

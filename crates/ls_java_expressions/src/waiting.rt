@@ -1,5 +1,6 @@
 // `wait`, `notify` and conditions (JLS 17.2): a wait lets go of the lock and takes it again, in a loop.
 
+use crate::atomics::no_method;
 use crate::parts::keep_reading;
 use crate::writing::{emit, write};
 use ls_java_tables::remarks::{Stop, What, Why};
@@ -96,14 +97,13 @@ pub fn condition_call(
         return refuse(restater, at, Why::WaitWithTime);
     }
     check_loop(restater, at)?;
+    let pattern = match lock.kind {
+        Kind::Lock => "# . unlock ( ) ; # . lock ( ) ;",
+        Kind::WriteLock => "# . unlockWrite ( ) ; # . lockWrite ( ) ;",
+        _ => return no_method(restater, name, Why::NoLibraryMethod),
+    };
     let target = bound(restater, lock, PRIMARY)?;
-    emit(
-        restater,
-        out,
-        at,
-        "# . unlock ( ) ; # . lock ( ) ;",
-        &[target, target],
-    )?;
+    emit(restater, out, at, pattern, &[target, target])?;
     note(restater, at, What::Await)?;
     Ok(nothing())
 }

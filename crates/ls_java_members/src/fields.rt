@@ -4,7 +4,7 @@ use crate::places::{enter_member, keep_unless_refused, say_modifiers};
 use ls_java_expressions::expressions::expression_as;
 use ls_java_expressions::writing::emit;
 use ls_java_statements::bodies::body;
-use ls_java_tables::collecting::has_static;
+use ls_java_tables::collecting::flags_of;
 use ls_java_tables::finding::is_split;
 use ls_java_tables::remarks::{Stop, What};
 use ls_java_tables::restater::{Restater, note_word};
@@ -160,7 +160,7 @@ pub(crate) fn all_fields(
     let tree = known.tree;
     for member in &tree.members {
         match member {
-            Member::Field(one) if !split || has_static(&one.modifiers) == is_static => {
+            Member::Field(one) if !split || flags_of(&one.modifiers).is_static == is_static => {
                 declared(restater, &mut fields, one)?;
             }
             Member::Initializer(one) if !split || one.of_static == is_static => {

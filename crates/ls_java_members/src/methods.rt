@@ -29,6 +29,15 @@ struct Signature {
     me: Option<WordId>,
 }
 
+// The annotation of a method whose first parameter is the thread's number.
+fn say_annotation(restater: &mut Restater, out: &mut Text, tree: &MethodTree) -> Result<(), Stop> {
+    let token = match tree.modifiers.first() {
+        Some(modifier) => modifier.span.first,
+        None => tree.result.span.first,
+    };
+    say(restater, out, "@ ThreadNumber", token)
+}
+
 // The parameter for the thread's number.
 fn say_number(
     restater: &mut Restater,
@@ -61,6 +70,9 @@ fn say_head(
     } else {
         "volatile"
     };
+    if signature.me.is_some() {
+        say_annotation(restater, out, tree)?;
+    }
     say_modifiers(restater, out, &tree.modifiers, left_out)?;
     let result = type_text(restater, signature.result, tree.result.span.first)?;
     append(restater, out, result)?;

@@ -63,7 +63,7 @@ last_longer xs ys tokens from here (p ∷ ps) (low, high, token, order) =
 -- one more word
 one_more_line : (java xs : List ℕ) (here : ℕ) (ps : List Place) (p : Place) →
     AreOnLines java xs here ps →
-    ends_before p.start xs ≡ line_of_word java (last_line xs here ps) p.at p.own →
+    ends_before p.start xs ≡ line_of_word java (last_line xs here ps) p.at p.goes →
     AreOnLines java xs here (ps ++ p ∷ [])
 one_more_line java xs here [] p lines e = (e, tt)
 one_more_line java xs here (q ∷ ps) p (line, lines) e =
@@ -109,7 +109,7 @@ pub kept_word : (java : List ℕ) (tokens : ℕ) (old mid new : KeptPage) (word 
     p.start ≡ length (string_bytes old.text) →
     p.end ≡ length (string_bytes mid.text) →
     p.token < tokens →
-    old.line ≡ line_of_word java old.here p.at p.own →
+    old.line ≡ line_of_word java old.here p.at p.goes →
     string_bytes new.text ≡ string_bytes mid.text →
     new.line ≡ mid.line →
     new.places.items ≡ mid.places.items ++ p ∷ [] →
@@ -123,8 +123,8 @@ kept_word java tokens old mid new word p was kept text places same start end tok
     let begin : ends_before p.start ys ≡ old.line =
     ap (λ n. ends_before n ys) start ∙ ap (ends_before (length xs)) text ∙ before_end xs word ∙ sym was.line in
     let last : old.here ≡ last_line ys 0 ps = sym same ∙ kept.here in
-    let goes_on : ends_before p.start ys ≡ line_of_word java (last_line ys 0 ps) p.at p.own =
-    begin ∙ goes ∙ ap (λ h. line_of_word java h p.at p.own) last in
+    let goes_on : ends_before p.start ys ≡ line_of_word java (last_line ys 0 ps) p.at p.goes =
+    begin ∙ goes ∙ ap (λ h. line_of_word java h p.at p.goes) last in
     let before : AreInOrder tokens 0 ps (length xs) =
     subst (λ qs. AreInOrder tokens 0 qs (length xs)) (sym places) was.order in
     let order : AreInOrder tokens 0 (ps ++ p ∷ []) (length ys) =

@@ -25,13 +25,13 @@ lines_of java tokens = map (λ t. 1 + ends_before t.start java) tokens
 -- So many lines end before a word, where so many end before the end of the word before it. It goes to the line of its
 -- token, if it is one that does and that line comes later, and else it stays.
 abbrev pub line_of_word : List ℕ → ℕ → ℕ → Bool → ℕ
-line_of_word java here at own = if own && nat_lt here (ends_before at java) then ends_before at java else here
+line_of_word java here at goes = if goes && nat_lt here (ends_before at java) then ends_before at java else here
 
 -- each word stands on that line
 abbrev pub AreOnLines : List ℕ → List ℕ → ℕ → List Place → Type 0
 AreOnLines java text here [] = Unit {0}
 AreOnLines java text here (p ∷ ps) =
-    (ends_before p.start text ≡ line_of_word java here p.at p.own) × AreOnLines java text (ends_before p.end text) ps
+    (ends_before p.start text ≡ line_of_word java here p.at p.goes) × AreOnLines java text (ends_before p.end text) ps
 
 -- how many lines end before the end of the last word
 abbrev pub last_line : List ℕ → ℕ → List Place → ℕ

@@ -52,6 +52,11 @@ pub fn white_break<'a>(text: &'a str, from: usize, to: usize) -> Break<'a> {
     }
 }
 
+/// The token that counts for this number: a number behind the last token counts as the last one.
+pub fn nearest(source: Source, token: usize) -> usize {
+    token.min(source.tokens.len().saturating_sub(1))
+}
+
 /// Whether a word is spelled as the token of the file from which it comes.
 pub fn is_copied(source: Source, word: &str, token: usize) -> bool {
     match source.tokens.get(token) {

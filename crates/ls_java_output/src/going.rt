@@ -1,6 +1,6 @@
 // Which words go to the lines of their tokens.
 
-use crate::gaps::{Source, is_copied};
+use crate::gaps::{Source, is_copied, nearest};
 use crate::layout::Made;
 use crate::leaves::{Leaf, Spelling};
 use crate::lines::line_at;
@@ -25,7 +25,7 @@ pub fn words_going(made: &Made, source: Source, leaves: &[Leaf]) -> Result<Vec<b
     let mut next = 0;
     for leaf in leaves.iter().rev() {
         let own = is_own(made, source, leaf)?;
-        let line = line_at(source.lines, leaf.token);
+        let line = line_at(source.lines, nearest(source, leaf.token));
         all.push(own || (line > 0 && line <= next))?;
         if own {
             next = line;

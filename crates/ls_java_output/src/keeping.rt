@@ -21,7 +21,7 @@ fn write_one(
     made: &Made,
     source: Source,
     leaf: Leaf,
-    own: bool,
+    goes: bool,
 ) -> Result<(), AllocError>
     requires lines { source.lines.now ≡ lines_of source.text.now source.tokens.now }
     requires kept { IsKept source.text.now (length source.tokens.now) page.old }
@@ -31,11 +31,11 @@ fn write_one(
 {
     let token = leaf.token;
     match leaf.spelling {
-        Spelling::Word(word) => write_kept(page, source, made.words.text(word), token, own),
-        Spelling::Fixed(word) => write_kept(page, source, word, token, own),
+        Spelling::Word(word) => write_kept(page, source, made.words.text(word), token, goes),
+        Spelling::Fixed(word) => write_kept(page, source, word, token, goes),
         Spelling::Number(value) => {
             let digits = value.to_string(made.alloc)?;
-            write_kept(page, source, digits.as_str(), token, own)
+            write_kept(page, source, digits.as_str(), token, goes)
         }
     }
 }
@@ -52,10 +52,10 @@ fn write_leaves(
     requires here { page.old.here ≡ page.old.line }
     ensures kept { OnOk result (IsKept source.entry.text.now (length source.entry.tokens.now) page.new) }
 {
-    let mut goes = words_going(made, source, leaves)?;
+    let mut all = words_going(made, source, leaves)?;
     'all: for leaf in leaves {
-        let own = goes.pop().unwrap_or(false);
-        write_one(page, made, source, *leaf, own)?;
+        let goes = all.pop().unwrap_or(false);
+        write_one(page, made, source, *leaf, goes)?;
     }
     Ok(())
 }

@@ -3,11 +3,28 @@
 ghost use Rattle.std.specs.Prelude.{◌≡◌, ◌+◌, ◌++◌, ◌<◌, ◌≤◌, ℕ, IfSome, List, OnOk, length, string_bytes};
 ghost use Rattle.ls_java_output.specs.Lines.{IsKept, ends_before, ends_in, line_of_word, lines_of};
 
-use crate::gaps::Source;
+use crate::gaps::{Source, is_copied, nearest};
 use crate::lines::feeds;
 use crate::place::Place;
 use crate::spacing::{Ending, Gap, ending_of, gap_between};
 use std::alloc::{AllocError, Global};
+
+/// A token of the file, by its number: its bytes in the file, and whether a word that comes from it is spelled as it
+/// and goes to its line.
+#[derive(Copy)]
+struct Origin {
+    token: usize,
+    at: usize,
+    until: usize,
+    own: bool,
+    goes: bool,
+}
+
+impl Clone for Origin {
+    fn clone(&self) -> Result<Origin, AllocError> {
+        Ok(*self)
+    }
+}
 
 /// What is written, with the places of its words. So many lines end in the text, and so many before the end of its last
 /// word. `passed` is how many tokens of the file are behind, and `last` the token of the last word, if that goes to its
@@ -118,10 +135,10 @@ fn gap_beside<'a>(
     source: Source<'a>,
     word: &str,
     token: usize,
-    own: bool,
+    goes: bool,
 ) -> &'a str {
     let found = gap_of(source, token);
-    let beside = own && page.last == token.checked_sub(1) && token > 0;
+    let beside = goes && page.last == token.checked_sub(1) && token > 0;
     if beside && feeds(found.as_bytes()) == 0 {
         return found;
     }
@@ -150,7 +167,7 @@ fn begin_word(
     source: Source,
     word: &str,
     token: usize,
-    own: bool,
+    goes: bool,
     goal: usize,
 ) -> Result<(), AllocError>
     requires kept { IsKept source.text.now (length source.tokens.now) page.old }
@@ -163,7 +180,7 @@ fn begin_word(
         push_gaps(page, source, token, goal)?;
         return fill(page, source, goal);
     }
-    push_beside(page, source, gap_beside(page, source, word, token, own))
+    push_beside(page, source, gap_beside(page, source, word, token, goes))
 }
 
 // A word, with its place.
@@ -171,13 +188,11 @@ fn place_word(
     page: &mut KeptPage,
     source: Source,
     word: &str,
-    token: usize,
-    at: usize,
-    own: bool,
+    origin: Origin,
 ) -> Result<(), AllocError>
     requires kept { IsKept source.text.now (length source.tokens.now) page.old }
-    requires token { token < length source.tokens.now }
-    requires line { page.old.line ≡ line_of_word source.text.now page.old.here at own }
+    requires token { origin.token < length source.tokens.now }
+    requires line { page.old.line ≡ line_of_word source.text.now page.old.here origin.at origin.goes }
     ensures kept { OnOk result (IsKept source.entry.text.now (length source.entry.tokens.now) page.new) }
     ensures line { OnOk result (page.new.here ≡ page.new.line) }
 {
@@ -187,22 +202,33 @@ fn place_word(
     page.places.push(Place {
         start,
         end,
-        token,
-        at,
-        own,
+        token: origin.token,
+        at: origin.at,
+        until: origin.until,
+        own: origin.own,
+        goes: origin.goes,
     })?;
     page.here = page.line;
     Ok(())
 }
 
-// Where a token of the file begins, and how many lines end before it.
-fn place_of(source: Source, token: usize) -> Option<(usize, usize)>
+// The token from which a word comes, if the file has it, and how many lines end before it.
+fn origin_of(source: Source, word: &str, token: usize, goes: bool) -> Option<(Origin, usize)>
     requires { source.lines.now ≡ lines_of source.text.now source.tokens.now }
-    ensures { IfSome result (λ r. (r.1 ≡ ends_before r.0 source.entry.text.now) ×
-        (token < length source.entry.tokens.now)) }
+    ensures { IfSome result (λ r. (r.1 ≡ ends_before r.0.at source.entry.text.now) ×
+        (r.0.token < length source.entry.tokens.now) × (r.0.goes ≡ goes)) }
 {
     match (source.tokens.get(token), source.lines.get(token)) {
-        (Some(found), Some(line)) => Some((found.start, line.saturating_sub(1))),
+        (Some(found), Some(line)) => {
+            let origin = Origin {
+                token,
+                at: found.start,
+                until: found.end,
+                own: is_copied(source, word, token),
+                goes,
+            };
+            Some((origin, line.saturating_sub(1)))
+        }
         _ => None,
     }
 }
@@ -214,7 +240,7 @@ pub fn write_kept(
     source: Source,
     word: &str,
     token: usize,
-    own: bool,
+    goes: bool,
 ) -> Result<(), AllocError>
     requires lines { source.lines.now ≡ lines_of source.text.now source.tokens.now }
     requires kept { IsKept source.text.now (length source.tokens.now) page.old }
@@ -222,21 +248,21 @@ pub fn write_kept(
     ensures kept { OnOk result (IsKept source.entry.text.now (length source.entry.tokens.now) page.new) }
     ensures here { OnOk result (page.new.here ≡ page.new.line) }
 {
-    let token = token.min(source.tokens.len().saturating_sub(1));
-    let Some((at, line)) = place_of(source, token) else {
+    let token = nearest(source, token);
+    let Some((origin, line)) = origin_of(source, word, token, goes) else {
         return Ok(());
     };
-    let goal = if own && page.line < line {
+    let goal = if goes && page.line < line {
         line
     } else {
         page.line
     };
-    begin_word(page, source, word, token, own, goal)?;
-    place_word(page, source, word, token, at, own)?;
-    if own {
+    begin_word(page, source, word, token, goes, goal)?;
+    place_word(page, source, word, origin)?;
+    if goes {
         page.passed = page.passed.max(token.saturating_add(1));
     }
-    page.last = if own { Some(token) } else { None };
+    page.last = if goes { Some(token) } else { None };
     page.ending = ending_of(page.ending, word);
     Ok(())
 }

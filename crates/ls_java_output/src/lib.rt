@@ -12,4 +12,5 @@ pub mod lines;
 mod order;
 mod page;
 pub mod place;
+pub mod placed;
 mod spacing;

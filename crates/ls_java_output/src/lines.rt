@@ -30,8 +30,8 @@ pub fn line_ends(text: &str, from: usize, to: usize) -> usize {
     }
 }
 
-// How many lines end before a byte, if so many end before another one.
-fn ends_upto(text: &str, from: usize, ends: usize, to: usize) -> usize
+/// How many lines end before a byte, if so many end before another one.
+pub fn ends_upto(text: &str, from: usize, ends: usize, to: usize) -> usize
     requires { ends ≡ ends_before from text.now }
     ensures { result ≡ ends_before to text.now }
 {

@@ -169,7 +169,8 @@ pub fn break_before<'a>(page: &Page, source: Source<'a>, word: &str, token: usiz
         return break_of(source, token);
     }
     let later = line_at(source.lines, token) > last.line;
-    if copied && later && begins_file_line(source, token) {
+    // an annotation that is added begins the line that the method's first word begins in the file
+    if (copied || word == "@") && later && begins_file_line(source, token) {
         return break_of(source, token);
     }
     if page.parentheses == 0 && begins_line(last.ending, word) {
@@ -233,12 +234,15 @@ pub fn write_word(
     let own = is_copied(source, word, token);
     if let Some(found) = source.tokens.get(token) {
         let at = found.start;
+        let until = found.end;
         page.places.push(Place {
             start,
             end,
             token,
             at,
+            until,
             own,
+            goes: own,
         })?;
     }
     count_open(page, word)?;

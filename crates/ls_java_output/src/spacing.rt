@@ -24,7 +24,7 @@ pub enum Ending {
     OpenBrace,
     CloseBrace,
     Semicolon,
-    // `(`, `[`, `.`, `!` and a minus of one operand: nothing stands after these
+    // `(`, `[`, `.`, `!`, `@` and a minus of one operand: nothing stands after these
     Tight,
     Minus,
     // an operator, or a word of a statement, before which no value ends
@@ -42,7 +42,7 @@ impl Clone for Ending {
     }
 }
 
-const TIGHT: [&str; 4] = ["(", "[", ".", "!"];
+const TIGHT: [&str; 5] = ["(", "[", ".", "!", "@"];
 
 const OPEN: [&str; 26] = [
     "=",

@@ -4,6 +4,7 @@ use ls_java_expressions::arguments::add_argument;
 use ls_java_expressions::expressions::{EXPRESSION_LIMIT, part_as};
 use ls_java_expressions::parts::Part;
 use ls_java_expressions::writing::{emit, write};
+use ls_java_tables::halves::kind_by_value;
 use ls_java_tables::remarks::{Stop, Why};
 use ls_java_tables::restater::{Local, Restater, declare, name_of, refuse};
 use ls_java_tables::ropes::Text;
@@ -44,7 +45,7 @@ fn local_kind(restater: &mut Restater, written: &Type, one: &Declarator) -> Resu
     match kind {
         Kind::Condition => refuse(restater, one.name.token, Why::LocalCondition),
         Kind::ThreadLocal(_) => refuse(restater, one.name.token, Why::LocalThreadLocal),
-        kind => Ok(kind),
+        kind => Ok(kind_by_value(restater, kind, one.value.as_ref())),
     }
 }
 

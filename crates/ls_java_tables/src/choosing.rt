@@ -7,14 +7,20 @@ use crate::words::WordId;
 
 // Whether arguments fit parameters, without boxing or with it.
 fn all_fit(arguments: &[Kind], parameters: &[Kind], strictly: bool) -> bool {
-    arguments.len() == parameters.len()
-        && arguments.iter().zip(parameters.iter()).all(|(argument, parameter)| {
-            if strictly {
-                fits_strictly(*argument, *parameter)
-            } else {
-                fits(*argument, *parameter)
-            }
-        })
+    if arguments.len() != parameters.len() {
+        return false;
+    }
+    for (argument, parameter) in arguments.iter().zip(parameters.iter()) {
+        let fits_here = if strictly {
+            fits_strictly(*argument, *parameter)
+        } else {
+            fits(*argument, *parameter)
+        };
+        if !fits_here {
+            return false;
+        }
+    }
+    true
 }
 
 fn method_by(
@@ -24,11 +30,13 @@ fn method_by(
     arguments: &[Kind],
     strictly: bool,
 ) -> Option<usize> {
-    restater.tables.methods.iter().position(|method| {
-        method.class == class
-            && method.name == name
-            && all_fit(arguments, &method.parameters, strictly)
-    })
+    for (number, method) in restater.tables.methods.iter().enumerate() {
+        let is_meant = method.class == class && method.name == name;
+        if is_meant && all_fit(arguments, &method.parameters, strictly) {
+            return Some(number);
+        }
+    }
+    None
 }
 
 /// The method of a name in a class that takes arguments of these kinds: the first without boxing, else the first with
@@ -51,9 +59,12 @@ fn constructor_by(
     arguments: &[Kind],
     strictly: bool,
 ) -> Option<usize> {
-    restater.tables.constructors.iter().position(|constructor| {
-        constructor.class == class && all_fit(arguments, &constructor.parameters, strictly)
-    })
+    for (number, constructor) in restater.tables.constructors.iter().enumerate() {
+        if constructor.class == class && all_fit(arguments, &constructor.parameters, strictly) {
+            return Some(number);
+        }
+    }
+    None
 }
 
 /// The constructor of a class that takes arguments of these kinds: the first without boxing, else the first with it.
@@ -66,6 +77,10 @@ pub fn choose_constructor(restater: &Restater, class: usize, arguments: &[Kind])
 
 /// Whether a class declares a constructor.
 pub fn has_constructor(restater: &Restater, class: usize) -> bool {
-    let constructors = &restater.tables.constructors;
-    constructors.iter().any(|one| one.class == class)
+    for one in &restater.tables.constructors {
+        if one.class == class {
+            return true;
+        }
+    }
+    false
 }

@@ -9,27 +9,33 @@ use ls_java_tree::declarations::{Head, Member, Sort, TypeDeclaration};
 use ls_java_tree::names::{Modifier, ModifierKind, Name};
 use ls_java_tree::types::{Type, TypeKind};
 
-/// Whether `static` is among modifiers.
-pub fn has_static(modifiers: &[Modifier]) -> bool {
-    modifiers
-        .iter()
-        .any(|modifier| matches!(&modifier.kind, ModifierKind::Static))
+/// Which of the modifiers that matter stand before a declaration.
+#[derive(Clone, Copy)]
+pub struct Flags {
+    pub is_static: bool,
+    pub is_final: bool,
+    pub is_synchronized: bool,
+    pub is_abstract: bool,
 }
 
-/// Whether `final` is among modifiers.
-pub fn has_final(modifiers: &[Modifier]) -> bool {
-    modifiers
-        .iter()
-        .any(|modifier| matches!(&modifier.kind, ModifierKind::Final))
-}
-
-/// Whether `synchronized` is among modifiers.
-pub fn has_synchronized(modifiers: &[Modifier]) -> bool {
-    modifiers.iter().any(|modifier| matches!(&modifier.kind, ModifierKind::Synchronized))
-}
-
-fn has_abstract(modifiers: &[Modifier]) -> bool {
-    modifiers.iter().any(|modifier| matches!(&modifier.kind, ModifierKind::Abstract))
+/// The modifiers of a declaration that matter.
+pub fn flags_of(modifiers: &[Modifier]) -> Flags {
+    let mut found = Flags {
+        is_static: false,
+        is_final: false,
+        is_synchronized: false,
+        is_abstract: false,
+    };
+    for modifier in modifiers {
+        match &modifier.kind {
+            ModifierKind::Static => found.is_static = true,
+            ModifierKind::Final => found.is_final = true,
+            ModifierKind::Synchronized => found.is_synchronized = true,
+            ModifierKind::Abstract => found.is_abstract = true,
+            _ => {}
+        }
+    }
+    found
 }
 
 /// The name of a type's class.
@@ -68,7 +74,7 @@ fn left_out(head: &Head) -> Option<Gone> {
 
 // Why a class can't be restated.
 fn why_refused(head: &Head) -> Option<Why> {
-    if has_abstract(&head.modifiers) {
+    if flags_of(&head.modifiers).is_abstract {
         return Some(Why::Abstract);
     }
     let name = type_name(head.extends.first()?)?;
@@ -78,11 +84,20 @@ fn why_refused(head: &Head) -> Option<Why> {
     Some(Why::Extends)
 }
 
+// Whether a class before gets a name.
+fn has_out(restater: &Restater, name: WordId) -> bool {
+    for class in &restater.tables.classes {
+        if class.out == name {
+            return true;
+        }
+    }
+    false
+}
+
 // The name that a class gets: its own, if no class before has it, and the library neither.
 fn written_name(restater: &mut Restater, name: &Name) -> Result<WordId, Stop> {
     let word = name_of(restater, name);
-    let known = &restater.tables.classes;
-    if !is_reserved(name) && known.iter().all(|class| class.out != word) {
+    if !is_reserved(name) && !has_out(restater, word) {
         return Ok(word);
     }
     let out = fresh(restater, name.text.as_str())?;
@@ -117,7 +132,7 @@ fn add_class<'a>(
         name,
         out,
         outer,
-        is_static: outer.is_none() || has_static(&tree.head.modifiers),
+        is_static: outer.is_none() || flags_of(&tree.head.modifiers).is_static,
         is_split: false,
         several_constructors: false,
         variables,
@@ -212,12 +227,17 @@ pub fn unless_refused(done: Result<(), Stop>) -> Result<(), Stop> {
 
 // Whether a class implements an interface of a name.
 fn implements(restater: &Restater, class: usize, interface: WordId) -> bool {
-    match restater.tables.classes.get(class) {
-        Some(class) => class.tree.head.implements.iter().any(|one| {
-            type_name(one).is_some_and(|name| restater.words.of(name) == interface)
-        }),
-        None => false,
+    let Some(class) = restater.tables.classes.get(class) else {
+        return false;
+    };
+    for one in &class.tree.head.implements {
+        if let Some(name) = type_name(one) {
+            if restater.words.of(name) == interface {
+                return true;
+            }
+        }
     }
+    false
 }
 
 // The one class that implements an interface.

@@ -1,7 +1,9 @@
 // The members of the classes: fields, methods and constructors.
 
-use crate::collecting::{has_final, has_static, has_synchronized, unless_refused};
+use crate::collecting::{flags_of, unless_refused};
 use crate::constants::{fold, may_be_constant};
+use crate::finding::field_in;
+use crate::halves::{kind_by_value, own_name};
 use crate::remarks::{Stop, What};
 use crate::restater::{Restater, fresh, is_named, name_of, note, note_word};
 use crate::scanning::is_made;
@@ -11,7 +13,8 @@ use crate::values::{Constant, Kind};
 use crate::words::WordId;
 use ls_java_tree::declarations::{Constructor as ConstructorTree, Member, Method as MethodTree};
 use ls_java_tree::expressions::{Expression, ExpressionKind, Parameter};
-use ls_java_tree::statements::{Block, Declaration, Declarator, StatementKind};
+use ls_java_tree::names::Name;
+use ls_java_tree::statements::{Block, Declaration, Declarator, Statement, StatementKind};
 use ls_java_tree::types::TypeParameter;
 
 // The kind of a field. If it is refused, so is the name.
@@ -30,7 +33,8 @@ fn field_kind(
         let name = name_of(restater, &declarator.name);
         restater.tables.broken.push(name)?;
     }
-    kind
+    restater.place.class = class;
+    Ok(kind_by_value(restater, kind?, declarator.value.as_ref()))
 }
 
 // The lock whose `newCondition()` an expression is.
@@ -55,13 +59,14 @@ fn add_field<'a>(
 ) -> Result<(), Stop> {
     let kind = field_kind(restater, class, tree, declarator)?;
     let name = name_of(restater, &declarator.name);
+    let found = flags_of(&tree.modifiers);
     restater.tables.fields.push(Field {
         class,
         name,
         tree,
         declarator,
-        is_static: has_static(&tree.modifiers),
-        is_final: has_final(&tree.modifiers),
+        is_static: found.is_static,
+        is_final: found.is_final,
         kind,
         constant: None,
     })?;
@@ -110,16 +115,15 @@ fn parameter_kinds(
 // The name that a method gets: its own, if it is the first of the class.
 fn method_name(restater: &mut Restater, class: usize, tree: &MethodTree) -> Result<WordId, Stop> {
     let name = name_of(restater, &tree.name);
-    let before = restater
-        .tables
-        .methods
-        .iter()
-        .filter(|method| method.class == class && method.name == name)
-        .count();
-    if before == 0 {
+    let mut number: usize = 1;
+    for method in &restater.tables.methods {
+        if method.class == class && method.name == name {
+            number = number.saturating_add(1);
+        }
+    }
+    if number == 1 {
         return Ok(name);
     }
-    let number = before.saturating_add(1);
     let base = format!(in restater.alloc; "{}{number}", tree.name.text.as_str())?;
     let out = fresh(restater, base.as_str())?;
     note_word(restater, tree.name.token, out, What::MethodRenamed)?;
@@ -128,7 +132,7 @@ fn method_name(restater: &mut Restater, class: usize, tree: &MethodTree) -> Resu
 
 // Whether a method is `static void main(String[] args)`, or the like.
 fn is_main(tree: &MethodTree) -> bool {
-    is_named(&tree.name, "main") && has_static(&tree.modifiers)
+    is_named(&tree.name, "main") && flags_of(&tree.modifiers).is_static
 }
 
 /// Whether a method is left out: `toString()`.
@@ -173,13 +177,14 @@ fn add_method<'a>(
     } else {
         None
     };
+    let found = flags_of(&tree.modifiers);
     restater.tables.methods.push(Method {
         class,
         name,
         out,
         tree,
-        is_static: has_static(&tree.modifiers),
-        is_synchronized: has_synchronized(&tree.modifiers),
+        is_static: found.is_static,
+        is_synchronized: found.is_synchronized,
         parameters,
         result,
         me,
@@ -205,35 +210,45 @@ pub fn delegate_of(body: &Block) -> Option<&[Expression]> {
     }
 }
 
-// The field that an assignment in a constructor means: `name` or `this.name`.
-fn assigned_name(target: &Expression) -> Option<&ls_java_tree::names::Name> {
-    match &target.kind {
-        ExpressionKind::Name(name) => Some(name),
-        ExpressionKind::Field { target, name } => match &target.kind {
-            ExpressionKind::This(None) => Some(name),
-            _ => None,
-        },
+// What a constructor gives to a field: the name of `name` or `this.name`, and the value.
+fn given(statement: &Statement) -> Option<(&Name, &Expression)> {
+    let StatementKind::Expression(expression) = &statement.kind else {
+        return None;
+    };
+    match &expression.kind {
+        ExpressionKind::Assign { target, value, .. } => Some((own_name(target)?, value)),
         _ => None,
     }
 }
 
-// The conditions that a constructor makes.
-fn add_conditions<'a>(
-    restater: &mut Restater<'a>,
-    class: usize,
-    body: &'a Block,
-) -> Result<(), Stop> {
+// A field that a constructor gives a lock of a ReadWriteLock is that lock.
+fn see_half(restater: &mut Restater, class: usize, name: WordId, value: &Expression) {
+    let Some(number) = field_in(restater, class, name) else {
+        return;
+    };
+    let Some(field) = restater.tables.fields.get(number).copied() else {
+        return;
+    };
+    restater.place.class = class;
+    let kind = kind_by_value(restater, field.kind, Some(value));
+    if let Some(field) = restater.tables.fields.get_mut(number) {
+        field.kind = kind;
+    }
+}
+
+// The conditions that a constructor makes, and the locks of a ReadWriteLock that it keeps.
+fn add_given<'a>(restater: &mut Restater<'a>, class: usize, body: &'a Block) -> Result<(), Stop> {
     for statement in &body.statements {
-        if let StatementKind::Expression(expression) = &statement.kind {
-            if let ExpressionKind::Assign { target, value, .. } = &expression.kind {
-                if let (Some(name), Some(lock)) = (assigned_name(target), lock_of(value)) {
-                    let name = name_of(restater, name);
-                    restater
-                        .tables
-                        .conditions
-                        .push(Condition { class, name, lock })?;
-                }
-            }
+        let Some((name, value)) = given(statement) else {
+            continue;
+        };
+        let name = name_of(restater, name);
+        see_half(restater, class, name, value);
+        if let Some(lock) = lock_of(value) {
+            restater
+                .tables
+                .conditions
+                .push(Condition { class, name, lock })?;
         }
     }
     Ok(())
@@ -248,7 +263,7 @@ fn add_constructor<'a>(
     let variables = &tree.type_parameters;
     let parameters = parameter_kinds(restater, class, variables, &tree.parameters)?;
     let out = name_of(restater, &tree.name);
-    add_conditions(restater, class, &tree.body)?;
+    add_given(restater, class, &tree.body)?;
     restater.tables.constructors.push(Constructor {
         class,
         out,
@@ -329,6 +344,16 @@ pub fn find_constants(restater: &mut Restater) {
     }
 }
 
+// Whether a class has a static field that isn't a constant.
+fn has_static_state(restater: &Restater, class: usize) -> bool {
+    for field in &restater.tables.fields {
+        if field.class == class && field.is_static && field.constant.is_none() {
+            return true;
+        }
+    }
+    false
+}
+
 /// Which classes are split: they have a static field that isn't a constant, and objects of them are made.
 pub fn find_split(restater: &mut Restater, class: usize) -> Result<(), Stop> {
     let Some(known) = restater.tables.classes.get(class) else {
@@ -336,11 +361,7 @@ pub fn find_split(restater: &mut Restater, class: usize) -> Result<(), Stop> {
     };
     let name = known.name;
     let token = known.tree.head.name.token;
-    let fields = &restater.tables.fields;
-    let mutable = fields.iter().any(|field| field.class == class
-        && field.is_static
-        && field.constant.is_none());
-    if !mutable {
+    if !has_static_state(restater, class) {
         return Ok(());
     }
     if !is_made(restater, name) {
@@ -376,10 +397,12 @@ fn name_constructors(restater: &mut Restater, class: usize) -> Result<(), Stop> 
 
 /// Which constructors a class has: one, others that only call it, or several.
 pub fn find_constructors(restater: &mut Restater, class: usize) -> Result<(), Stop> {
-    let own = restater.tables.constructors.iter();
-    let real = own
-        .filter(|one| one.class == class && one.delegate.is_none())
-        .count();
+    let mut real: usize = 0;
+    for one in &restater.tables.constructors {
+        if one.class == class && one.delegate.is_none() {
+            real = real.saturating_add(1);
+        }
+    }
     if real < 2 {
         return Ok(());
     }

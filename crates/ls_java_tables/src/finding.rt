@@ -10,20 +10,22 @@ use crate::words::WordId;
 
 /// The field of a name that a class declares.
 pub fn field_in(restater: &Restater, class: usize, name: WordId) -> Option<usize> {
-    restater
-        .tables
-        .fields
-        .iter()
-        .position(|field| field.class == class && field.name == name)
+    for (number, field) in restater.tables.fields.iter().enumerate() {
+        if field.class == class && field.name == name {
+            return Some(number);
+        }
+    }
+    None
 }
 
 /// Whether a class declares a method of a name.
 pub fn has_method(restater: &Restater, class: usize, name: WordId) -> bool {
-    restater
-        .tables
-        .methods
-        .iter()
-        .any(|method| method.class == class && method.name == name)
+    for method in &restater.tables.methods {
+        if method.class == class && method.name == name {
+            return true;
+        }
+    }
+    false
 }
 
 /// The class around a class.
@@ -57,21 +59,27 @@ pub fn class_of_method(restater: &Restater, name: WordId) -> Option<usize> {
 
 // The class of a name that is declared in a class, or at the top.
 fn class_in(restater: &Restater, outer: Option<usize>, name: WordId) -> Option<usize> {
-    restater
-        .tables
-        .classes
-        .iter()
-        .position(|class| class.outer == outer && class.name == name)
+    for (number, class) in restater.tables.classes.iter().enumerate() {
+        if class.outer == outer && class.name == name {
+            return Some(number);
+        }
+    }
+    None
 }
 
 // The class of a name, or the class that stands for the interface of the name, somewhere in the file.
 fn class_anywhere(restater: &Restater, name: WordId) -> Option<usize> {
-    let classes = &restater.tables.classes;
-    if let Some(class) = classes.iter().position(|class| class.name == name) {
-        return Some(class);
+    for (number, class) in restater.tables.classes.iter().enumerate() {
+        if class.name == name {
+            return Some(number);
+        }
     }
-    let interfaces = &restater.tables.interfaces;
-    interfaces.iter().find(|one| one.name == name)?.class
+    for one in &restater.tables.interfaces {
+        if one.name == name {
+            return one.class;
+        }
+    }
+    None
 }
 
 /// The class that a name means in a class: the class itself, one that it declares, or one around it; else one at the
@@ -97,26 +105,34 @@ pub fn class_here(restater: &Restater, name: WordId) -> Option<usize> {
 
 /// The interface of a name.
 pub fn is_interface(restater: &Restater, name: WordId) -> bool {
-    let interfaces = &restater.tables.interfaces;
-    interfaces.iter().any(|one| one.name == name)
+    for one in &restater.tables.interfaces {
+        if one.name == name {
+            return true;
+        }
+    }
+    false
 }
 
 /// The enum of a name.
 pub fn enum_named(restater: &Restater, name: WordId) -> Option<usize> {
-    let enums = &restater.tables.enums;
-    enums.iter().position(|one| one.name == name)
+    for (number, one) in restater.tables.enums.iter().enumerate() {
+        if one.name == name {
+            return Some(number);
+        }
+    }
+    None
 }
 
 /// The value of a constant of an enum.
 pub fn enum_constant(restater: &Restater, number: usize, name: WordId) -> Option<Constant> {
     let one = restater.tables.enums.get(number)?;
-    let place = one
-        .tree
-        .constants
-        .iter()
-        .position(|constant| restater.words.of(constant) == name)?;
-    let value = i32::try_from(place).ok()?.checked_add(1)?;
-    Some(Constant::Int(value))
+    for (place, constant) in one.tree.constants.iter().enumerate() {
+        if restater.words.of(constant) == name {
+            let value = i32::try_from(place).ok()?.checked_add(1)?;
+            return Some(Constant::Int(value));
+        }
+    }
+    None
 }
 
 /// Whether the file declares a class, an interface or an enum of a name.
@@ -128,9 +144,12 @@ pub fn declares(restater: &Restater, name: WordId) -> bool {
 
 /// Why a class of a name is left out, if it is.
 pub fn gone(restater: &Restater, name: WordId) -> Option<Gone> {
-    let gone = &restater.tables.gone;
-    let (_, why) = gone.iter().find(|(one, _)| *one == name)?;
-    Some(*why)
+    for (one, why) in &restater.tables.gone {
+        if *one == name {
+            return Some(*why);
+        }
+    }
+    None
 }
 
 /// What `outer` is in a class: the object of the class around it, or that of its static members.

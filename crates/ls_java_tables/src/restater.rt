@@ -247,12 +247,12 @@ pub fn leave(restater: &mut Restater, mark: usize) {
 
 /// The local of a name that was declared last.
 pub fn local_of(restater: &Restater, name: WordId) -> Option<Local> {
-    restater
-        .locals
-        .iter()
-        .rev()
-        .find(|local| local.name == name)
-        .copied()
+    for local in restater.locals.iter().rev() {
+        if local.name == name {
+            return Some(*local);
+        }
+    }
+    None
 }
 
 /// A join of two texts.

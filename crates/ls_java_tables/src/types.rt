@@ -2,6 +2,7 @@
 
 use crate::finding::{class_named, enum_named, is_interface, outer_of};
 use crate::kinds::{element_of, kind_of_element, written_element};
+use crate::library::{is_generic, plain_kind, why_not};
 use crate::needs::{ArrayClass, Helper, helper_class};
 use crate::remarks::{Stop, What, Why};
 use crate::restater::{Restater, deeper, fresh, name_of, note, note_word, refuse, refuse_word};
@@ -86,11 +87,7 @@ pub fn array_of(restater: &mut Restater, kind: Kind, token: usize) -> Result<Kin
 
 // The argument of a class of the library that has one, as it is written.
 fn library_argument(class: &ClassType) -> Option<&Type> {
-    let has_argument = matches!(
-        class.name.text.as_str(),
-        "AtomicReference" | "AtomicMarkableReference" | "AtomicReferenceArray" | "ThreadLocal"
-    );
-    if !has_argument {
+    if !is_generic(&class.name) {
         return None;
     }
     class.arguments.as_ref()?.first()
@@ -151,8 +148,10 @@ pub fn variable_kind(restater: &Restater, from: usize, name: WordId) -> Option<K
     let mut class = from;
     for _ in 0..=restater.tables.classes.len() {
         let one = restater.tables.classes.get(class)?;
-        if let Some(variable) = one.variables.iter().find(|variable| variable.name == name) {
-            return Some(variable.kind);
+        for variable in &one.variables {
+            if variable.name == name {
+                return Some(variable.kind);
+            }
         }
         class = outer_of(restater, class)?;
     }
@@ -167,13 +166,10 @@ fn class_kind(
     argument: Option<Kind>,
 ) -> Result<Kind, Stop> {
     let name = name_of(restater, &class.name);
-    let words = &restater.words;
-    if site
-        .variables
-        .iter()
-        .any(|variable| words.of(&variable.name) == name)
-    {
-        return Ok(Kind::Item);
+    for variable in site.variables {
+        if name_of(restater, &variable.name) == name {
+            return Ok(Kind::Item);
+        }
     }
     if let Some(kind) = variable_kind(restater, site.class, name) {
         return Ok(kind);
@@ -188,70 +184,6 @@ fn class_kind(
         return refuse_word(restater, class.name.token, name, Why::SeveralClasses);
     }
     library_kind(restater, class, argument)
-}
-
-// A class of the library without arguments of its own.
-fn plain_kind(name: &Name) -> Option<Kind> {
-    match name.text.as_str() {
-        "Lock" | "ReentrantLock" => Some(Kind::Lock),
-        "Condition" => Some(Kind::Condition),
-        "ReadWriteLock" | "ReentrantReadWriteLock" => Some(Kind::ReadWrite),
-        "AtomicInteger" => Some(Kind::AtomicInteger),
-        "AtomicBoolean" => Some(Kind::AtomicBoolean),
-        "AtomicIntegerArray" => Some(Kind::IntegerArray),
-        "Semaphore" => Some(Kind::Semaphore),
-        "CountDownLatch" => Some(Kind::Latch),
-        "Random" => Some(Kind::Random),
-        "Boolean" => Some(Kind::Boolean),
-        _ => None,
-    }
-}
-
-// Why a class of the library isn't there.
-fn why_not(name: &Name) -> Why {
-    match name.text.as_str() {
-        "List"
-        | "ArrayList"
-        | "LinkedList"
-        | "Map"
-        | "HashMap"
-        | "ConcurrentHashMap"
-        | "Set"
-        | "HashSet"
-        | "TreeMap"
-        | "TreeSet"
-        | "Queue"
-        | "Deque"
-        | "ArrayDeque"
-        | "Vector"
-        | "Stack"
-        | "Collection"
-        | "Iterator"
-        | "Iterable"
-        | "PriorityQueue"
-        | "ConcurrentLinkedQueue"
-        | "BlockingQueue"
-        | "LinkedBlockingQueue"
-        | "ArrayBlockingQueue"
-        | "CopyOnWriteArrayList"
-        | "ConcurrentSkipListMap" => { Why::Collection }
-        "CyclicBarrier" | "StampedLock" | "Phaser" | "Exchanger" | "Future" | "CompletableFuture" =>
-            Why::Synchronizer,
-        "Thread"
-        | "Runnable"
-        | "Callable"
-        | "ExecutorService"
-        | "Executors"
-        | "Executor"
-        | "ThreadFactory" => Why::Threads,
-        "String" | "StringBuilder" | "CharSequence" => Why::NoText,
-        "Optional" => Why::NoOptional,
-        "BigInteger" | "BigDecimal" => Why::BigNumber,
-        "Double" | "Float" | "Character" | "Short" | "Byte" => Why::OnlyIntAndBoolean,
-        "var" => Why::Var,
-        "AtomicStampedReference" => Why::Stamped,
-        _ => Why::UnknownClass,
-    }
 }
 
 // A class of the library.
@@ -279,9 +211,7 @@ fn library_kind(
             note(restater, token, What::AtomicLong)?;
             Ok(Kind::IntegerArray)
         }
-        "AtomicReference" | "AtomicMarkableReference" | "AtomicReferenceArray" | "ThreadLocal" => {
-            generic_kind(restater, class, argument)
-        }
+        _ if is_generic(&class.name) => generic_kind(restater, class, argument),
         _ => {
             let name = name_of(restater, &class.name);
             refuse_word(restater, token, name, why_not(&class.name))
@@ -392,7 +322,7 @@ fn helper_of(kind: Kind) -> Option<Helper> {
     match kind {
         Kind::AtomicInteger => Some(Helper::AtomicInteger),
         Kind::AtomicBoolean => Some(Helper::AtomicBoolean),
-        Kind::ReadWrite => Some(Helper::ReadWrite),
+        Kind::ReadWrite | Kind::ReadLock | Kind::WriteLock => Some(Helper::ReadWrite),
         Kind::Semaphore => Some(Helper::Semaphore),
         Kind::Latch => Some(Helper::Latch),
         Kind::Key => Some(Helper::Key),

@@ -37,7 +37,7 @@ impl Clone for Element {
 
 /// What an expression is. Classes and enums of the file are by number. `Item` is what a type parameter without a class
 /// of its own, `Integer` or `Long` stands for; it is written `int`. `Statics` is the object of the static members of a
-/// class that is split.
+/// class that is split. `ReadLock` and `WriteLock` are the locks of a ReadWriteLock; each is written as that object.
 #[derive(Copy, PartialEq, Eq)]
 pub enum Kind {
     Void,
@@ -52,6 +52,8 @@ pub enum Kind {
     Lock,
     Condition,
     ReadWrite,
+    ReadLock,
+    WriteLock,
     AtomicInteger,
     AtomicBoolean,
     Semaphore,

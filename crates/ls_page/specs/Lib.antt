@@ -7,6 +7,7 @@ pub mod Filling
 pub mod Data
 pub mod Setup
 pub mod Lists
+pub mod Java
 pub mod Numbers
 pub mod States
 pub mod ChoicesData

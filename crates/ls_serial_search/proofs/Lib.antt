@@ -15,4 +15,3 @@ pub mod Gone
 pub mod Stalls
 pub mod ComingBack
 pub mod NeverEnding
-pub mod FirstFaults

@@ -59,7 +59,7 @@ module _ (file : File) (program : Program) (schedule : List ℕ) (t : ℕ) where
   h_at n = source_history file program (schedule ++ replicate n t)
 
   -- where the call has begun and has no end yet
-  not_ended : (call j : ℕ) → IsBegun file program schedule t call j → (n : ℕ) → n ≤ j →
+  pub not_ended : (call j : ℕ) → IsBegun file program schedule t call j → (n : ℕ) → n ≤ j →
       ¬ HasEnded file program schedule t n
   not_ended call j begun zero le ended = none_is_no_two h (called t ended.call) ended.end
       (ap (source_history file program) (sym (append-nil schedule)) ∙ ended.is)

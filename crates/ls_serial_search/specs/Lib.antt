@@ -9,6 +9,4 @@ pub mod Marks
 pub mod Told
 pub mod Histories
 pub mod Endless
-pub mod Faults
-pub mod Noted
 pub mod Parked

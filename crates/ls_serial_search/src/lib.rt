@@ -2,7 +2,6 @@
 #![tactic(auto)]
 
 pub mod endless;
-pub mod faults;
 pub mod following;
 pub mod laws;
 pub mod marks;

@@ -189,81 +189,90 @@ takes names l f input (refusal.Fault g) h = tt
 takes names l f input (refusal.Explained x) h = tt
 
 -- a run that tells a fault
-tells : (words : List Text) (input : Text) (f : ToolFault) (exit : Exit) (out err : Left) →
+tells : (words : List Text) (input behind : Text) (f : ToolFault) (exit : Exit) (out err : Left) →
     exit.status ≡ 1 →
     Keeps out.old out.new →
     IsWritten (fault_line f) exit.is_told err.old err.new err.has_failed →
     Decides words input (Err (refusal.Fault f)) →
-    Closes words input exit out err
-tells words input fault.Memory exit out err s k t d = OutOfMemory (s, k, t)
-tells words input fault.ReadFailed exit out err s k t d = AsAsked (Tells (fault_line fault.ReadFailed)) d (s, k, t)
-tells words input (fault.Text f) exit out err s k t d = AsAsked (Tells (fault_line (fault.Text f))) d (s, k, t)
-tells words input (fault.Check f) exit out err s k t d = AsAsked (Tells (fault_line (fault.Check f))) d (s, k, t)
-tells words input (fault.Program f) exit out err s k t d = AsAsked (Tells (fault_line (fault.Program f))) d (s, k, t)
-tells words input (fault.Build f) exit out err s k t d = AsAsked (Tells (fault_line (fault.Build f))) d (s, k, t)
-tells words input fault.BadCells exit out err s k t d = AsAsked (Tells (fault_line fault.BadCells)) d (s, k, t)
-tells words input (fault.Schedule f) exit out err s k t d = AsAsked (Tells (fault_line (fault.Schedule f))) d (s, k, t)
-tells words input (fault.Translation f) exit out err s k t d =
+    Closes words input behind exit out err
+tells words input behind fault.Memory exit out err s k t d = OutOfMemory (s, k, t)
+tells words input behind fault.ReadFailed exit out err s k t d =
+    AsAsked (Tells (fault_line fault.ReadFailed)) d (s, k, t)
+tells words input behind (fault.Text f) exit out err s k t d = AsAsked (Tells (fault_line (fault.Text f))) d (s, k, t)
+tells words input behind (fault.Check f) exit out err s k t d = AsAsked (Tells (fault_line (fault.Check f))) d (s, k, t)
+tells words input behind (fault.Program f) exit out err s k t d =
+    AsAsked (Tells (fault_line (fault.Program f))) d (s, k, t)
+tells words input behind (fault.Build f) exit out err s k t d = AsAsked (Tells (fault_line (fault.Build f))) d (s, k, t)
+tells words input behind fault.BadCells exit out err s k t d = AsAsked (Tells (fault_line fault.BadCells)) d (s, k, t)
+tells words input behind (fault.Schedule f) exit out err s k t d =
+    AsAsked (Tells (fault_line (fault.Schedule f))) d (s, k, t)
+tells words input behind (fault.Translation f) exit out err s k t d =
     AsAsked (Tells (fault_line (fault.Translation f))) d (s, k, t)
-tells words input (fault.Live f) exit out err s k t d = AsAsked (Tells (fault_line (fault.Live f))) d (s, k, t)
-tells words input (fault.Turns f) exit out err s k t d = AsAsked (Tells (fault_line (fault.Turns f))) d (s, k, t)
-tells words input (fault.Batch f) exit out err s k t d = AsAsked (Tells (fault_line (fault.Batch f))) d (s, k, t)
-tells words input (fault.Explore f) exit out err s k t d = AsAsked (Tells (fault_line (fault.Explore f))) d (s, k, t)
-tells words input (fault.Class f) exit out err s k t d = AsAsked (Tells (fault_line (fault.Class f))) d (s, k, t)
-tells words input fault.BadNumbers exit out err s k t d = AsAsked (Tells (fault_line fault.BadNumbers)) d (s, k, t)
-tells words input fault.BadOptions exit out err s k t d = AsAsked (Tells (fault_line fault.BadOptions)) d (s, k, t)
-tells words input (fault.BadEntry at) exit out err s k t d =
+tells words input behind (fault.Live f) exit out err s k t d = AsAsked (Tells (fault_line (fault.Live f))) d (s, k, t)
+tells words input behind (fault.Turns f) exit out err s k t d = AsAsked (Tells (fault_line (fault.Turns f))) d (s, k, t)
+tells words input behind (fault.Batch f) exit out err s k t d = AsAsked (Tells (fault_line (fault.Batch f))) d (s, k, t)
+tells words input behind (fault.Explore f) exit out err s k t d =
+    AsAsked (Tells (fault_line (fault.Explore f))) d (s, k, t)
+tells words input behind (fault.Class f) exit out err s k t d = AsAsked (Tells (fault_line (fault.Class f))) d (s, k, t)
+tells words input behind fault.BadNumbers exit out err s k t d =
+    AsAsked (Tells (fault_line fault.BadNumbers)) d (s, k, t)
+tells words input behind fault.BadOptions exit out err s k t d =
+    AsAsked (Tells (fault_line fault.BadOptions)) d (s, k, t)
+tells words input behind (fault.BadEntry at) exit out err s k t d =
     AsAsked (Tells (fault_line (fault.BadEntry at))) d (s, k, t)
-tells words input (fault.Specification f) exit out err s k t d =
+tells words input behind (fault.Specification f) exit out err s k t d =
     AsAsked (Tells (fault_line (fault.Specification f))) d (s, k, t)
-tells words input (fault.UnlikeSpecification at) exit out err s k t d =
+tells words input behind (fault.UnlikeSpecification at) exit out err s k t d =
     AsAsked (Tells (fault_line (fault.UnlikeSpecification at))) d (s, k, t)
-tells words input (fault.LacksMethod span) exit out err s k t d =
+tells words input behind (fault.LacksMethod span) exit out err s k t d =
     AsAsked (Tells (fault_line (fault.LacksMethod span))) d (s, k, t)
-tells words input (fault.Aim f) exit out err s k t d = AsAsked (Tells (fault_line (fault.Aim f))) d (s, k, t)
-tells words input (fault.History f) exit out err s k t d = AsAsked (Tells (fault_line (fault.History f))) d (s, k, t)
-tells words input (fault.Order f) exit out err s k t d = AsAsked (Tells (fault_line (fault.Order f))) d (s, k, t)
-tells words input (fault.Tally f) exit out err s k t d = AsAsked (Tells (fault_line (fault.Tally f))) d (s, k, t)
-tells words input fault.WrongParts exit out err s k t d = AsAsked (Tells (fault_line fault.WrongParts)) d (s, k, t)
-tells words input fault.TooManyTrapped exit out err s k t d =
+tells words input behind (fault.Aim f) exit out err s k t d = AsAsked (Tells (fault_line (fault.Aim f))) d (s, k, t)
+tells words input behind (fault.History f) exit out err s k t d =
+    AsAsked (Tells (fault_line (fault.History f))) d (s, k, t)
+tells words input behind (fault.Order f) exit out err s k t d = AsAsked (Tells (fault_line (fault.Order f))) d (s, k, t)
+tells words input behind (fault.Tally f) exit out err s k t d = AsAsked (Tells (fault_line (fault.Tally f))) d (s, k, t)
+tells words input behind fault.WrongParts exit out err s k t d =
+    AsAsked (Tells (fault_line fault.WrongParts)) d (s, k, t)
+tells words input behind fault.TooManyTrapped exit out err s k t d =
     AsAsked (Tells (fault_line fault.TooManyTrapped)) d (s, k, t)
-tells words input fault.NotText exit out err s k t d = AsAsked (Tells (fault_line fault.NotText)) d (s, k, t)
-tells words input fault.WriteFailed exit out err s k t d = AsAsked (Tells (fault_line fault.WriteFailed)) d (s, k, t)
+tells words input behind fault.NotText exit out err s k t d = AsAsked (Tells (fault_line fault.NotText)) d (s, k, t)
+tells words input behind fault.WriteFailed exit out err s k t d =
+    AsAsked (Tells (fault_line fault.WriteFailed)) d (s, k, t)
 
 -- the same of an answer that is that fault
-pub tells_fault : (words : List Text) (input : Text) (f : ToolFault) (exit : Exit) (out err : Left) →
+pub tells_fault : (words : List Text) (input behind : Text) (f : ToolFault) (exit : Exit) (out err : Left) →
     exit.status ≡ 1 →
     Keeps out.old out.new →
     IsWritten (fault_line f) exit.is_told err.old err.new err.has_failed →
     Decides words input (Err (refusal.Fault f)) →
-    Closes words input exit out err
-tells_fault words input f exit out err s k t d = tells words input f exit out err s k t d
+    Closes words input behind exit out err
+tells_fault words input behind f exit out err s k t d = tells words input behind f exit out err s k t d
 
 -- and one that tells it with what is said of it
-pub explains : (words : List Text) (input told : Text) (exit : Exit) (out err : Left) →
+pub explains : (words : List Text) (input behind told : Text) (exit : Exit) (out err : Left) →
     exit.status ≡ 1 →
     Keeps out.old out.new →
     IsWritten told exit.is_told err.old err.new err.has_failed →
     IsEnding words input (Tells told) →
-    Closes words input exit out err
-explains words input told exit out err s k t d = AsAsked (Tells told) d (s, k, t)
+    Closes words input behind exit out err
+explains words input behind told exit out err s k t d = AsAsked (Tells told) d (s, k, t)
 
-pub done : (words : List Text) (input : Text) (said : Said) (exit : Exit) (out err : Left) →
+pub done : (words : List Text) (input behind : Text) (said : Said) (exit : Exit) (out err : Left) →
     exit.status ≡ said.status →
     IsWritten (string_bytes said.beside) exit.is_told err.old err.new err.has_failed →
-    Appends out.old out.new (string_bytes said.text) →
+    Appends out.old out.new (string_bytes said.text ++ behind) →
     Decides words input (Ok said) →
-    Closes words input exit out err
-done words input said exit out err s k a d =
+    Closes words input behind exit out err
+done words input behind said exit out err s k a d =
     AsAsked (Prints said.status (string_bytes said.text) (string_bytes said.beside)) d (s, a, k)
 
-pub cut_short : (words : List Text) (input : Text) (said : Said) (exit : Exit) (out err : Left) →
+pub cut_short : (words : List Text) (input behind : Text) (said : Said) (exit : Exit) (out err : Left) →
     exit.status ≡ 1 →
-    Begins out.old out.new (string_bytes said.text) × (out.has_failed ≡ true) →
+    Begins out.old out.new (string_bytes said.text ++ behind) × (out.has_failed ≡ true) →
     IsWritten (fault_line fault.WriteFailed) exit.is_told err.old err.new err.has_failed →
     Decides words input (Ok said) →
-    Closes words input exit out err
-cut_short words input said exit out err s b t d =
+    Closes words input behind exit out err
+cut_short words input behind said exit out err s b t d =
     WriterFailed said.status (string_bytes said.text) (string_bytes said.beside) d (s, b.0, b.1, t)
 
 -- no bytes
@@ -318,13 +327,13 @@ later_first words err between before after kept (Progressed l new a p) = Progres
     (later l.request err new before after kept p)
 
 -- after the lines of progress
-pub ends_so : (words : List Text) (input : Text) (exit : Exit) (out err : Left) (between : Option Text)
+pub ends_so : (words : List Text) (input behind : Text) (exit : Exit) (out err : Left) (between : Option Text)
     (before : Bool) →
     (before ≡ true → err.has_failed ≡ true) →
     TellsFirst words err.old before between →
-    Closes words input exit out (left between err.new err.has_failed) →
-    Ends words input exit out err
-ends_so words input exit out err between before kept p e = record {
+    Closes words input behind exit out (left between err.new err.has_failed) →
+    Ends words input behind exit out err
+ends_so words input behind exit out err between before kept p e = record {
   between = between;
   progress = later_first words err.old between before err.has_failed kept p;
   end = e;

@@ -419,21 +419,28 @@ abbrev pub CutShort : Text → Exit → Left → Left → Type 0
 CutShort text exit out err = (exit.status ≡ 1) × Begins out.old out.new text × (out.has_failed ≡ true) ×
     IsWritten (fault_line faults.WriteFailed) exit.is_told err.old err.new err.has_failed
 
--- a run ends as the words and the input ask, or it tells that memory ran out or that the writer failed
-pub data Closes (words : List Text) (input : Text) (exit : Exit) (out err : Left) : Type 0 where
+-- what is printed, with what stands behind it
+abbrev pub with_behind : Text → Ending → Ending
+with_behind behind (Prints status text beside) = Prints status (text ++ behind) beside
+with_behind behind (Tells told) = Tells told
+with_behind behind Usage = Usage
+
+-- A run ends as the words and the input ask, or it tells that memory ran out or that the writer failed. This stands
+-- behind the text that is printed.
+pub data Closes (words : List Text) (input behind : Text) (exit : Exit) (out err : Left) : Type 0 where
   AsAsked : (ending : Ending) →
       IsEnding words input ending →
-      Shows ending exit out err →
-      Closes words input exit out err
+      Shows (with_behind behind ending) exit out err →
+      Closes words input behind exit out err
   OutOfMemory : Shows (Tells (fault_line faults.Memory)) exit out err →
-      Closes words input exit out err
+      Closes words input behind exit out err
   WriterFailed : (status : ℕ) (text beside : Text) →
       IsEnding words input (Prints status text beside) →
-      CutShort text exit out err →
-      Closes words input exit out err
+      CutShort (text ++ behind) exit out err →
+      Closes words input behind exit out err
 
 -- A run ends so, after the lines of progress that the words ask for. Where they ask for none, there are none.
-pub record Ends (words : List Text) (input : Text) (exit : Exit) (out err : Left) : Type 0 where
+pub record Ends (words : List Text) (input behind : Text) (exit : Exit) (out err : Left) : Type 0 where
   pub between : Option Text
   pub progress : TellsFirst words err.old err.has_failed between
-  pub end : Closes words input exit out (left between err.new err.has_failed)
+  pub end : Closes words input behind exit out (left between err.new err.has_failed)

@@ -1,7 +1,10 @@
 -- What `java` answers of one Java file, and what other commands read in the place of one.
 use Rattle.std.specs.Prelude.{◌≡◌, List, [], ◌∷◌, Option, Some, None, Result, Ok, Err, string_bytes}
 use Rattle.ls_report.specs.Events.{Text}
-use Rattle.ls_java.specs.Accepted.{IsAccepted, IsRestatement}
+use Rattle.ls_command_line.specs.declared.words.Request.{Request}
+use Rattle.ls_command_line.specs.declared.words.Request.TheVariants as requests
+use Rattle.ls_java.specs.Accepted.{IsAccepted, IsRestatement, Places}
+use Rattle.ls_page.specs.Java.{java_text}
 use Rattle.ls_files.specs.Joining.{with_first}
 use Rattle.ls_faults.specs.declared.fault.ToolFault.{ToolFault}
 use Rattle.ls_faults.specs.declared.fault.ToolFault.TheVariants as faults
@@ -33,8 +36,17 @@ RestatesParts (file ∷ []) None = ⊥
 RestatesParts (file ∷ []) (Some answer) = Restates answer
 RestatesParts other answer = answer ≡ None
 
--- the class text of a Java file, whose words stand on their lines, in the place of the first part of an input
-pub record Replaces (file input more : Text) : Type 0 where
+-- what stands behind the text that a command prints of a Java file: of a page the file, and where the words of its
+-- class text come from
+abbrev pub behind_of : Request → Text → Places → Text
+behind_of (requests.Page paging) file places = java_text file places
+behind_of other file places = []
+
+-- The class text of a Java file in the place of the first part of an input. Its words stand at these places, come from
+-- tokens of the file, and stand on their lines. This stands behind the text that is printed.
+pub record Replaces (request : Request) (file input more behind : Text) : Type 0 where
   pub text : Text
-  pub restated : IsRestatement file text
+  pub places : Places
+  pub restated : IsRestatement file text places
   pub is : more ≡ with_first text input
+  pub stands : behind ≡ behind_of request file places

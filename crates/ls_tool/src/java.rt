@@ -7,19 +7,21 @@ ghost use Rattle.ls_items.specs.Cutting.{plain_text};
 ghost use Rattle.ls_items.specs.Parts.{parts_of};
 ghost use Rattle.ls_report.specs.Events.{Text};
 ghost use Rattle.ls_tool.specs.Output.{Asks, Decides, IsTaken, names_of, read_as};
-ghost use Rattle.ls_tool.specs.Restated.{Replaces, Restates, RestatesParts};
+ghost use Rattle.ls_tool.specs.Restated.{Replaces, Restates, RestatesParts, behind_of};
 ghost use Rattle.ls_tool.specs.Running.{RestatesFirst};
 
 use crate::explained::refusal_of;
 use crate::refusal::Refusal;
 use crate::said::Said;
-use ls_command_line::CommandLine;
+use ls_command_line::{CommandLine, Request};
 use ls_faults::fault::ToolFault;
 use ls_files::{unmarked, with_first};
 use ls_items::{parts_of, text_of};
 use ls_java::fault::NotRestated;
 use ls_java::restating::{Restated, restate, restate_on_lines};
 use ls_java::told::{notes_told, refusal_told};
+use ls_java_output::place::Place;
+use ls_page::java_data;
 use std::alloc::{AllocError, Global};
 
 /// The name of the file, if it has one.
@@ -134,11 +136,13 @@ pub(crate) fn on_java(
     }
 }
 
-/// An input that has a class text in the place of a Java file, and what is told of how that was restated.
+/// An input that has a class text in the place of a Java file, what is told of how that was restated, and what stands
+/// behind the text that is printed.
 #[derive(Drop)]
 pub(crate) struct Instead {
     pub(crate) input: Vec<u8>,
     pub(crate) notes: String,
+    pub(crate) behind: String,
 }
 
 /// Why there is no class text.
@@ -166,36 +170,60 @@ fn no_class_text(alloc: Global, name: Option<&str>, file: &str, why: &NotRestate
     }
 }
 
+/// What stands behind the text that is printed of a Java file.
+fn behind_of(
+    alloc: Global,
+    request: Request,
+    file: &str,
+    places: &[Place],
+) -> Result<String, AllocError>
+    ensures { IfOk result (λ text. string_bytes text ≡ behind_of request file.now places.now) }
+{
+    match request {
+        Request::Page(_) => java_data(alloc, file, places),
+        _ => Ok(String::new(alloc)),
+    }
+}
+
 /// An input with the class text of this Java file in the place of its first part.
 fn instead_of(
     alloc: Global,
     name: Option<&str>,
+    request: Request,
     file: &str,
     input: &str,
 ) -> Result<Instead, NoClassText>
-    ensures { IfOk result (λ instead. Replaces file.now input.now instead.input.items) }
+    ensures { IfOk result (λ instead.
+        Replaces request file.now input.now instead.input.items (string_bytes instead.behind)) }
 {
     let made = match restate_on_lines(alloc, file) {
         Ok(made) => made,
         Err(why) => return Err(no_class_text(alloc, name, file, &why)),
     };
     let notes = notes_told(alloc, name, &made.notes)?;
+    let behind = behind_of(alloc, request, file, made.places.as_slice())?;
     let input = with_first(alloc, made.text.as_bytes(), input.as_bytes())?;
-    Ok(Instead { input, notes })
+    Ok(Instead {
+        input,
+        notes,
+        behind,
+    })
 }
 
 /// An input whose first part is a Java file, with its class text in that place.
 pub(crate) fn with_class_text(
     alloc: Global,
     names: Option<&[String]>,
+    request: Request,
     input: &str,
 ) -> Result<Instead, NoClassText>
-    ensures { IfOk result (λ instead. RestatesFirst (names_of names.entry) input.now instead.input.items) }
+    ensures { IfOk result (λ instead. RestatesFirst (names_of names.entry) request input.now
+        instead.input.items (string_bytes instead.behind)) }
 {
     let read = read_as(alloc, names, input)?;
     let parts = parts_of(alloc, read.as_str())?;
     match parts.as_slice() {
-        [file, ..] => instead_of(alloc, name_of(names), file, input),
+        [file, ..] => instead_of(alloc, name_of(names), request, file, input),
         [] => Err(NoClassText::Memory),
     }
 }

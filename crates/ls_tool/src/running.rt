@@ -1,6 +1,6 @@
 // The whole run, over any streams.
 
-ghost use Rattle.std.specs.Prelude.{◌≡◌, ◌≢◌, List, Some, map, string_bytes, true};
+ghost use Rattle.std.specs.Prelude.{◌≡◌, ◌≢◌, ◌++◌, IfOk, List, Some, map, string_bytes, true};
 ghost use Rattle.ls_faults.specs.Faults.{fault_line};
 ghost use Rattle.ls_files.specs.Names.{file_names_in};
 ghost use Rattle.ls_items.specs.Parts.{is_text};
@@ -10,7 +10,7 @@ ghost use Rattle.ls_tool.specs.Output.{Asks, Decides, Ends, IsTaken, OfInput, Pr
 ghost use Rattle.ls_tool.specs.Running.{Runs};
 
 use crate::answer::answer_line;
-use crate::java::{Instead, NoClassText, with_class_text};
+use crate::java::{NoClassText, with_class_text};
 use crate::programs::Programs;
 use crate::progress::Progress;
 use crate::refusal::Refusal;
@@ -116,17 +116,42 @@ impl Clone for Asked<'_> {
     }
 }
 
+/// An input, and what stands behind the text that is printed of it.
+#[derive(Clone, Copy)]
+struct Reading<'a> {
+    input: &'a [u8],
+    behind: &'a str,
+}
+
+/// What is said, with what stands behind its text.
+fn with_behind(said: Said, behind: &str) -> Result<Said, AllocError>
+    ensures { IfOk result (λ whole. (string_bytes whole.text ≡ string_bytes said.text ++ behind.entry.now) ×
+        (whole.beside ≡ said.beside) × (whole.status ≡ said.status)) }
+{
+    let Said {
+        mut text,
+        beside,
+        status,
+    } = said;
+    text.push_str(behind)?;
+    Ok(Said {
+        text,
+        beside,
+        status,
+    })
+}
+
 /// Does what a command line asks for of an input, and writes.
 fn run_input<H: Threads + Wait + Sync, W: Outlet, E: Outlet>(
     rt: &H,
     alloc: Global,
     asked: Asked<'_>,
-    input: &[u8],
+    reading: Reading<'_>,
     out: &mut W,
     err: &mut E,
 ) -> Exit
     requires { Asks (map string_bytes asked.words.now) (Some asked.line) }
-    ensures ends { Ends (map string_bytes asked.entry.words.now) input.now result
+    ensures ends { Ends (map string_bytes asked.entry.words.now) reading.entry.input.now reading.entry.behind.now result
         (left (W.contents out.old) (W.contents out.new) (W.has_failed out.new))
         (left (E.contents err.old) (E.contents err.new) (E.has_failed err.new)) }
     ensures apart { result.status ≢ 2 }
@@ -136,16 +161,19 @@ fn run_input<H: Threads + Wait + Sync, W: Outlet, E: Outlet>(
         alloc,
         asked.line,
         file_names_in(asked.words),
-        input,
+        reading.input,
         err,
     ) {
         Ok(said) => {
-            if !write_out(out, said.text.as_bytes()) {
+            let Ok(whole) = with_behind(said, reading.behind) else {
+                return tell_line(err, ToolFault::Memory);
+            };
+            if !write_out(out, whole.text.as_bytes()) {
                 return tell_line(err, ToolFault::WriteFailed);
             }
-            let is_told = tell_beside(err, said.beside.as_bytes());
+            let is_told = tell_beside(err, whole.beside.as_bytes());
             Exit {
-                status: said.status,
+                status: whole.status,
                 is_told,
             }
         }
@@ -175,15 +203,19 @@ fn run_java<H: Threads + Wait + Sync, W: Outlet, E: Outlet>(
         (left (E.contents err.old) (E.contents err.new) (E.has_failed err.new)) }
     ensures apart { result.status ≢ 2 }
 {
-    match with_class_text(alloc, file_names_in(asked.words), text) {
-        Ok(Instead { input, notes }) => {
-            if !tell_beside(err, notes.as_bytes()) {
+    match with_class_text(alloc, file_names_in(asked.words), asked.line.request, text) {
+        Ok(instead) => {
+            if !tell_beside(err, instead.notes.as_bytes()) {
                 return Exit {
                     status: 1,
                     is_told: false,
                 };
             }
-            run_input(rt, alloc, asked, input.as_slice(), out, err)
+            let reading = Reading {
+                input: instead.input.as_slice(),
+                behind: instead.behind.as_str(),
+            };
+            run_input(rt, alloc, asked, reading, out, err)
         }
         Err(NoClassText::Memory) => tell_line(err, ToolFault::Memory),
         Err(NoClassText::Told(told)) => tell(err, told.as_slice()),
@@ -205,12 +237,13 @@ fn run_read<H: Threads + Wait + Sync, W: Outlet, E: Outlet>(
         (left (E.contents err.old) (E.contents err.new) (E.has_failed err.new)) }
     ensures apart { result.status ≢ 2 }
 {
+    let plain = Reading { input, behind: "" };
     if !asked.line.java {
-        return run_input(rt, alloc, asked, input, out, err);
+        return run_input(rt, alloc, asked, plain, out, err);
     }
     match text_of(input) {
         Some(text) => run_java(rt, alloc, asked, text, out, err),
-        None => run_input(rt, alloc, asked, input, out, err),
+        None => run_input(rt, alloc, asked, plain, out, err),
     }
 }
 

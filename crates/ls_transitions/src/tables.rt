@@ -9,6 +9,7 @@ use crate::stores::copy_store;
 use crate::threads::copy_thread;
 use ls_checked::program::Program;
 use ls_checked::tree::File;
+use ls_dead_locals::forgetting::forget;
 use ls_events::action::Action;
 use ls_events::value::Value;
 use ls_source::next::Next;
@@ -95,6 +96,7 @@ impl<'a> Tables<'a> {
                 let mut rest = rest;
                 rest.take(self.file, answer);
                 rest.settle(alloc, self.file)?;
+                forget(&mut rest);
                 let kept = self.keep_store(alloc, after)?;
                 let work = self.keep_work(alloc, rest)?;
                 Ok(Move::Acts(Step {

@@ -11,9 +11,11 @@ returns-clause-kept c =
     (record {
       start = length c.as_bytes-start.result.now;
       end = length c.as_bytes-end.result.now;
-      token = c.args.token;
-      at = c.args.at;
-      own = c.args.own;
+      token = c.args.origin.token;
+      at = c.args.origin.at;
+      until = c.args.origin.until;
+      own = c.args.origin.own;
+      goes = c.args.origin.goes;
     })
     c.requires.kept pushed.kept pushed.text (ap (λ v. v.items) pushed.places) pushed.here
     (ap length c.as_bytes-start.ensures.value) (ap length c.as_bytes-end.ensures.value) c.requires.token c.requires.line

@@ -21,7 +21,7 @@ returns-in_ok-work-in-Does-clause-acted c =
     let t : Table = tables_of c.args.self.now in
     let action : Action Value = c.args.action.now in
     done_there t (tables_of c.keep_store.new.self) (tables_of c.keep_work.new.self) c.args.thread c.args.store
-    (thread_of c.args.rest) (thread_of c.take.new.self) (thread_of c.settle.new.self) (store_of c.index.result.now)
+    (thread_of c.args.rest) (thread_of c.take.new.self) (thread_of c.forget.new.thread) (store_of c.index.result.now)
     (store_of c.act.new.self) action
     (record {
       action = action;
@@ -35,5 +35,6 @@ returns-in_ok-work-in-Does-clause-acted c =
     ∙ ap (λ (l : List Class). effect (map plain_class l) (store_of c.in_ok-after.after) c.args.thread action)
     c.deref.ensures.value
     ∙ ap (λ (s : Store). effect t.file.classes s c.args.thread action) c.in_ok-after.ensures)
-    c.requires.asks c.take.ensures c.settle.ensures refl c.keep_store.ensures.grows
+    c.requires.asks c.take.ensures
+    (λ program q. c.forget.ensures t.file program q ∙ c.settle.ensures program q) refl c.keep_store.ensures.grows
     c.in_ok-kept-in-Does.ensures.number c.keep_work.ensures.grows c.in_ok-work-in-Does.ensures.number

@@ -1,0 +1,5 @@
+pub mod Spared
+pub mod Alike
+pub mod Ignoring
+pub mod Stacked
+pub mod Forgotten

@@ -1,0 +1,3 @@
+mod FirstFaults
+mod Adding
+mod Reached
