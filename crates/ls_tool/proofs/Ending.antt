@@ -2,7 +2,7 @@
 use Rattle.std.specs.Prelude.{IfSome, String, string_bytes, if◌then◌else◌}
 use Rattle.std.proofs.Common.{ℕ, ◌≡◌, ◌∙◌, ap, sym, List, [], Bool, true, false, refl, subst, Option}
 use Rattle.std.proofs.Common.{Some, None}
-use Rattle.std.proofs.Common.{Result, Ok, Err, ◌==◌, ◌∷◌, arith, eqb-true, length}
+use Rattle.std.proofs.Common.{Result, Ok, Err, ◌==◌, ◌∷◌, ◌++◌, arith, eqb-true, length}
 use Rattle.std.specs.Global.{Global}
 use Rattle.std.specs.Io.KnownBytes.{Appends, Keeps}
 use Rattle.clap.specs.declared.error.Error.{Error}

@@ -46,8 +46,8 @@ returns-then-not-write_out-clause-ends g c =
     tell.ensures.status part tell.ensures.told
     (c.in-Ok.ensures.decides words c.requires (sym c.file_names_in.ensures)))
 
-pub returns-else-not-write_out-clause-ends : goal.returns-else-not-write_out-clause-ends
-returns-else-not-write_out-clause-ends g c =
+pub returns-in-Ok-clause-ends : goal.returns-in-Ok-clause-ends
+returns-in-Ok-clause-ends g c =
     let words = map string_bytes c.args.asked.words.now in
     let input = c.args.reading.input.now in
     let behind = c.args.reading.behind.now in
