@@ -13,14 +13,12 @@ use ls_java_tables::finding::{class_here, field_of};
 use ls_java_tables::halves::own_name;
 use ls_java_tables::kinds::kind_of_element;
 use ls_java_tables::remarks::{Stop, Why};
-use ls_java_tables::restater::{Restater, is_named, local_of, name_of, refuse};
+use ls_java_tables::restater::{Restater, is_named, kept_trees, local_of, name_of, refuse};
 use ls_java_tables::ropes::Text;
 use ls_java_tables::tables::Field;
 use ls_java_tables::types::{kind_here, kind_with_brackets};
 use ls_java_tables::values::{Constant, Kind, Value};
-use ls_java_tree::declarations::{Body, Member};
 use ls_java_tree::expressions::{Expression, ExpressionKind, Literal};
-use ls_java_tree::statements::StatementKind;
 use ls_java_tree::types::Type;
 
 /// A new object (JLS 15.9).
@@ -91,24 +89,8 @@ fn object<'a>(
 
 // The value that `initialValue` returns in the body of an anonymous ThreadLocal.
 fn initial_value<'a>(restater: &Restater<'a>, body: Option<usize>) -> Option<&'a Expression> {
-    let file = restater.file;
-    let Body::Class(members) = file.bodies.get(body?)? else {
-        return None;
-    };
-    members.iter().find_map(|member| returned(member))
-}
-
-// The value that a method of one `return` returns.
-fn returned(member: &Member) -> Option<&Expression> {
-    let Member::Method(method) = member else {
-        return None;
-    };
-    match method.body.as_ref()?.statements.first()? {
-        statement => match &statement.kind {
-            StatementKind::Return(value) => value.as_ref(),
-            _ => None,
-        },
-    }
+    let number = *restater.tables.returned.get(body?)?;
+    kept_trees(restater, number?).first()
 }
 
 // Whether an expression has the same value from here on: a constant; a local, which a lambda or a class in a method
@@ -139,8 +121,8 @@ fn is_settled(restater: &Restater, at: usize, tree: &Expression) -> bool {
 // above, and initialisers come in the order of the file (JLS 12.5). A method may be called earlier.
 fn is_given_before(restater: &Restater, field: &Field, at: usize) -> bool {
     let is_own = field.class == restater.place.class && restater.place.method.is_none();
-    let is_above = field.declarator.name.token < at;
-    is_own && is_above && field.is_final && field.declarator.value.is_some()
+    let is_above = field.token < at;
+    is_own && is_above && field.is_final && field.has_value
 }
 
 // Whether a value can be made for all threads at once: it is settled, `null`, or a new object of settled values.

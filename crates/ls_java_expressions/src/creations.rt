@@ -10,8 +10,8 @@ use ls_java_tables::library::is_generic;
 use ls_java_tables::needs::{Helper, Operation, use_operation};
 use ls_java_tables::remarks::{Stop, What, Why};
 use ls_java_tables::restater::{
-    Local, Place, Restater, declare, fresh, is_handed_outer, is_handed_statics, leave, mark,
-    name_of, note, refuse, refuse_word,
+    Local, Place, Restater, declare, fresh, is_handed_outer, is_handed_statics, kept_trees, leave,
+    mark, name_of, note, refuse, refuse_word,
 };
 use ls_java_tables::ropes::Text;
 use ls_java_tables::spelling::{literal, phrase, value_of, word};
@@ -95,7 +95,7 @@ pub fn delegate_of<'a>(restater: &Restater<'a>, number: usize) -> Option<&'a [Ex
     if is_several(restater, constructor.class) {
         return None;
     }
-    constructor.delegate
+    Some(kept_trees(restater, constructor.delegate?))
 }
 
 // Whether the constructors of a class are methods.
@@ -197,8 +197,7 @@ pub fn this_call(
 // The name of a constructor's parameter.
 fn parameter_name(restater: &Restater, number: usize, place: usize) -> Option<WordId> {
     let constructor = restater.tables.constructors.get(number)?;
-    let parameter = constructor.tree.parameters.get(place)?;
-    Some(name_of(restater, &parameter.name))
+    constructor.names.get(place).copied()
 }
 
 /// Where restating was, before a constructor's `this(..)` was restated in place of its call.

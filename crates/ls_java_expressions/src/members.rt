@@ -167,7 +167,7 @@ fn static_field(restater: &mut Restater, number: usize, token: usize) -> Result<
 }
 
 // The field of an object of a kind.
-fn field_of_kind<'a>(restater: &Restater<'a>, kind: Kind, name: &Name) -> Option<Field<'a>> {
+fn field_of_kind(restater: &Restater, kind: Kind, name: &Name) -> Option<Field> {
     let wanted = name_of(restater, name);
     let class = match kind {
         Kind::Class(class) => class,

@@ -2,7 +2,7 @@
 
 use crate::members::type_name;
 use ls_java_tables::halves::own_name;
-use ls_java_tables::restater::{Restater, is_named, local_of, name_of};
+use ls_java_tables::restater::{Restater, is_named, kept_trees, local_of, name_of};
 use ls_java_tree::expressions::{Expression, ExpressionKind};
 use ls_java_tree::names::Name;
 use std::alloc::AllocError;
@@ -36,7 +36,7 @@ fn condition_lock<'a>(restater: &Restater<'a>, target: &Expression) -> Option<&'
     let found = conditions
         .iter()
         .find(|one| one.class == class && one.name == name)?;
-    Some(found.lock)
+    kept_trees(restater, found.lock).first()
 }
 
 // What a call is of whose target is a field of something: `System.out`, `TimeUnit.SECONDS`.

@@ -5,13 +5,13 @@ use crate::fields::all_fields;
 use crate::methods::all_methods;
 use crate::places::{handed, keep_unless_refused, next_sign, say_handed_fields, say_modifiers};
 use ls_java_expressions::writing::emit;
-use ls_java_tables::finding::{is_split, outer_of};
+use ls_java_tables::finding::{class_at, is_split, outer_of};
 use ls_java_tables::remarks::{Stop, What};
 use ls_java_tables::restater::{Restater, is_handed_outer, is_waited_on, note_word};
 use ls_java_tables::ropes::Text;
 use ls_java_tables::spelling::{append, say, say_word, word};
 use ls_java_tables::values::Kind;
-use ls_java_tree::declarations::TypeDeclaration;
+use ls_java_tree::declarations::{Body, File, Member, TypeDeclaration};
 use ls_lexer::sign::Sign;
 
 // The head of a class: modifiers, `class`, its name and a brace.
@@ -45,11 +45,12 @@ fn say_class(
 }
 
 // A class that isn't split, or the class of the objects of one that is.
-fn objects(
-    restater: &mut Restater,
+fn objects<'a>(
+    restater: &mut Restater<'a>,
     out: &mut Text,
+    bodies: &'a [Body],
     class: usize,
-    tree: &TypeDeclaration,
+    tree: &'a TypeDeclaration,
 ) -> Result<(), Stop> {
     let kind = Kind::Class(class);
     let token = tree.head.name.token;
@@ -61,7 +62,7 @@ fn objects(
     }
     say_class(restater, out, kind, tree, inner)?;
     say_handed_fields(restater, out, &handed, token)?;
-    let fields = all_fields(restater, class, false, !handed.is_empty())?;
+    let fields = all_fields(restater, tree, class, false, !handed.is_empty())?;
     append(restater, out, fields.declared)?;
     let head = Head {
         class,
@@ -70,22 +71,23 @@ fn objects(
         handed: &handed,
         fields,
     };
-    all_constructors(restater, out, head)?;
-    all_methods(restater, out, class, false)?;
+    all_constructors(restater, out, head, tree)?;
+    all_methods(restater, out, bodies, tree, false)?;
     say(restater, out, "}", tree.span.last)
 }
 
 // The class of the static members of a class that is split.
-fn statics(
-    restater: &mut Restater,
+fn statics<'a>(
+    restater: &mut Restater<'a>,
     out: &mut Text,
+    bodies: &'a [Body],
     class: usize,
-    tree: &TypeDeclaration,
+    tree: &'a TypeDeclaration,
 ) -> Result<(), Stop> {
     let kind = Kind::Statics(class);
     let inner = outer_of(restater, class).is_some();
     say_class(restater, out, kind, tree, inner)?;
-    let fields = all_fields(restater, class, true, false)?;
+    let fields = all_fields(restater, tree, class, true, false)?;
     append(restater, out, fields.declared)?;
     let head = Head {
         class,
@@ -95,29 +97,50 @@ fn statics(
         fields,
     };
     plain_constructor(restater, out, head)?;
-    all_methods(restater, out, class, true)?;
+    all_methods(restater, out, bodies, tree, true)?;
     say(restater, out, "}", tree.span.last)
 }
 
 // The class of a number.
-fn class(restater: &mut Restater, out: &mut Text, number: usize) -> Result<(), Stop> {
-    let Some(known) = restater.tables.classes.get(number) else {
+fn class<'a>(
+    restater: &mut Restater<'a>,
+    out: &mut Text,
+    bodies: &'a [Body],
+    number: usize,
+    tree: &'a TypeDeclaration,
+) -> Result<(), Stop> {
+    if is_split(restater, number) {
+        statics(restater, out, bodies, number, tree)?;
+    }
+    objects(restater, out, bodies, number, tree)
+}
+
+// A class, if it isn't left out, and those that stand in it.
+fn classes<'a>(
+    restater: &mut Restater<'a>,
+    out: &mut Text,
+    bodies: &'a [Body],
+    tree: &'a TypeDeclaration,
+) -> Result<(), Stop> {
+    let Some(number) = class_at(restater, tree.head.name.token) else {
         return Ok(());
     };
-    let tree = known.tree;
-    if is_split(restater, number) {
-        statics(restater, out, number, tree)?;
+    let before = *out;
+    let done = class(restater, out, bodies, number, tree);
+    keep_unless_refused(done, out, before)?;
+    for member in &tree.members {
+        if let Member::Type(inner) = member {
+            classes(restater, out, bodies, inner)?;
+        }
     }
-    objects(restater, out, number, tree)
+    Ok(())
 }
 
 /// All classes of the file, in its order.
-pub fn all_classes(restater: &mut Restater) -> Result<Text, Stop> {
+pub fn all_classes<'a>(restater: &mut Restater<'a>, file: &'a File) -> Result<Text, Stop> {
     let mut out = Text::EMPTY;
-    for number in 0..restater.tables.classes.len() {
-        let before = out;
-        let done = class(restater, &mut out, number);
-        keep_unless_refused(done, &mut out, before)?;
+    for tree in &file.types {
+        classes(restater, &mut out, &file.bodies, tree)?;
     }
     Ok(out)
 }

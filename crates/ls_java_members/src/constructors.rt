@@ -6,6 +6,7 @@ use crate::places::{
     say_parameters,
 };
 use ls_java_statements::bodies::body;
+use ls_java_tables::finding::constructor_at;
 use ls_java_tables::remarks::Stop;
 use ls_java_tables::restater::Restater;
 use ls_java_tables::ropes::Text;
@@ -13,7 +14,7 @@ use ls_java_tables::spelling::{append, say, say_word};
 use ls_java_tables::types::class_word;
 use ls_java_tables::values::Kind;
 use ls_java_tables::words::{WordId, Words};
-use ls_java_tree::declarations::Constructor as ConstructorTree;
+use ls_java_tree::declarations::{Constructor as ConstructorTree, Member, TypeDeclaration};
 
 /// What all constructors of a class begin with: the class's name, the objects that are handed, and what the fields'
 /// initialisers need.
@@ -125,22 +126,32 @@ fn has_several(restater: &Restater, class: usize) -> bool {
     }
 }
 
+// The number of a constructor that is written, or none where it was refused, or is left out.
+fn written_number(restater: &Restater, tree: &ConstructorTree, several: bool) -> Option<usize> {
+    let number = constructor_at(restater, tree.name.token)?;
+    let known = restater.tables.constructors.get(number)?;
+    if !several && known.delegate.is_some() {
+        return None;
+    }
+    Some(number)
+}
+
 /// The constructors of a class. One that only calls another is left out where there is only one other.
-pub(crate) fn all_constructors(
-    restater: &mut Restater,
+pub(crate) fn all_constructors<'a>(
+    restater: &mut Restater<'a>,
     out: &mut Text,
     head: Head,
+    class: &'a TypeDeclaration,
 ) -> Result<(), Stop> {
     let several = has_several(restater, head.class);
     let mut written = false;
-    for number in 0..restater.tables.constructors.len() {
-        let Some(known) = restater.tables.constructors.get(number) else {
-            break;
-        };
-        if known.class != head.class || !several && known.delegate.is_some() {
+    for member in &class.members {
+        let Member::Constructor(tree) = member else {
             continue;
-        }
-        let tree = known.tree;
+        };
+        let Some(number) = written_number(restater, tree, several) else {
+            continue;
+        };
         if several && !written {
             plain_constructor(restater, out, head)?;
         }

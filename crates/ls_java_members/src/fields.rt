@@ -13,7 +13,8 @@ use ls_java_tables::spelling::{append, say, say_word, word};
 use ls_java_tables::tables::Field;
 use ls_java_tables::types::type_text;
 use ls_java_tables::values::{Kind, Value};
-use ls_java_tree::declarations::{Initializer, Member};
+use ls_java_tree::declarations::{Initializer, Member, TypeDeclaration};
+use ls_java_tree::expressions::Expression;
 use ls_java_tree::statements::Declaration;
 
 /// What is written of a class's fields: their declarations, and what goes to the head of the constructor. Once one
@@ -26,12 +27,12 @@ pub(crate) struct Fields {
 }
 
 // The field that a name at a token declares.
-fn field_at<'a>(restater: &Restater<'a>, token: usize) -> Option<Field<'a>> {
+fn field_at(restater: &Restater, token: usize) -> Option<Field> {
     restater
         .tables
         .fields
         .iter()
-        .find(|field| field.declarator.name.token == token)
+        .find(|field| field.token == token)
         .copied()
 }
 
@@ -50,19 +51,19 @@ fn why_left_out(field: &Field) -> Option<What> {
 fn say_field(
     restater: &mut Restater,
     out: &mut Text,
+    tree: &Declaration,
     field: &Field,
     value: Option<Value>,
 ) -> Result<(), Stop> {
-    let name = &field.declarator.name;
-    say_modifiers(restater, out, &field.tree.modifiers, "")?;
-    let text = type_text(restater, field.kind, field.tree.type_name.span.first)?;
+    say_modifiers(restater, out, &tree.modifiers, "")?;
+    let text = type_text(restater, field.kind, tree.type_name.span.first)?;
     append(restater, out, text)?;
-    say_word(restater, out, field.name, name.token)?;
+    say_word(restater, out, field.name, field.token)?;
     if let Some(value) = value {
-        say(restater, out, "=", name.token.saturating_add(1))?;
+        say(restater, out, "=", field.token.saturating_add(1))?;
         append(restater, out, value.text)?;
     }
-    say(restater, out, ";", field.tree.span.last)
+    say(restater, out, ";", tree.span.last)
 }
 
 // A field with its value: where it is declared, or in the constructor if an earlier initialiser is there or the value
@@ -70,25 +71,26 @@ fn say_field(
 fn valued_field<'a>(
     restater: &mut Restater<'a>,
     fields: &mut Fields,
-    field: &Field<'a>,
+    tree: &Declaration,
+    value: Option<&'a Expression>,
+    field: &Field,
 ) -> Result<(), Stop> {
-    let Some(tree) = &field.declarator.value else {
-        return say_field(restater, &mut fields.declared, field, None);
+    let Some(value) = value else {
+        return say_field(restater, &mut fields.declared, tree, field, None);
     };
     let mut before = Text::EMPTY;
-    let value = expression_as(restater, &mut before, tree, field.kind)?;
+    let value = expression_as(restater, &mut before, value, field.kind)?;
     if before == Text::EMPTY && !fields.moved {
-        return say_field(restater, &mut fields.declared, field, Some(value));
+        return say_field(restater, &mut fields.declared, tree, field, Some(value));
     }
-    say_field(restater, &mut fields.declared, field, None)?;
+    say_field(restater, &mut fields.declared, tree, field, None)?;
     fields.moved = true;
     append(restater, &mut fields.late, before)?;
-    let token = field.declarator.name.token;
-    let name = word(restater, field.name, token)?;
+    let name = word(restater, field.name, field.token)?;
     emit(
         restater,
         &mut fields.late,
-        token,
+        field.token,
         "# = # ;",
         &[name, value.text],
     )
@@ -98,13 +100,15 @@ fn valued_field<'a>(
 fn field<'a>(
     restater: &mut Restater<'a>,
     fields: &mut Fields,
-    field: &Field<'a>,
+    tree: &Declaration,
+    value: Option<&'a Expression>,
+    field: &Field,
 ) -> Result<(), Stop> {
     if let Some(what) = why_left_out(field) {
-        return note_word(restater, field.declarator.name.token, field.name, what);
+        return note_word(restater, field.token, field.name, what);
     }
     enter_member(restater, field.class, field.is_static)?;
-    valued_field(restater, fields, field)
+    valued_field(restater, fields, tree, value, field)
 }
 
 // The fields of a declaration.
@@ -118,7 +122,7 @@ fn declared<'a>(
             continue;
         };
         let before = *fields;
-        let done = field(restater, fields, &one);
+        let done = field(restater, fields, tree, declarator.value.as_ref(), &one);
         let mut declared = fields.declared;
         keep_unless_refused(done, &mut declared, before.declared)?;
         fields.declared = declared;
@@ -142,8 +146,9 @@ fn initialiser<'a>(
 
 /// The fields and initialisers of a class; where it is split, of its static part or of its objects. If objects are
 /// handed others, all initialisers go to the constructor.
-pub(crate) fn all_fields(
-    restater: &mut Restater,
+pub(crate) fn all_fields<'a>(
+    restater: &mut Restater<'a>,
+    tree: &'a TypeDeclaration,
     class: usize,
     is_static: bool,
     is_handed: bool,
@@ -154,10 +159,6 @@ pub(crate) fn all_fields(
         moved: is_handed,
     };
     let split = is_split(restater, class);
-    let Some(known) = restater.tables.classes.get(class) else {
-        return Ok(fields);
-    };
-    let tree = known.tree;
     for member in &tree.members {
         match member {
             Member::Field(one) if !split || flags_of(&one.modifiers).is_static == is_static => {

@@ -50,17 +50,15 @@ fn is_understood(tree: &Statement) -> bool {
 fn say_thread<'a>(
     restater: &mut Restater<'a>,
     out: &mut Text,
+    bodies: &'a [Body],
     tree: &'a LambdaBody,
 ) -> Result<(), Stop> {
     match tree {
         LambdaBody::Expression(expression) => effect(restater, out, expression),
-        LambdaBody::Block(number) => {
-            let file = restater.file;
-            match file.bodies.get(*number) {
-                Some(Body::Block(block)) => body(restater, out, block),
-                _ => Ok(()),
-            }
-        }
+        LambdaBody::Block(number) => match bodies.get(*number) {
+            Some(Body::Block(block)) => body(restater, out, block),
+            _ => Ok(()),
+        },
     }
 }
 
@@ -68,6 +66,7 @@ fn say_thread<'a>(
 fn thread_method<'a>(
     restater: &mut Restater<'a>,
     out: &mut Text,
+    bodies: &'a [Body],
     tree: &'a Declaration,
 ) -> Result<(), Stop> {
     let Some((declarator, lambda)) = thread_body(tree) else {
@@ -81,7 +80,7 @@ fn thread_method<'a>(
     say(restater, out, "public void", tree.span.first)?;
     say_word(restater, out, name, token)?;
     say(restater, out, "( ) {", token)?;
-    say_thread(restater, out, lambda)?;
+    say_thread(restater, out, bodies, lambda)?;
     say(restater, out, "}", tree.span.last)
 }
 
@@ -90,6 +89,7 @@ fn thread_method<'a>(
 pub(crate) fn main_method<'a>(
     restater: &mut Restater<'a>,
     out: &mut Text,
+    bodies: &'a [Body],
     tree: &'a MethodTree,
 ) -> Result<(), Stop> {
     let token = tree.name.token;
@@ -102,7 +102,7 @@ pub(crate) fn main_method<'a>(
     note(restater, token, What::Main)?;
     for statement in &block.statements {
         if let StatementKind::Locals(declaration) = &statement.kind {
-            thread_method(restater, out, declaration)?;
+            thread_method(restater, out, bodies, declaration)?;
         }
     }
     Ok(())

@@ -6,7 +6,7 @@ use crate::places::{
 };
 use ls_java_expressions::writing::emit;
 use ls_java_statements::bodies::body;
-use ls_java_tables::finding::{is_split, owner_kind};
+use ls_java_tables::finding::{is_split, method_at, owner_kind};
 use ls_java_tables::remarks::{Stop, What, Why};
 use ls_java_tables::restater::{Local, Restater, declare, is_waited_on, note_word, refuse_word};
 use ls_java_tables::ropes::Text;
@@ -14,7 +14,7 @@ use ls_java_tables::spelling::{append, say, say_word, word};
 use ls_java_tables::types::type_text;
 use ls_java_tables::values::Kind;
 use ls_java_tables::words::WordId;
-use ls_java_tree::declarations::Method as MethodTree;
+use ls_java_tree::declarations::{Body, Member, Method as MethodTree, TypeDeclaration};
 use ls_java_tree::statements::Block;
 
 // What is known of a method, copied from the table.
@@ -164,20 +164,25 @@ fn has_two_monitors(restater: &Restater, class: usize) -> bool {
 }
 
 // The method of a number.
-fn method(restater: &mut Restater, out: &mut Text, number: usize) -> Result<(), Stop> {
+fn method<'a>(
+    restater: &mut Restater<'a>,
+    out: &mut Text,
+    bodies: &'a [Body],
+    number: usize,
+    tree: &'a MethodTree,
+) -> Result<(), Stop> {
     let Some(signature) = signature_of(restater, number)? else {
         return Ok(());
     };
     let Some(known) = restater.tables.methods.get(number) else {
         return Ok(());
     };
-    let tree = known.tree;
     let is_static = known.is_static;
     let is_main = known.is_main;
     enter_member(restater, signature.class, is_static)?;
     restater.place.method = Some(number);
     if is_main {
-        return main_method(restater, out, tree);
+        return main_method(restater, out, bodies, tree);
     }
     if signature.is_synchronized && has_two_monitors(restater, signature.class) {
         return refuse_word(restater, tree.name.token, signature.out, Why::TwoMonitors);
@@ -185,23 +190,34 @@ fn method(restater: &mut Restater, out: &mut Text, number: usize) -> Result<(), 
     plain_method(restater, out, tree, &signature)
 }
 
+// The number of a method that is written, or none where it was refused, is left out, or belongs to the other part of a
+// class that is split.
+fn written_number(restater: &Restater, tree: &MethodTree, is_static: bool) -> Option<usize> {
+    let number = method_at(restater, tree.name.token)?;
+    let known = restater.tables.methods.get(number)?;
+    if is_split(restater, known.class) && known.is_static != is_static {
+        return None;
+    }
+    Some(number)
+}
+
 /// The methods of a class; where it is split, of its static part or of its objects.
-pub(crate) fn all_methods(
-    restater: &mut Restater,
+pub(crate) fn all_methods<'a>(
+    restater: &mut Restater<'a>,
     out: &mut Text,
-    class: usize,
+    bodies: &'a [Body],
+    class: &'a TypeDeclaration,
     is_static: bool,
 ) -> Result<(), Stop> {
-    let split = is_split(restater, class);
-    for number in 0..restater.tables.methods.len() {
-        let Some(known) = restater.tables.methods.get(number) else {
-            break;
-        };
-        if known.class != class || split && known.is_static != is_static {
+    for member in &class.members {
+        let Member::Method(tree) = member else {
             continue;
-        }
+        };
+        let Some(number) = written_number(restater, tree, is_static) else {
+            continue;
+        };
         let before = *out;
-        let done = method(restater, out, number);
+        let done = method(restater, out, bodies, number, tree);
         keep_unless_refused(done, out, before)?;
     }
     Ok(())

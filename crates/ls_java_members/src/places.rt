@@ -82,7 +82,7 @@ pub(crate) fn say_modifiers(
 
 /// The first token from one on that is a sign, or the one itself if none follows.
 pub(crate) fn next_sign(restater: &Restater, from: usize, sign: Sign) -> usize {
-    for token in from..restater.tokens.len() {
+    for token in from..restater.shapes.len() {
         if is_sign(restater, token, sign) {
             return token;
         }

@@ -25,21 +25,17 @@ pub struct Made<'a> {
 fn once<'a>(
     alloc: Global,
     file: &'a File,
-    tokens: &'a [Token<'a>],
+    tokens: &[Token],
     facts: Facts,
 ) -> Result<Made<'a>, Stop> {
     let mut restater = begin(alloc, file, tokens, facts)?;
     restater.facts.again = false;
-    let text = all_classes(&mut restater)?;
+    let text = all_classes(&mut restater, file)?;
     Ok(Made { restater, text })
 }
 
 /// The classes of a file, restated. It begins again until nothing new is found.
-pub fn restate_file<'a>(
-    alloc: Global,
-    file: &'a File,
-    tokens: &'a [Token<'a>],
-) -> Result<Made<'a>, Stop> {
+pub fn restate_file<'a>(alloc: Global, file: &'a File, tokens: &[Token]) -> Result<Made<'a>, Stop> {
     let mut facts = no_facts(alloc);
     for _ in 0..ROUNDS {
         let mut made = once(alloc, file, tokens, facts)?;

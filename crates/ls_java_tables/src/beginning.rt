@@ -2,18 +2,19 @@
 
 use crate::collecting::{collect, find_interfaces, unless_refused};
 use crate::declaring::{
-    declare_fields, declare_methods, find_constants, find_constructors, find_split,
+    declare_fields, declare_methods, find_constants, find_constructors, find_returned, find_split,
 };
 use crate::generics::find_parameters;
 use crate::needs::Needs;
 use crate::remarks::Stop;
 use crate::restater::{Added, Facts, Place, Restater, fresh};
 use crate::ropes::Ropes;
+use crate::shapes::shapes_of;
 use crate::tables::Tables;
 use crate::values::Kind;
 use crate::words::Words;
 use ls_java_lexer::token::{Token, TokenKind};
-use ls_java_tree::declarations::File;
+use ls_java_tree::declarations::{File, TypeDeclaration};
 use ls_lexer::sign::Sign;
 use ls_lexer::word::Word;
 use std::alloc::Global;
@@ -30,16 +31,17 @@ pub fn no_facts(alloc: Global) -> Facts {
     }
 }
 
-fn no_tables<'a>(alloc: Global) -> Tables<'a> {
+fn no_tables(alloc: Global) -> Tables {
     Tables {
         classes: Vec::new(alloc),
         fields: Vec::new(alloc),
         methods: Vec::new(alloc),
         constructors: Vec::new(alloc),
-        starts: Vec::new(alloc),
+        type_variables: Vec::new(alloc),
         interfaces: Vec::new(alloc),
         enums: Vec::new(alloc),
         conditions: Vec::new(alloc),
+        returned: Vec::new(alloc),
         gone: Vec::new(alloc),
         broken: Vec::new(alloc),
         has_keys: false,
@@ -71,16 +73,11 @@ pub fn no_place(class: usize) -> Place {
 }
 
 // Nothing is known yet but the words.
-fn empty<'a>(
-    alloc: Global,
-    file: &'a File,
-    tokens: &'a [Token<'a>],
-    facts: Facts,
-) -> Result<Restater<'a>, Stop> {
+fn empty<'a>(alloc: Global, tokens: &[Token], facts: Facts) -> Result<Restater<'a>, Stop> {
     Ok(Restater {
         alloc,
-        file,
-        tokens,
+        kept: Vec::new(alloc),
+        shapes: shapes_of(alloc, tokens)?,
         words: Words::of_tokens(alloc, tokens)?,
         ropes: Ropes::new(alloc)?,
         tables: no_tables(alloc),
@@ -121,37 +118,47 @@ fn name_added(restater: &mut Restater) -> Result<(), Stop> {
     Ok(())
 }
 
-// What the classes declare.
-fn fill(restater: &mut Restater) -> Result<(), Stop> {
-    let file = restater.file;
-    restater.tables.has_keys = has_keys(restater.tokens);
-    name_added(restater)?;
-    for tree in &file.types {
-        collect(restater, tree, None)?;
+// What the members of the classes declare. The trees of the classes are by their numbers.
+fn fill_members<'a>(
+    restater: &mut Restater<'a>,
+    classes: &[&'a TypeDeclaration],
+) -> Result<(), Stop> {
+    let mut values = Vec::new(restater.alloc);
+    for (class, tree) in classes.iter().enumerate() {
+        declare_fields(restater, &mut values, class, *tree)?;
     }
-    find_interfaces(restater)?;
-    unless_refused(find_parameters(restater))?;
-    for class in 0..restater.tables.classes.len() {
-        declare_fields(restater, class)?;
-    }
-    find_constants(restater);
-    for class in 0..restater.tables.classes.len() {
+    find_constants(restater, &values);
+    for (class, tree) in classes.iter().enumerate() {
         find_split(restater, class)?;
-        declare_methods(restater, class)?;
+        declare_methods(restater, class, *tree)?;
         find_constructors(restater, class)?;
     }
     Ok(())
+}
+
+// What the classes declare.
+fn fill<'a>(restater: &mut Restater<'a>, file: &'a File) -> Result<(), Stop> {
+    name_added(restater)?;
+    find_returned(restater, &file.bodies)?;
+    let mut classes = Vec::new(restater.alloc);
+    for tree in &file.types {
+        collect(restater, &mut classes, tree, None)?;
+    }
+    find_interfaces(restater)?;
+    unless_refused(find_parameters(restater))?;
+    fill_members(restater, &classes)
 }
 
 /// What is known of a file before its members are restated, with the facts that were found before.
 pub fn begin<'a>(
     alloc: Global,
     file: &'a File,
-    tokens: &'a [Token<'a>],
+    tokens: &[Token],
     facts: Facts,
 ) -> Result<Restater<'a>, Stop> {
-    let mut restater = empty(alloc, file, tokens, facts)?;
-    fill(&mut restater)?;
+    let mut restater = empty(alloc, tokens, facts)?;
+    restater.tables.has_keys = has_keys(tokens);
+    fill(&mut restater, file)?;
     restater.place = no_place(0);
     Ok(restater)
 }

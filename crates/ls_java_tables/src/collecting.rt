@@ -117,18 +117,31 @@ fn variables(restater: &Restater, head: &Head) -> Result<Vec<Variable>, Stop> {
     Ok(all)
 }
 
+// The names of the types that a class implements.
+fn implemented(restater: &Restater, head: &Head) -> Result<Vec<WordId>, Stop> {
+    let mut all = Vec::new(restater.alloc);
+    for one in &head.implements {
+        if let Some(name) = type_name(one) {
+            all.push(name_of(restater, name))?;
+        }
+    }
+    Ok(all)
+}
+
 // A class goes into the table. The answer is its number.
-fn add_class<'a>(
-    restater: &mut Restater<'a>,
-    tree: &'a TypeDeclaration,
+fn add_class(
+    restater: &mut Restater,
+    tree: &TypeDeclaration,
     outer: Option<usize>,
 ) -> Result<usize, Stop> {
     let out = written_name(restater, &tree.head.name)?;
     let name = name_of(restater, &tree.head.name);
     let variables = variables(restater, &tree.head)?;
+    let implements = implemented(restater, &tree.head)?;
     let number = restater.tables.classes.len();
     restater.tables.classes.push(Class {
-        tree,
+        token: tree.head.name.token,
+        span: tree.span,
         name,
         out,
         outer,
@@ -136,6 +149,7 @@ fn add_class<'a>(
         is_split: false,
         several_constructors: false,
         variables,
+        implements,
     })?;
     if outer.is_some() {
         note_word(restater, tree.head.name.token, name, What::Beside)?;
@@ -144,9 +158,9 @@ fn add_class<'a>(
 }
 
 // A class goes into the table, unless it is left out or refused. The answer is its number.
-fn enter_class<'a>(
-    restater: &mut Restater<'a>,
-    tree: &'a TypeDeclaration,
+fn enter_class(
+    restater: &mut Restater,
+    tree: &TypeDeclaration,
     outer: Option<usize>,
 ) -> Result<Option<usize>, Stop> {
     let name = name_of(restater, &tree.head.name);
@@ -168,17 +182,21 @@ fn enter_class<'a>(
 }
 
 // An enum goes into the table.
-fn add_enum<'a>(restater: &mut Restater<'a>, tree: &'a TypeDeclaration) -> Result<(), Stop> {
+fn add_enum(restater: &mut Restater, tree: &TypeDeclaration) -> Result<(), Stop> {
     let name = name_of(restater, &tree.head.name);
-    restater.tables.enums.push(Enumeration { tree, name })?;
+    let mut constants = Vec::new(restater.alloc);
+    for constant in &tree.constants {
+        constants.push(name_of(restater, constant))?;
+    }
+    restater.tables.enums.push(Enumeration { name, constants })?;
     note_word(restater, tree.head.name.token, name, What::Enum)
 }
 
 // An interface goes into the table.
-fn add_interface<'a>(restater: &mut Restater<'a>, tree: &'a TypeDeclaration) -> Result<(), Stop> {
+fn add_interface(restater: &mut Restater, tree: &TypeDeclaration) -> Result<(), Stop> {
     let name = name_of(restater, &tree.head.name);
     restater.tables.interfaces.push(Interface {
-        tree,
+        token: tree.head.name.token,
         name,
         class: None,
     })?;
@@ -186,9 +204,9 @@ fn add_interface<'a>(restater: &mut Restater<'a>, tree: &'a TypeDeclaration) -> 
 }
 
 // A class, an interface or an enum. The answer is the number of a class.
-fn enter<'a>(
-    restater: &mut Restater<'a>,
-    tree: &'a TypeDeclaration,
+fn enter(
+    restater: &mut Restater,
+    tree: &TypeDeclaration,
     outer: Option<usize>,
 ) -> Result<Option<usize>, Stop> {
     match tree.head.sort {
@@ -199,9 +217,11 @@ fn enter<'a>(
     Ok(None)
 }
 
-/// A class, an interface or an enum, and the classes that stand in a class. After a refusal the next one is read.
+/// A class, an interface or an enum, and the classes that stand in a class. After a refusal the next one is read. The
+/// trees of the classes go to the end of a list, by their numbers.
 pub fn collect<'a>(
-    restater: &mut Restater<'a>,
+    restater: &mut Restater,
+    classes: &mut Vec<&'a TypeDeclaration>,
     tree: &'a TypeDeclaration,
     outer: Option<usize>,
 ) -> Result<(), Stop> {
@@ -209,9 +229,10 @@ pub fn collect<'a>(
     if number.is_none() {
         return Ok(());
     }
+    classes.push(tree)?;
     for member in &tree.members {
         if let Member::Type(inner) = member {
-            collect(restater, inner, number)?;
+            collect(restater, classes, inner, number)?;
         }
     }
     Ok(())
@@ -227,17 +248,10 @@ pub fn unless_refused(done: Result<(), Stop>) -> Result<(), Stop> {
 
 // Whether a class implements an interface of a name.
 fn implements(restater: &Restater, class: usize, interface: WordId) -> bool {
-    let Some(class) = restater.tables.classes.get(class) else {
-        return false;
-    };
-    for one in &class.tree.head.implements {
-        if let Some(name) = type_name(one) {
-            if restater.words.of(name) == interface {
-                return true;
-            }
-        }
+    match restater.tables.classes.get(class) {
+        Some(class) => class.implements.contains(&interface),
+        None => false,
     }
-    false
 }
 
 // The one class that implements an interface.
@@ -268,7 +282,7 @@ pub fn find_interfaces(restater: &mut Restater) -> Result<(), Stop> {
             Some(_) => What::InterfaceStandsFor,
             None => What::InterfaceLeftOut,
         };
-        note(restater, interface.tree.head.name.token, what)?;
+        note(restater, interface.token, what)?;
     }
     Ok(())
 }

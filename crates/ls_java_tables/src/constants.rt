@@ -171,5 +171,5 @@ pub fn fold(restater: &Restater, expression: &Expression) -> Option<Constant> {
 
 /// Whether a field may be a constant: it is static, final, and a number or a boolean with a value.
 pub fn may_be_constant(field: &Field) -> bool {
-    field.is_static && field.is_final && field.declarator.value.is_some()
+    field.is_static && field.is_final && field.has_value
 }

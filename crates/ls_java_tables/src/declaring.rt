@@ -5,17 +5,20 @@ use crate::constants::{fold, may_be_constant};
 use crate::finding::field_in;
 use crate::halves::{kind_by_value, own_name};
 use crate::remarks::{Stop, What};
-use crate::restater::{Restater, fresh, is_named, name_of, note, note_word};
+use crate::restater::{Restater, fresh, is_named, keep, name_of, note, note_word};
 use crate::scanning::is_made;
-use crate::tables::{Condition, Constructor, Field, Method, Start};
+use crate::tables::{Condition, Constructor, Field, Method, VariableRun};
 use crate::types::{Site, kind_at, kind_of};
 use crate::values::{Constant, Kind};
 use crate::words::WordId;
-use ls_java_tree::declarations::{Constructor as ConstructorTree, Member, Method as MethodTree};
+use ls_java_tree::declarations::{
+    Body, Constructor as ConstructorTree, Member, Method as MethodTree, TypeDeclaration,
+};
 use ls_java_tree::expressions::{Expression, ExpressionKind, Parameter};
 use ls_java_tree::names::Name;
 use ls_java_tree::statements::{Block, Declaration, Declarator, Statement, StatementKind};
 use ls_java_tree::types::TypeParameter;
+use std::slice;
 
 // The kind of a field. If it is refused, so is the name.
 fn field_kind(
@@ -26,7 +29,7 @@ fn field_kind(
 ) -> Result<Kind, Stop> {
     let site = Site {
         class,
-        variables: &[],
+        variables: VariableRun::NONE,
     };
     let kind = kind_at(restater, site, &tree.type_name, declarator.brackets);
     if kind == Err(Stop::Refused) {
@@ -50,11 +53,29 @@ fn lock_of(expression: &Expression) -> Option<&Expression> {
     }
 }
 
-// One field.
-fn add_field<'a>(
+// A field or a constructor gives a name a value: if that is a condition, it goes into the table.
+fn add_condition<'a>(
     restater: &mut Restater<'a>,
     class: usize,
-    tree: &'a Declaration,
+    name: WordId,
+    value: &'a Expression,
+) -> Result<(), Stop> {
+    if let Some(lock) = lock_of(value) {
+        let lock = keep(restater, slice::from_ref(lock))?;
+        restater
+            .tables
+            .conditions
+            .push(Condition { class, name, lock })?;
+    }
+    Ok(())
+}
+
+// One field. Its value goes to the end of those of all fields.
+fn add_field<'a>(
+    restater: &mut Restater<'a>,
+    values: &mut Vec<Option<&'a Expression>>,
+    class: usize,
+    tree: &Declaration,
     declarator: &'a Declarator,
 ) -> Result<(), Stop> {
     let kind = field_kind(restater, class, tree, declarator)?;
@@ -62,46 +83,55 @@ fn add_field<'a>(
     let found = flags_of(&tree.modifiers);
     restater.tables.fields.push(Field {
         class,
+        token: declarator.name.token,
         name,
-        tree,
-        declarator,
+        has_value: declarator.value.is_some(),
         is_static: found.is_static,
         is_final: found.is_final,
         kind,
         constant: None,
     })?;
-    if let Some(value) = &declarator.value {
-        if let Some(lock) = lock_of(value) {
-            restater
-                .tables
-                .conditions
-                .push(Condition { class, name, lock })?;
-        }
+    values.push(declarator.value.as_ref())?;
+    match &declarator.value {
+        Some(value) => add_condition(restater, class, name, value),
+        None => Ok(()),
     }
-    Ok(())
 }
 
 // The fields of a declaration.
 fn add_fields<'a>(
     restater: &mut Restater<'a>,
+    values: &mut Vec<Option<&'a Expression>>,
     class: usize,
     tree: &'a Declaration,
 ) -> Result<(), Stop> {
     for declarator in &tree.declarators {
-        unless_refused(add_field(restater, class, tree, declarator))?;
+        unless_refused(add_field(restater, values, class, tree, declarator))?;
     }
     Ok(())
+}
+
+// The type parameters of a method or a constructor go into the table.
+fn add_variables(
+    restater: &mut Restater,
+    parameters: &[TypeParameter],
+) -> Result<VariableRun, Stop> {
+    let first = restater.tables.type_variables.len();
+    for parameter in parameters {
+        let name = name_of(restater, &parameter.name);
+        restater.tables.type_variables.push(name)?;
+    }
+    let end = restater.tables.type_variables.len();
+    Ok(VariableRun { first, end })
 }
 
 // The kinds of parameters.
 fn parameter_kinds(
     restater: &mut Restater,
-    class: usize,
-    variables: &[TypeParameter],
+    site: Site,
     parameters: &[Parameter],
 ) -> Result<Vec<Kind>, Stop> {
     let mut kinds = Vec::new(restater.alloc);
-    let site = Site { class, variables };
     for parameter in parameters {
         let kind = match &parameter.type_name {
             Some(written) => kind_of(restater, site, written)?,
@@ -143,29 +173,25 @@ pub fn is_left_out(tree: &MethodTree) -> bool {
 // The kinds of a method's parameters and of what it gives.
 fn signature(
     restater: &mut Restater,
-    class: usize,
+    site: Site,
     tree: &MethodTree,
 ) -> Result<(Vec<Kind>, Kind), Stop> {
     if is_main(tree) {
         return Ok((Vec::new(restater.alloc), Kind::Void));
     }
-    let variables = &tree.type_parameters;
-    let parameters = parameter_kinds(restater, class, variables, &tree.parameters)?;
-    let result = kind_of(restater, Site { class, variables }, &tree.result)?;
+    let parameters = parameter_kinds(restater, site, &tree.parameters)?;
+    let result = kind_of(restater, site, &tree.result)?;
     Ok((parameters, result))
 }
 
 // A method goes into the table.
-fn add_method<'a>(
-    restater: &mut Restater<'a>,
-    class: usize,
-    tree: &'a MethodTree,
-) -> Result<(), Stop> {
+fn add_method(restater: &mut Restater, class: usize, tree: &MethodTree) -> Result<(), Stop> {
     let name = name_of(restater, &tree.name);
     if is_left_out(tree) {
         return note(restater, tree.name.token, What::MethodLeftOut);
     }
-    let kinds = signature(restater, class, tree);
+    let variables = add_variables(restater, &tree.type_parameters)?;
+    let kinds = signature(restater, Site { class, variables }, tree);
     if kinds.is_err() {
         restater.tables.broken.push(name)?;
     }
@@ -180,9 +206,10 @@ fn add_method<'a>(
     let found = flags_of(&tree.modifiers);
     restater.tables.methods.push(Method {
         class,
+        token: tree.name.token,
         name,
         out,
-        tree,
+        type_variables: variables,
         is_static: found.is_static,
         is_synchronized: found.is_synchronized,
         parameters,
@@ -244,14 +271,18 @@ fn add_given<'a>(restater: &mut Restater<'a>, class: usize, body: &'a Block) -> 
         };
         let name = name_of(restater, name);
         see_half(restater, class, name, value);
-        if let Some(lock) = lock_of(value) {
-            restater
-                .tables
-                .conditions
-                .push(Condition { class, name, lock })?;
-        }
+        add_condition(restater, class, name, value)?;
     }
     Ok(())
+}
+
+// The names of parameters.
+fn parameter_names(restater: &Restater, parameters: &[Parameter]) -> Result<Vec<WordId>, Stop> {
+    let mut names = Vec::new(restater.alloc);
+    for parameter in parameters {
+        names.push(name_of(restater, &parameter.name))?;
+    }
+    Ok(names)
 }
 
 // A constructor goes into the table.
@@ -260,42 +291,48 @@ fn add_constructor<'a>(
     class: usize,
     tree: &'a ConstructorTree,
 ) -> Result<(), Stop> {
-    let variables = &tree.type_parameters;
-    let parameters = parameter_kinds(restater, class, variables, &tree.parameters)?;
+    let variables = add_variables(restater, &tree.type_parameters)?;
+    let parameters = parameter_kinds(restater, Site { class, variables }, &tree.parameters)?;
     let out = name_of(restater, &tree.name);
+    let names = parameter_names(restater, &tree.parameters)?;
     add_given(restater, class, &tree.body)?;
+    let delegate = match delegate_of(&tree.body) {
+        Some(arguments) => Some(keep(restater, arguments)?),
+        None => None,
+    };
     restater.tables.constructors.push(Constructor {
         class,
+        token: tree.name.token,
         out,
-        tree,
+        type_variables: variables,
+        names,
         parameters,
-        delegate: delegate_of(&tree.body),
+        delegate,
     })?;
     Ok(())
 }
 
-/// The fields and initialisers of a class.
-pub fn declare_fields(restater: &mut Restater, class: usize) -> Result<(), Stop> {
-    let Some(known) = restater.tables.classes.get(class) else {
-        return Ok(());
-    };
-    let tree = known.tree;
+/// The fields of a class. Their values go to the end of those of all fields.
+pub fn declare_fields<'a>(
+    restater: &mut Restater<'a>,
+    values: &mut Vec<Option<&'a Expression>>,
+    class: usize,
+    tree: &'a TypeDeclaration,
+) -> Result<(), Stop> {
     for member in &tree.members {
-        match member {
-            Member::Field(field) => add_fields(restater, class, field)?,
-            Member::Initializer(tree) => restater.tables.starts.push(Start { class, tree })?,
-            _ => {}
+        if let Member::Field(field) = member {
+            add_fields(restater, values, class, field)?;
         }
     }
     Ok(())
 }
 
 /// The methods and constructors of a class.
-pub fn declare_methods(restater: &mut Restater, class: usize) -> Result<(), Stop> {
-    let Some(known) = restater.tables.classes.get(class) else {
-        return Ok(());
-    };
-    let tree = known.tree;
+pub fn declare_methods<'a>(
+    restater: &mut Restater<'a>,
+    class: usize,
+    tree: &'a TypeDeclaration,
+) -> Result<(), Stop> {
     for member in &tree.members {
         let done = match member {
             Member::Method(method) => add_method(restater, class, method),
@@ -307,14 +344,51 @@ pub fn declare_methods(restater: &mut Restater, class: usize) -> Result<(), Stop
     Ok(())
 }
 
+// The value that a method of one `return` returns.
+fn returned(member: &Member) -> Option<&Expression> {
+    let Member::Method(method) = member else {
+        return None;
+    };
+    match method.body.as_ref()?.statements.first()? {
+        statement => match &statement.kind {
+            StatementKind::Return(value) => value.as_ref(),
+            _ => None,
+        },
+    }
+}
+
+// The value that the first method of an anonymous class returns which is one `return`.
+fn returned_by(body: &Body) -> Option<&Expression> {
+    let Body::Class(members) = body else {
+        return None;
+    };
+    members.iter().find_map(|member| returned(member))
+}
+
+/// What the bodies of anonymous classes return.
+pub fn find_returned<'a>(restater: &mut Restater<'a>, bodies: &'a [Body]) -> Result<(), Stop> {
+    for body in bodies {
+        let number = match returned_by(body) {
+            Some(value) => Some(keep(restater, slice::from_ref(value))?),
+            None => None,
+        };
+        restater.tables.returned.push(number)?;
+    }
+    Ok(())
+}
+
 // The constant that a field is, as far as the constants are known that it names.
-fn field_constant(restater: &mut Restater, number: usize) -> Option<Constant> {
+fn field_constant(
+    restater: &mut Restater,
+    number: usize,
+    value: Option<&Expression>,
+) -> Option<Constant> {
     let field = restater.tables.fields.get(number).copied()?;
     if field.constant.is_some() || !may_be_constant(&field) {
         return None;
     }
     restater.place.class = field.class;
-    let constant = fold(restater, field.declarator.value.as_ref()?)?;
+    let constant = fold(restater, value?)?;
     match (constant, field.kind) {
         (Constant::Int(_), Kind::Int) | (Constant::Boolean(_), Kind::Boolean) => Some(constant),
         _ => None,
@@ -322,10 +396,10 @@ fn field_constant(restater: &mut Restater, number: usize) -> Option<Constant> {
 }
 
 // All fields, once. The answer is whether one more is known to be a constant.
-fn more_constants(restater: &mut Restater) -> bool {
+fn more_constants(restater: &mut Restater, values: &[Option<&Expression>]) -> bool {
     let mut more = false;
-    for number in 0..restater.tables.fields.len() {
-        if let Some(constant) = field_constant(restater, number) {
+    for (number, value) in values.iter().enumerate() {
+        if let Some(constant) = field_constant(restater, number, *value) {
             if let Some(field) = restater.tables.fields.get_mut(number) {
                 field.constant = Some(constant);
                 more = true;
@@ -335,10 +409,10 @@ fn more_constants(restater: &mut Restater) -> bool {
     more
 }
 
-/// Which fields are constants (JLS 15.28).
-pub fn find_constants(restater: &mut Restater) {
-    for _ in 0..=restater.tables.fields.len() {
-        if !more_constants(restater) {
+/// Which fields are constants (JLS 15.28), by their values where they are declared.
+pub fn find_constants(restater: &mut Restater, values: &[Option<&Expression>]) {
+    for _ in 0..=values.len() {
+        if !more_constants(restater, values) {
             break;
         }
     }
@@ -360,7 +434,7 @@ pub fn find_split(restater: &mut Restater, class: usize) -> Result<(), Stop> {
         return Ok(());
     };
     let name = known.name;
-    let token = known.tree.head.name.token;
+    let token = known.token;
     if !has_static_state(restater, class) {
         return Ok(());
     }
@@ -385,7 +459,7 @@ fn name_constructors(restater: &mut Restater, class: usize) -> Result<(), Stop> 
         if constructor.class != class {
             continue;
         }
-        let token = constructor.tree.name.token;
+        let token = constructor.token;
         let out = fresh(restater, "make")?;
         if let Some(constructor) = restater.tables.constructors.get_mut(number) {
             constructor.out = out;

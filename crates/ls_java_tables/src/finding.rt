@@ -18,6 +18,36 @@ pub fn field_in(restater: &Restater, class: usize, name: WordId) -> Option<usize
     None
 }
 
+/// The class whose name is at a token.
+pub fn class_at(restater: &Restater, token: usize) -> Option<usize> {
+    for (number, class) in restater.tables.classes.iter().enumerate() {
+        if class.token == token {
+            return Some(number);
+        }
+    }
+    None
+}
+
+/// The method whose name is at a token.
+pub fn method_at(restater: &Restater, token: usize) -> Option<usize> {
+    for (number, method) in restater.tables.methods.iter().enumerate() {
+        if method.token == token {
+            return Some(number);
+        }
+    }
+    None
+}
+
+/// The constructor whose name is at a token.
+pub fn constructor_at(restater: &Restater, token: usize) -> Option<usize> {
+    for (number, constructor) in restater.tables.constructors.iter().enumerate() {
+        if constructor.token == token {
+            return Some(number);
+        }
+    }
+    None
+}
+
 /// Whether a class declares a method of a name.
 pub fn has_method(restater: &Restater, class: usize, name: WordId) -> bool {
     for method in &restater.tables.methods {
@@ -126,8 +156,8 @@ pub fn enum_named(restater: &Restater, name: WordId) -> Option<usize> {
 /// The value of a constant of an enum.
 pub fn enum_constant(restater: &Restater, number: usize, name: WordId) -> Option<Constant> {
     let one = restater.tables.enums.get(number)?;
-    for (place, constant) in one.tree.constants.iter().enumerate() {
-        if restater.words.of(constant) == name {
+    for (place, constant) in one.constants.iter().enumerate() {
+        if *constant == name {
             let value = i32::try_from(place).ok()?.checked_add(1)?;
             return Some(Constant::Int(value));
         }

@@ -13,7 +13,7 @@ use crate::words::Words;
 pub fn class_around(restater: &Restater, token: usize) -> usize {
     let mut around = 0;
     for (number, class) in restater.tables.classes.iter().enumerate() {
-        if class.tree.span.first <= token && token <= class.tree.span.last {
+        if class.span.first <= token && token <= class.span.last {
             around = number;
         }
     }
@@ -82,14 +82,14 @@ fn use_arguments(restater: &mut Restater, arguments: &[Argument]) -> Result<bool
 
 // A note for each type parameter of a class.
 fn note_parameters(restater: &mut Restater, class: usize) -> Result<(), Stop> {
-    for place in 0..restater.tokens.len() {
+    for place in 0..restater.shapes.len() {
         let Some(kind) = parameter_kind(restater, class, place) else {
             break;
         };
         let Some(class) = restater.tables.classes.get(class) else {
             break;
         };
-        let token = class.tree.head.name.token;
+        let token = class.token;
         let name = class.name;
         if kind == Kind::Item {
             note_word(restater, token, name, What::ParameterIsInt)?;

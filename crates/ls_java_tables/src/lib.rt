@@ -17,6 +17,7 @@ pub mod restater;
 pub mod ropes;
 pub mod scanning;
 pub mod sentences;
+pub mod shapes;
 pub mod spelling;
 pub mod tables;
 pub mod types;

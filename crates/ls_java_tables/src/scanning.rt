@@ -1,34 +1,34 @@
 // What a file's tokens show: which classes are made, and at which types generic ones are used.
 
 use crate::restater::Restater;
+use crate::shapes::Shape;
 use crate::words::{WordId, Words};
-use ls_java_lexer::token::TokenKind;
 use ls_lexer::sign::Sign;
 use ls_lexer::word::Word;
 use std::alloc::AllocError;
 
-/// What a token is. Behind the last one is the end.
-pub fn kind_at<'a>(restater: &Restater<'a>, token: usize) -> TokenKind<'a> {
-    match restater.tokens.get(token) {
-        Some(token) => token.kind,
-        None => TokenKind::End,
+/// What a token is. Behind the last one is nothing.
+pub fn shape_at(restater: &Restater, token: usize) -> Shape {
+    match restater.shapes.get(token) {
+        Some(shape) => *shape,
+        None => Shape::Other,
     }
 }
 
 /// Whether a token is this sign.
 pub fn is_sign(restater: &Restater, token: usize, sign: Sign) -> bool {
-    matches!(kind_at(restater, token), TokenKind::Sign(other) if other == sign)
+    matches!(shape_at(restater, token), Shape::Sign(other) if other == sign)
 }
 
 /// Whether a token is this reserved word.
 pub fn is_word(restater: &Restater, token: usize, word: Word) -> bool {
-    matches!(kind_at(restater, token), TokenKind::Word(other) if other == word)
+    matches!(shape_at(restater, token), Shape::Word(other) if other == word)
 }
 
 // The last name of `first.second.third`, which begins at a token.
 fn last_name(restater: &Restater, first: usize) -> usize {
     let mut token = first;
-    for _ in 0..restater.tokens.len() {
+    for _ in 0..restater.shapes.len() {
         if !is_sign(restater, token.saturating_add(1), Sign::Dot) {
             break;
         }
@@ -39,7 +39,7 @@ fn last_name(restater: &Restater, first: usize) -> usize {
 
 /// Whether the file makes an object of a class: it says `new`, the name, and no `[`.
 pub fn is_made(restater: &Restater, name: WordId) -> bool {
-    (0..restater.tokens.len()).any(|token| {
+    (0..restater.shapes.len()).any(|token| {
         is_word(restater, token, Word::New)
             && {
                 let last = last_name(restater, token.saturating_add(1));
@@ -72,31 +72,30 @@ struct Cursor {
 // What a token of arguments does. The answer is whether an argument ends with it, or nothing if no list of types has
 // such a token.
 fn step(restater: &Restater, at: &mut Cursor) -> Option<bool> {
-    match kind_at(restater, at.token) {
-        TokenKind::Name(_) => {
+    match shape_at(restater, at.token) {
+        Shape::Name => {
             if at.depth == 1 {
                 at.name = restater.words.at(at.token);
             }
             Some(false)
         }
-        TokenKind::Sign(Sign::Less) => {
+        Shape::Sign(Sign::Less) => {
             at.depth = at.depth.saturating_add(1);
             Some(false)
         }
-        TokenKind::Sign(Sign::Greater) => {
+        Shape::Sign(Sign::Greater) => {
             at.depth = at.depth.saturating_sub(1);
             Some(at.depth == 0)
         }
-        TokenKind::Sign(Sign::Comma) => Some(at.depth == 1),
-        TokenKind::Sign(Sign::OpenBracket) => {
+        Shape::Sign(Sign::Comma) => Some(at.depth == 1),
+        Shape::Sign(Sign::OpenBracket) => {
             at.is_array = true;
             Some(false)
         }
-        TokenKind::Sign(Sign::CloseBracket | Sign::Dot | Sign::Question | Sign::BitAnd) => Some(
+        Shape::Sign(Sign::CloseBracket | Sign::Dot | Sign::Question | Sign::BitAnd) => Some(false),
+        Shape::Word(Word::Int | Word::Boolean | Word::Long | Word::Extends | Word::Super) => Some(
             false,
         ),
-        TokenKind::Word(Word::Int | Word::Boolean | Word::Long | Word::Extends | Word::Super) =>
-            Some(false),
         _ => None,
     }
 }
@@ -114,7 +113,7 @@ pub fn arguments_at(
         name: Words::NONE,
         is_array: false,
     };
-    for _ in 0..restater.tokens.len() {
+    for _ in 0..restater.shapes.len() {
         let Some(ends) = step(restater, &mut at) else {
             return Ok(());
         };
@@ -142,8 +141,8 @@ pub fn arguments_at(
 /// The arguments of generic classes in the whole file.
 pub fn all_arguments(restater: &Restater) -> Result<Vec<Argument>, AllocError> {
     let mut found = Vec::new(restater.alloc);
-    for token in 0..restater.tokens.len() {
-        let named = matches!(kind_at(restater, token), TokenKind::Name(_));
+    for token in 0..restater.shapes.len() {
+        let named = matches!(shape_at(restater, token), Shape::Name);
         if named && is_sign(restater, token.saturating_add(1), Sign::Less) {
             arguments_at(restater, token, &mut found)?;
         }

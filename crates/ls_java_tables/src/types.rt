@@ -8,39 +8,40 @@ use crate::remarks::{Stop, What, Why};
 use crate::restater::{Restater, deeper, fresh, name_of, note, note_word, refuse, refuse_word};
 use crate::ropes::Text;
 use crate::spelling::{phrase, say, say_word, word};
+use crate::tables::VariableRun;
 use crate::values::{Element, Kind};
 use crate::words::WordId;
 use ls_java_tree::names::{Name, Primitive};
-use ls_java_tree::types::{ClassType, Type, TypeKind, TypeParameter};
+use ls_java_tree::types::{ClassType, Type, TypeKind};
 
 /// The greatest number of types in one another.
 pub const TYPE_LIMIT: usize = 64;
 
 /// Where a type stands: in a class, and in a method or a constructor with type parameters.
 #[derive(Clone, Copy)]
-pub struct Site<'t> {
+pub struct Site {
     pub class: usize,
-    pub variables: &'t [TypeParameter],
+    pub variables: VariableRun,
 }
 
 /// Where restating is, as a place of types.
-pub fn site_here<'a>(restater: &Restater<'a>) -> Site<'a> {
+pub fn site_here(restater: &Restater) -> Site {
     let class = restater.place.class;
     if let Some(number) = restater.place.method {
         if let Some(method) = restater.tables.methods.get(number) {
-            let variables = &method.tree.type_parameters;
+            let variables = method.type_variables;
             return Site { class, variables };
         }
     }
     if let Some(number) = restater.place.constructor {
         if let Some(constructor) = restater.tables.constructors.get(number) {
-            let variables = &constructor.tree.type_parameters;
+            let variables = constructor.type_variables;
             return Site { class, variables };
         }
     }
     Site {
         class,
-        variables: &[],
+        variables: VariableRun::NONE,
     }
 }
 
@@ -158,6 +159,18 @@ pub fn variable_kind(restater: &Restater, from: usize, name: WordId) -> Option<K
     None
 }
 
+// Whether a name is that of a type parameter of a method or a constructor.
+fn is_variable(restater: &Restater, variables: VariableRun, name: WordId) -> bool {
+    for number in variables.first..variables.end {
+        if let Some(known) = restater.tables.type_variables.get(number) {
+            if *known == name {
+                return true;
+            }
+        }
+    }
+    false
+}
+
 // A class or a type variable (JLS 4.3): of the method, of a class, a class of the file, or one of the library.
 fn class_kind(
     restater: &mut Restater,
@@ -166,10 +179,8 @@ fn class_kind(
     argument: Option<Kind>,
 ) -> Result<Kind, Stop> {
     let name = name_of(restater, &class.name);
-    for variable in site.variables {
-        if name_of(restater, &variable.name) == name {
-            return Ok(Kind::Item);
-        }
+    if is_variable(restater, site.variables, name) {
+        return Ok(Kind::Item);
     }
     if let Some(kind) = variable_kind(restater, site.class, name) {
         return Ok(kind);
