@@ -11,9 +11,10 @@ use crate::writing::emit;
 use ls_java_tables::constants::fold;
 use ls_java_tables::finding::{class_here, field_of};
 use ls_java_tables::halves::own_name;
+use ls_java_tables::kept::{Depth, kept_list};
 use ls_java_tables::kinds::kind_of_element;
 use ls_java_tables::remarks::{Stop, Why};
-use ls_java_tables::restater::{Restater, is_named, kept_trees, local_of, name_of, refuse};
+use ls_java_tables::restater::{Restater, is_named, local_of, name_of, refuse};
 use ls_java_tables::ropes::Text;
 use ls_java_tables::tables::Field;
 use ls_java_tables::types::{kind_here, kind_with_brackets};
@@ -24,11 +25,11 @@ use ls_java_tree::types::Type;
 /// A new object (JLS 15.9).
 #[cycle(expressions)]
 pub(crate) fn creation<'a>(
-    restater: &mut Restater<'a>,
+    restater: &mut Restater,
     out: &mut Text,
     tree: &'a Expression,
     wanted: Option<Kind>,
-    limit: usize,
+    depth: Depth<'a>,
 ) -> Result<Value, Stop> {
     let at = tree.span.first;
     let ExpressionKind::New {
@@ -45,15 +46,15 @@ pub(crate) fn creation<'a>(
     let wanted_class = name_of(restater, &named.name);
     let found = class_here(restater, wanted_class);
     if found.is_none() && is_named(&named.name, "ThreadLocal") {
-        let first = initial_value(restater, *body);
-        return thread_local(restater, out, at, wanted, first, limit);
+        let first = initial_value(restater, *body, depth);
+        return thread_local(restater, out, at, wanted, first, depth);
     }
     if body.is_some() {
         return refuse(restater, at, Why::Anonymous);
     }
-    let values = operands(restater, out, at, arguments, limit)?;
+    let values = operands(restater, out, at, arguments, depth)?;
     match found {
-        Some(class) => object(restater, out, at, class, values, limit),
+        Some(class) => object(restater, out, at, class, values, depth),
         None => {
             let kind = made_kind(restater, class, wanted)?;
             new_library(restater, at, &named.name, kind, &values)
@@ -65,32 +66,36 @@ pub(crate) fn creation<'a>(
 // call.
 #[cycle(expressions)]
 fn object<'a>(
-    restater: &mut Restater<'a>,
+    restater: &mut Restater,
     out: &mut Text,
     at: usize,
     class: usize,
     arguments: Vec<Value>,
-    limit: usize,
+    depth: Depth<'a>,
 ) -> Result<Value, Stop> {
     let mut values = arguments;
     for _ in 0..=restater.tables.constructors.len() {
         let Some(number) = chosen(restater, at, class, &values)? else {
             return without_constructor(restater, at, class, &values);
         };
-        let Some(others) = delegate_of(restater, number) else {
+        let Some(others) = delegate_of(restater, number, depth) else {
             return by_constructor(restater, out, at, class, number, &values);
         };
         let outside = enter_delegate(restater, out, at, number, &values)?;
-        values = operands(restater, out, at, others, limit)?;
+        values = operands(restater, out, at, others, depth)?;
         leave_delegate(restater, outside);
     }
     refuse(restater, at, Why::ThisCircle)
 }
 
 // The value that `initialValue` returns in the body of an anonymous ThreadLocal.
-fn initial_value<'a>(restater: &Restater<'a>, body: Option<usize>) -> Option<&'a Expression> {
+fn initial_value<'a>(
+    restater: &Restater,
+    body: Option<usize>,
+    depth: Depth<'a>,
+) -> Option<&'a Expression> {
     let number = *restater.tables.returned.get(body?)?;
-    kept_trees(restater, number?).first()
+    kept_list(depth, number?).first()
 }
 
 // Whether an expression has the same value from here on: a constant; a local, which a lambda or a class in a method
@@ -158,12 +163,12 @@ fn is_default(restater: &Restater, tree: &Expression) -> bool {
 /// A new ThreadLocal: an array by the thread's number, with the value that each thread finds first.
 #[cycle(expressions)]
 pub(crate) fn thread_local<'a>(
-    restater: &mut Restater<'a>,
+    restater: &mut Restater,
     out: &mut Text,
     at: usize,
     wanted: Option<Kind>,
     first: Option<&'a Expression>,
-    limit: usize,
+    depth: Depth<'a>,
 ) -> Result<Value, Stop> {
     let Some(Kind::ThreadLocal(element)) = wanted else {
         return refuse(restater, at, Why::LocalThreadLocal);
@@ -179,7 +184,7 @@ pub(crate) fn thread_local<'a>(
         return refuse(restater, first.span.first, Why::FirstValue);
     }
     let index = each_thread(restater, out, at)?;
-    let value = expression(restater, out, first, limit)?;
+    let value = expression(restater, out, first, depth)?;
     let value = as_kind(restater, at, value, kind_of_element(element))?;
     let parts = [array.text, index.text, value.text];
     emit(restater, out, at, "# . set ( # , # ) ; }", &parts)?;
@@ -202,11 +207,11 @@ fn array_kind(
 /// A new array, by its lengths or by its items (JLS 15.10, 10.6).
 #[cycle(expressions)]
 pub(crate) fn array<'a>(
-    restater: &mut Restater<'a>,
+    restater: &mut Restater,
     out: &mut Text,
     tree: &'a Expression,
     wanted: Option<Kind>,
-    limit: usize,
+    depth: Depth<'a>,
 ) -> Result<Value, Stop> {
     let at = tree.span.first;
     match &tree.kind {
@@ -216,7 +221,7 @@ pub(crate) fn array<'a>(
             open,
         } => {
             let mut all = Vec::new(restater.alloc);
-            parts(restater, &mut all, lengths, limit)?;
+            parts(restater, &mut all, lengths, depth)?;
             let dimensions = lengths.len().saturating_add(*open);
             let kind = array_kind(restater, item, dimensions, wanted)?;
             sized(restater, out, at, kind, &all)
@@ -227,7 +232,7 @@ pub(crate) fn array<'a>(
                 (None, Some(kind)) => kind,
                 (None, None) => return refuse(restater, at, Why::ItemsHere),
             };
-            with_items(restater, out, at, kind, items, limit)
+            with_items(restater, out, at, kind, items, depth)
         }
         _ => refuse(restater, at, Why::Other),
     }
@@ -236,19 +241,19 @@ pub(crate) fn array<'a>(
 // A new array with these items.
 #[cycle(expressions)]
 fn with_items<'a>(
-    restater: &mut Restater<'a>,
+    restater: &mut Restater,
     out: &mut Text,
     at: usize,
     kind: Kind,
     items: &'a [Expression],
-    limit: usize,
+    depth: Depth<'a>,
 ) -> Result<Value, Stop> {
     let Kind::Array(element) = kind else {
         return refuse(restater, at, Why::ItemsHere);
     };
     let array = begin_items(restater, out, at, kind, items.len())?;
     for (place, item) in items.iter().enumerate() {
-        let one = part_as(restater, item, kind_of_element(element), limit)?;
+        let one = part_as(restater, item, kind_of_element(element), depth)?;
         add_item(restater, out, array, place, one)?;
     }
     Ok(array)

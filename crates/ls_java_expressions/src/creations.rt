@@ -6,12 +6,13 @@ use crate::parts::{as_kind, keep, keep_as, keep_reading};
 use crate::writing::{emit, write};
 use ls_java_tables::choosing::{choose_constructor, has_constructor};
 use ls_java_tables::finding::{object_of, outer_kind};
+use ls_java_tables::kept::{Depth, kept_list};
 use ls_java_tables::library::is_generic;
 use ls_java_tables::needs::{Helper, Operation, use_operation};
 use ls_java_tables::remarks::{Stop, What, Why};
 use ls_java_tables::restater::{
-    Local, Place, Restater, declare, fresh, is_handed_outer, is_handed_statics, kept_trees, leave,
-    mark, name_of, note, refuse, refuse_word,
+    Local, Place, Restater, declare, fresh, is_handed_outer, is_handed_statics, leave, mark,
+    name_of, note, refuse, refuse_word,
 };
 use ls_java_tables::ropes::Text;
 use ls_java_tables::spelling::{literal, phrase, value_of, word};
@@ -90,12 +91,16 @@ pub fn chosen(
 }
 
 /// The arguments of the `this(..)` that a constructor is, if its class has no other constructors with bodies.
-pub fn delegate_of<'a>(restater: &Restater<'a>, number: usize) -> Option<&'a [Expression]> {
+pub fn delegate_of<'a>(
+    restater: &Restater,
+    number: usize,
+    depth: Depth<'a>,
+) -> Option<&'a [Expression]> {
     let constructor = restater.tables.constructors.get(number)?;
     if is_several(restater, constructor.class) {
         return None;
     }
-    Some(kept_trees(restater, constructor.delegate?))
+    Some(kept_list(depth, constructor.delegate?))
 }
 
 // Whether the constructors of a class are methods.

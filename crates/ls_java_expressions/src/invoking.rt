@@ -9,6 +9,7 @@ use crate::receivers::{Receiver, receiver_of};
 use crate::simple::{printing, thread_call};
 use crate::statics::{evaluated, static_call};
 use crate::waiting::condition_call;
+use ls_java_tables::kept::Depth;
 use ls_java_tables::remarks::{Stop, Why};
 use ls_java_tables::restater::{Local, Restater, declare, is_named, leave, mark, name_of, refuse};
 use ls_java_tables::ropes::Text;
@@ -20,11 +21,11 @@ use std::alloc::AllocError;
 /// A call.
 #[cycle(expressions)]
 pub(crate) fn call<'a>(
-    restater: &mut Restater<'a>,
+    restater: &mut Restater,
     out: &mut Text,
     tree: &'a Expression,
     wanted: Option<Kind>,
-    limit: usize,
+    depth: Depth<'a>,
 ) -> Result<Value, Stop> {
     let at = tree.span.first;
     let ExpressionKind::Call {
@@ -36,21 +37,21 @@ pub(crate) fn call<'a>(
     else {
         return refuse(restater, at, Why::Other);
     };
-    match receiver_of(restater, target.as_deref()) {
+    match receiver_of(restater, target.as_deref(), depth) {
         Receiver::Own => {
-            let values = operands(restater, out, at, arguments, limit)?;
+            let values = operands(restater, out, at, arguments, depth)?;
             own_call(restater, out, name, &values)
         }
-        Receiver::Class(class) => class_call(restater, out, tree, class, wanted, limit),
+        Receiver::Class(class) => class_call(restater, out, tree, class, wanted, depth),
         Receiver::Printing => printing(restater, name, arguments),
         Receiver::ThisThread => thread_call(restater, name),
         Receiver::Condition(lock) => {
-            let lock = expression(restater, out, lock, limit)?;
+            let lock = expression(restater, out, lock, depth)?;
             condition_call(restater, out, name, lock, !arguments.is_empty())
         }
         Receiver::Object(object) => {
-            let first = part(restater, object, limit)?;
-            called(restater, out, tree, first, limit)
+            let first = part(restater, object, depth)?;
+            called(restater, out, tree, first, depth)
         }
     }
 }
@@ -74,12 +75,12 @@ fn supplied(arguments: &[Expression]) -> Option<&Expression> {
 // A static method of a class.
 #[cycle(expressions)]
 fn class_call<'a>(
-    restater: &mut Restater<'a>,
+    restater: &mut Restater,
     out: &mut Text,
     tree: &'a Expression,
     class: &'a Name,
     wanted: Option<Kind>,
-    limit: usize,
+    depth: Depth<'a>,
 ) -> Result<Value, Stop> {
     let at = tree.span.first;
     let ExpressionKind::Call {
@@ -92,7 +93,7 @@ fn class_call<'a>(
     };
     let arguments = arguments.as_slice();
     if is_first_value(class, name) {
-        return thread_local(restater, out, at, wanted, supplied(arguments), limit);
+        return thread_local(restater, out, at, wanted, supplied(arguments), depth);
     }
     let count = evaluated(class, name, arguments.len());
     let arguments = if count < arguments.len() {
@@ -100,18 +101,18 @@ fn class_call<'a>(
     } else {
         arguments
     };
-    let values = operands(restater, out, at, arguments, limit)?;
+    let values = operands(restater, out, at, arguments, depth)?;
     static_call(restater, out, class, name, &values)
 }
 
 // A call of an object's method, whose object is restated.
 #[cycle(expressions)]
 fn called<'a>(
-    restater: &mut Restater<'a>,
+    restater: &mut Restater,
     out: &mut Text,
     tree: &'a Expression,
     object: Part,
-    limit: usize,
+    depth: Depth<'a>,
 ) -> Result<Value, Stop> {
     let at = tree.span.first;
     let ExpressionKind::Call {
@@ -128,12 +129,12 @@ fn called<'a>(
         held_kind(object.value.kind),
         update_of(arguments),
     ) {
-        parts(restater, &mut all, operands, limit)?;
+        parts(restater, &mut all, operands, depth)?;
         let values = settle(restater, out, at, &all)?;
         let update = begin(restater, out, at, &values, kind, update)?;
-        return updated(restater, out, name, update, limit);
+        return updated(restater, out, name, update, depth);
     }
-    parts(restater, &mut all, arguments, limit)?;
+    parts(restater, &mut all, arguments, depth)?;
     let values = settle(restater, out, at, &all)?;
     match values.as_slice() {
         [object, others @ ..] => object_call(restater, out, name, *object, others),
@@ -285,15 +286,15 @@ fn applied(
 // `updateAndGet` and its like: a loop with `compareAndSet`, since the function may be applied again.
 #[cycle(expressions)]
 fn updated<'a>(
-    restater: &mut Restater<'a>,
+    restater: &mut Restater,
     out: &mut Text,
     name: &'a Name,
     update: Update<'a>,
-    limit: usize,
+    depth: Depth<'a>,
 ) -> Result<Value, Stop> {
     let at = name.token;
     let value = match update.function {
-        Function::Lambda { body, .. } => expression(restater, out, body, limit)?,
+        Function::Lambda { body, .. } => expression(restater, out, body, depth)?,
         Function::Static { class, method } => applied(restater, out, update, class, method)?,
     };
     set_new(restater, out, at, update.new, value)?;

@@ -2,7 +2,8 @@
 
 use crate::members::type_name;
 use ls_java_tables::halves::own_name;
-use ls_java_tables::restater::{Restater, is_named, kept_trees, local_of, name_of};
+use ls_java_tables::kept::{Depth, kept_list};
+use ls_java_tables::restater::{Restater, is_named, local_of, name_of};
 use ls_java_tree::expressions::{Expression, ExpressionKind};
 use ls_java_tree::names::Name;
 use std::alloc::AllocError;
@@ -26,7 +27,11 @@ impl<'t> Clone for Receiver<'t> {
 }
 
 // The lock of the condition that an expression is.
-fn condition_lock<'a>(restater: &Restater<'a>, target: &Expression) -> Option<&'a Expression> {
+fn condition_lock<'a>(
+    restater: &Restater,
+    target: &Expression,
+    depth: Depth<'a>,
+) -> Option<&'a Expression> {
     let name = name_of(restater, own_name(target)?);
     if local_of(restater, name).is_some() {
         return None;
@@ -36,7 +41,7 @@ fn condition_lock<'a>(restater: &Restater<'a>, target: &Expression) -> Option<&'
     let found = conditions
         .iter()
         .find(|one| one.class == class && one.name == name)?;
-    kept_trees(restater, found.lock).first()
+    kept_list(depth, found.lock).first()
 }
 
 // What a call is of whose target is a field of something: `System.out`, `TimeUnit.SECONDS`.
@@ -59,11 +64,15 @@ fn is_this_thread(target: &Expression) -> bool {
 }
 
 /// What a call is of.
-pub fn receiver_of<'a>(restater: &Restater<'a>, target: Option<&'a Expression>) -> Receiver<'a> {
+pub fn receiver_of<'a>(
+    restater: &Restater,
+    target: Option<&'a Expression>,
+    depth: Depth<'a>,
+) -> Receiver<'a> {
     let Some(target) = target else {
         return Receiver::Own;
     };
-    if let Some(lock) = condition_lock(restater, target) {
+    if let Some(lock) = condition_lock(restater, target, depth) {
         return Receiver::Condition(lock);
     }
     if library_field(restater, target) {

@@ -9,9 +9,10 @@ use crate::members::{member, type_name};
 use crate::parts::keep;
 use crate::simple::has_effect;
 use crate::writing::emit;
+use ls_java_tables::kept::{Depth, down};
 use ls_java_tables::kinds::kind_of_element;
 use ls_java_tables::remarks::{Stop, Why};
-use ls_java_tables::restater::{Restater, deeper, is_named, refuse};
+use ls_java_tables::restater::{Restater, is_named, refuse};
 use ls_java_tables::ropes::Text;
 use ls_java_tables::spelling::nothing;
 use ls_java_tables::values::{Kind, PRIMARY, Sort, Value};
@@ -36,24 +37,24 @@ fn element_kind(restater: &mut Restater, at: usize, array: Value) -> Result<Kind
 /// What is assigned to, with its parts.
 #[cycle(expressions)]
 fn target_of<'a>(
-    restater: &mut Restater<'a>,
+    restater: &mut Restater,
     tree: &'a Expression,
-    limit: usize,
+    depth: Depth<'a>,
 ) -> Result<Target<'a>, Stop> {
     let at = tree.span.first;
     match &tree.kind {
         ExpressionKind::Paren(target) => {
-            let inner = deeper(limit)?;
+            let inner = down(depth)?;
             target_of(restater, target, inner)
         }
         ExpressionKind::Item { array, index } => {
-            let array = part(restater, array, limit)?;
-            let index = part(restater, index, limit)?;
+            let array = part(restater, array, depth)?;
+            let index = part(restater, index, depth)?;
             let kind = element_kind(restater, at, array.value)?;
             Ok(Target::Element { array, index, kind })
         }
         ExpressionKind::Field { target, name } if type_name(restater, target).is_none() => {
-            let object = part(restater, target, limit)?;
+            let object = part(restater, target, depth)?;
             let found = member(restater, object.value, name)?;
             check_variable(restater, at, found)?;
             let kind = found.kind;
@@ -61,7 +62,7 @@ fn target_of<'a>(
         }
         _ => {
             let mut before = Text::EMPTY;
-            let variable = expression(restater, &mut before, tree, limit)?;
+            let variable = expression(restater, &mut before, tree, depth)?;
             check_variable(restater, at, variable)?;
             Ok(Target::Variable { variable })
         }
@@ -79,11 +80,11 @@ fn is_condition(tree: &Expression) -> bool {
 /// An assignment, as a value or as a statement.
 #[cycle(expressions)]
 pub(crate) fn assignment<'a>(
-    restater: &mut Restater<'a>,
+    restater: &mut Restater,
     out: &mut Text,
     tree: &'a Expression,
     is_value: bool,
-    limit: usize,
+    depth: Depth<'a>,
 ) -> Result<Value, Stop> {
     let at = tree.span.first;
     let ExpressionKind::Assign {
@@ -97,12 +98,12 @@ pub(crate) fn assignment<'a>(
     if operator.is_none() && is_condition(value) {
         return Ok(nothing());
     }
-    let place = target_of(restater, target, limit)?;
+    let place = target_of(restater, target, depth)?;
     let Some(operator) = operator else {
-        let right = part_as(restater, value, target_kind(place), limit)?;
+        let right = part_as(restater, value, target_kind(place), depth)?;
         return assigned(restater, out, at, place, right, is_value);
     };
-    let right = part(restater, value, limit)?;
+    let right = part(restater, value, depth)?;
     if is_value {
         compound_value(restater, out, at, place, *operator, right)
     } else {
@@ -113,17 +114,17 @@ pub(crate) fn assignment<'a>(
 /// `++` or `--`, as a value or as a statement.
 #[cycle(expressions)]
 pub(crate) fn count<'a>(
-    restater: &mut Restater<'a>,
+    restater: &mut Restater,
     out: &mut Text,
     tree: &'a Expression,
     is_value: bool,
-    limit: usize,
+    depth: Depth<'a>,
 ) -> Result<Value, Stop> {
     let at = tree.span.first;
     let ExpressionKind::Count { count, target } = &tree.kind else {
         return refuse(restater, at, Why::Other);
     };
-    let place = target_of(restater, target, limit)?;
+    let place = target_of(restater, target, depth)?;
     if is_value {
         count_value(restater, out, at, place, *count)
     } else {
@@ -145,23 +146,23 @@ fn finish(restater: &mut Restater, out: &mut Text, at: usize, value: Value) -> R
 
 /// An expression that is a statement (JLS 14.8).
 pub fn effect<'a>(
-    restater: &mut Restater<'a>,
+    restater: &mut Restater,
     out: &mut Text,
     tree: &'a Expression,
-    limit: usize,
+    depth: Depth<'a>,
 ) -> Result<(), Stop> {
     let at = tree.span.first;
     match &tree.kind {
         ExpressionKind::Paren(written) => {
-            let inner = deeper(limit)?;
+            let inner = down(depth)?;
             effect(restater, out, written, inner)
         }
         ExpressionKind::Assign { .. } => {
-            assignment(restater, out, tree, false, limit)?;
+            assignment(restater, out, tree, false, depth)?;
             Ok(())
         }
         ExpressionKind::Count { .. } => {
-            count(restater, out, tree, false, limit)?;
+            count(restater, out, tree, false, depth)?;
             Ok(())
         }
         ExpressionKind::ConstructorCall {
@@ -174,11 +175,11 @@ pub fn effect<'a>(
             refuse(restater, at, Why::SuperHere)
         }
         ExpressionKind::ConstructorCall { arguments, .. } => {
-            let values = operands(restater, out, at, arguments, limit)?;
+            let values = operands(restater, out, at, arguments, depth)?;
             this_call(restater, out, at, &values)
         }
         _ => {
-            let value = expression(restater, out, tree, limit)?;
+            let value = expression(restater, out, tree, depth)?;
             finish(restater, out, at, value)
         }
     }

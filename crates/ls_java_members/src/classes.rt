@@ -3,7 +3,9 @@
 use crate::constructors::{Head, all_constructors, plain_constructor, written_class};
 use crate::fields::all_fields;
 use crate::methods::all_methods;
-use crate::places::{handed, keep_unless_refused, next_sign, say_handed_fields, say_modifiers};
+use crate::places::{
+    Trees, handed, keep_unless_refused, next_sign, say_handed_fields, say_modifiers,
+};
 use ls_java_expressions::writing::emit;
 use ls_java_tables::finding::{class_at, is_split, outer_of};
 use ls_java_tables::remarks::{Stop, What};
@@ -11,7 +13,8 @@ use ls_java_tables::restater::{Restater, is_handed_outer, is_waited_on, note_wor
 use ls_java_tables::ropes::Text;
 use ls_java_tables::spelling::{append, say, say_word, word};
 use ls_java_tables::values::Kind;
-use ls_java_tree::declarations::{Body, File, Member, TypeDeclaration};
+use ls_java_tree::declarations::{File, Member, TypeDeclaration};
+use ls_java_tree::expressions::Expression;
 use ls_lexer::sign::Sign;
 
 // The head of a class: modifiers, `class`, its name and a brace.
@@ -46,9 +49,9 @@ fn say_class(
 
 // A class that isn't split, or the class of the objects of one that is.
 fn objects<'a>(
-    restater: &mut Restater<'a>,
+    restater: &mut Restater,
     out: &mut Text,
-    bodies: &'a [Body],
+    trees: Trees<'a>,
     class: usize,
     tree: &'a TypeDeclaration,
 ) -> Result<(), Stop> {
@@ -62,7 +65,7 @@ fn objects<'a>(
     }
     say_class(restater, out, kind, tree, inner)?;
     say_handed_fields(restater, out, &handed, token)?;
-    let fields = all_fields(restater, tree, class, false, !handed.is_empty())?;
+    let fields = all_fields(restater, trees, tree, class, false, !handed.is_empty())?;
     append(restater, out, fields.declared)?;
     let head = Head {
         class,
@@ -71,23 +74,23 @@ fn objects<'a>(
         handed: &handed,
         fields,
     };
-    all_constructors(restater, out, head, tree)?;
-    all_methods(restater, out, bodies, tree, false)?;
+    all_constructors(restater, out, trees, head, tree)?;
+    all_methods(restater, out, trees, tree, false)?;
     say(restater, out, "}", tree.span.last)
 }
 
 // The class of the static members of a class that is split.
 fn statics<'a>(
-    restater: &mut Restater<'a>,
+    restater: &mut Restater,
     out: &mut Text,
-    bodies: &'a [Body],
+    trees: Trees<'a>,
     class: usize,
     tree: &'a TypeDeclaration,
 ) -> Result<(), Stop> {
     let kind = Kind::Statics(class);
     let inner = outer_of(restater, class).is_some();
     say_class(restater, out, kind, tree, inner)?;
-    let fields = all_fields(restater, tree, class, true, false)?;
+    let fields = all_fields(restater, trees, tree, class, true, false)?;
     append(restater, out, fields.declared)?;
     let head = Head {
         class,
@@ -97,50 +100,58 @@ fn statics<'a>(
         fields,
     };
     plain_constructor(restater, out, head)?;
-    all_methods(restater, out, bodies, tree, true)?;
+    all_methods(restater, out, trees, tree, true)?;
     say(restater, out, "}", tree.span.last)
 }
 
 // The class of a number.
 fn class<'a>(
-    restater: &mut Restater<'a>,
+    restater: &mut Restater,
     out: &mut Text,
-    bodies: &'a [Body],
+    trees: Trees<'a>,
     number: usize,
     tree: &'a TypeDeclaration,
 ) -> Result<(), Stop> {
     if is_split(restater, number) {
-        statics(restater, out, bodies, number, tree)?;
+        statics(restater, out, trees, number, tree)?;
     }
-    objects(restater, out, bodies, number, tree)
+    objects(restater, out, trees, number, tree)
 }
 
 // A class, if it isn't left out, and those that stand in it.
 fn classes<'a>(
-    restater: &mut Restater<'a>,
+    restater: &mut Restater,
     out: &mut Text,
-    bodies: &'a [Body],
+    trees: Trees<'a>,
     tree: &'a TypeDeclaration,
 ) -> Result<(), Stop> {
     let Some(number) = class_at(restater, tree.head.name.token) else {
         return Ok(());
     };
     let before = *out;
-    let done = class(restater, out, bodies, number, tree);
+    let done = class(restater, out, trees, number, tree);
     keep_unless_refused(done, out, before)?;
     for member in &tree.members {
         if let Member::Type(inner) = member {
-            classes(restater, out, bodies, inner)?;
+            classes(restater, out, trees, inner)?;
         }
     }
     Ok(())
 }
 
 /// All classes of the file, in its order.
-pub fn all_classes<'a>(restater: &mut Restater<'a>, file: &'a File) -> Result<Text, Stop> {
+pub fn all_classes<'a>(
+    restater: &mut Restater,
+    file: &'a File,
+    lists: &'a [&'a [Expression]],
+) -> Result<Text, Stop> {
+    let trees = Trees {
+        bodies: &file.bodies,
+        lists,
+    };
     let mut out = Text::EMPTY;
     for tree in &file.types {
-        classes(restater, &mut out, &file.bodies, tree)?;
+        classes(restater, &mut out, trees, tree)?;
     }
     Ok(out)
 }

@@ -2,8 +2,8 @@
 
 use crate::fields::Fields;
 use crate::places::{
-    enter_member, keep_unless_refused, say_handed_parameters, say_handed_stores, say_modifiers,
-    say_parameters,
+    Trees, enter_member, keep_unless_refused, say_handed_parameters, say_handed_stores,
+    say_modifiers, say_parameters,
 };
 use ls_java_statements::bodies::body;
 use ls_java_tables::finding::constructor_at;
@@ -55,8 +55,9 @@ fn kinds_of(restater: &Restater, number: usize) -> Result<Vec<Kind>, Stop> {
 
 // The only constructor of a class.
 fn only_constructor<'a>(
-    restater: &mut Restater<'a>,
+    restater: &mut Restater,
     out: &mut Text,
+    trees: Trees<'a>,
     head: Head,
     number: usize,
     tree: &'a ConstructorTree,
@@ -72,14 +73,15 @@ fn only_constructor<'a>(
     say(restater, out, "{", tree.body.span.first)?;
     say_handed_stores(restater, out, head.handed, tree.body.span.first)?;
     append(restater, out, head.fields.late)?;
-    body(restater, out, &tree.body)?;
+    body(restater, out, &tree.body, trees.lists)?;
     say(restater, out, "}", tree.body.span.last)
 }
 
 // The method of one of several constructors.
 fn making_method<'a>(
-    restater: &mut Restater<'a>,
+    restater: &mut Restater,
     out: &mut Text,
+    trees: Trees<'a>,
     head: Head,
     number: usize,
     tree: &'a ConstructorTree,
@@ -95,14 +97,15 @@ fn making_method<'a>(
     say_parameters(restater, out, &tree.parameters, &kinds, false)?;
     say(restater, out, ")", tree.name.token)?;
     say(restater, out, "{", tree.body.span.first)?;
-    body(restater, out, &tree.body)?;
+    body(restater, out, &tree.body, trees.lists)?;
     say(restater, out, "return this ; }", tree.body.span.last)
 }
 
 // One constructor of a class, which may have several.
 fn constructor<'a>(
-    restater: &mut Restater<'a>,
+    restater: &mut Restater,
     out: &mut Text,
+    trees: Trees<'a>,
     head: Head,
     number: usize,
     tree: &'a ConstructorTree,
@@ -112,9 +115,9 @@ fn constructor<'a>(
     let several = has_several(restater, head.class);
     if several {
         restater.place.result = Kind::Class(head.class);
-        making_method(restater, out, head, number, tree)
+        making_method(restater, out, trees, head, number, tree)
     } else {
-        only_constructor(restater, out, head, number, tree)
+        only_constructor(restater, out, trees, head, number, tree)
     }
 }
 
@@ -138,8 +141,9 @@ fn written_number(restater: &Restater, tree: &ConstructorTree, several: bool) ->
 
 /// The constructors of a class. One that only calls another is left out where there is only one other.
 pub(crate) fn all_constructors<'a>(
-    restater: &mut Restater<'a>,
+    restater: &mut Restater,
     out: &mut Text,
+    trees: Trees<'a>,
     head: Head,
     class: &'a TypeDeclaration,
 ) -> Result<(), Stop> {
@@ -157,7 +161,7 @@ pub(crate) fn all_constructors<'a>(
         }
         written = true;
         let before = *out;
-        let done = constructor(restater, out, head, number, tree);
+        let done = constructor(restater, out, trees, head, number, tree);
         keep_unless_refused(done, out, before)?;
     }
     if !written {

@@ -1,11 +1,12 @@
 // Fields and initialisers (JLS 8.3, 8.6, 12.5).
 
-use crate::places::{enter_member, keep_unless_refused, say_modifiers};
-use ls_java_expressions::expressions::expression_as;
+use crate::places::{Trees, enter_member, keep_unless_refused, say_modifiers};
+use ls_java_expressions::expressions::{EXPRESSION_LIMIT, expression_as};
 use ls_java_expressions::writing::emit;
 use ls_java_statements::bodies::body;
 use ls_java_tables::collecting::flags_of;
 use ls_java_tables::finding::is_split;
+use ls_java_tables::kept::Depth;
 use ls_java_tables::remarks::{Stop, What};
 use ls_java_tables::restater::{Restater, note_word};
 use ls_java_tables::ropes::Text;
@@ -69,7 +70,8 @@ fn say_field(
 // A field with its value: where it is declared, or in the constructor if an earlier initialiser is there or the value
 // needs statements.
 fn valued_field<'a>(
-    restater: &mut Restater<'a>,
+    restater: &mut Restater,
+    trees: Trees<'a>,
     fields: &mut Fields,
     tree: &Declaration,
     value: Option<&'a Expression>,
@@ -79,7 +81,11 @@ fn valued_field<'a>(
         return say_field(restater, &mut fields.declared, tree, field, None);
     };
     let mut before = Text::EMPTY;
-    let value = expression_as(restater, &mut before, value, field.kind)?;
+    let depth = Depth {
+        lists: trees.lists,
+        left: EXPRESSION_LIMIT,
+    };
+    let value = expression_as(restater, &mut before, value, field.kind, depth)?;
     if before == Text::EMPTY && !fields.moved {
         return say_field(restater, &mut fields.declared, tree, field, Some(value));
     }
@@ -98,7 +104,8 @@ fn valued_field<'a>(
 
 // One field of a declaration.
 fn field<'a>(
-    restater: &mut Restater<'a>,
+    restater: &mut Restater,
+    trees: Trees<'a>,
     fields: &mut Fields,
     tree: &Declaration,
     value: Option<&'a Expression>,
@@ -108,12 +115,13 @@ fn field<'a>(
         return note_word(restater, field.token, field.name, what);
     }
     enter_member(restater, field.class, field.is_static)?;
-    valued_field(restater, fields, tree, value, field)
+    valued_field(restater, trees, fields, tree, value, field)
 }
 
 // The fields of a declaration.
 fn declared<'a>(
-    restater: &mut Restater<'a>,
+    restater: &mut Restater,
+    trees: Trees<'a>,
     fields: &mut Fields,
     tree: &'a Declaration,
 ) -> Result<(), Stop> {
@@ -122,7 +130,14 @@ fn declared<'a>(
             continue;
         };
         let before = *fields;
-        let done = field(restater, fields, tree, declarator.value.as_ref(), &one);
+        let done = field(
+            restater,
+            trees,
+            fields,
+            tree,
+            declarator.value.as_ref(),
+            &one,
+        );
         let mut declared = fields.declared;
         keep_unless_refused(done, &mut declared, before.declared)?;
         fields.declared = declared;
@@ -132,7 +147,8 @@ fn declared<'a>(
 
 // An initialiser goes to the head of the constructor.
 fn initialiser<'a>(
-    restater: &mut Restater<'a>,
+    restater: &mut Restater,
+    trees: Trees<'a>,
     fields: &mut Fields,
     class: usize,
     tree: &'a Initializer,
@@ -140,14 +156,15 @@ fn initialiser<'a>(
     enter_member(restater, class, tree.of_static)?;
     fields.moved = true;
     say(restater, &mut fields.late, "{", tree.body.span.first)?;
-    body(restater, &mut fields.late, &tree.body)?;
+    body(restater, &mut fields.late, &tree.body, trees.lists)?;
     say(restater, &mut fields.late, "}", tree.body.span.last)
 }
 
 /// The fields and initialisers of a class; where it is split, of its static part or of its objects. If objects are
 /// handed others, all initialisers go to the constructor.
 pub(crate) fn all_fields<'a>(
-    restater: &mut Restater<'a>,
+    restater: &mut Restater,
+    trees: Trees<'a>,
     tree: &'a TypeDeclaration,
     class: usize,
     is_static: bool,
@@ -162,11 +179,11 @@ pub(crate) fn all_fields<'a>(
     for member in &tree.members {
         match member {
             Member::Field(one) if !split || flags_of(&one.modifiers).is_static == is_static => {
-                declared(restater, &mut fields, one)?;
+                declared(restater, trees, &mut fields, one)?;
             }
             Member::Initializer(one) if !split || one.of_static == is_static => {
                 let before = fields.late;
-                let done = initialiser(restater, &mut fields, class, one);
+                let done = initialiser(restater, trees, &mut fields, class, one);
                 let mut late = fields.late;
                 keep_unless_refused(done, &mut late, before)?;
                 fields.late = late;

@@ -1,6 +1,6 @@
 // `main`: a method for each thread that it makes. Otherwise it is left out.
 
-use crate::places::{enter_member, is_left_out_of_main};
+use crate::places::{Trees, enter_member, is_left_out_of_main};
 use ls_java_statements::bodies::{body, effect};
 use ls_java_tables::collecting::type_name;
 use ls_java_tables::remarks::{Stop, What};
@@ -48,15 +48,15 @@ fn is_understood(tree: &Statement) -> bool {
 
 // The statements of a thread.
 fn say_thread<'a>(
-    restater: &mut Restater<'a>,
+    restater: &mut Restater,
     out: &mut Text,
-    bodies: &'a [Body],
+    trees: Trees<'a>,
     tree: &'a LambdaBody,
 ) -> Result<(), Stop> {
     match tree {
-        LambdaBody::Expression(expression) => effect(restater, out, expression),
-        LambdaBody::Block(number) => match bodies.get(*number) {
-            Some(Body::Block(block)) => body(restater, out, block),
+        LambdaBody::Expression(expression) => effect(restater, out, expression, trees.lists),
+        LambdaBody::Block(number) => match trees.bodies.get(*number) {
+            Some(Body::Block(block)) => body(restater, out, block, trees.lists),
             _ => Ok(()),
         },
     }
@@ -64,9 +64,9 @@ fn say_thread<'a>(
 
 // The method of a thread.
 fn thread_method<'a>(
-    restater: &mut Restater<'a>,
+    restater: &mut Restater,
     out: &mut Text,
-    bodies: &'a [Body],
+    trees: Trees<'a>,
     tree: &'a Declaration,
 ) -> Result<(), Stop> {
     let Some((declarator, lambda)) = thread_body(tree) else {
@@ -80,16 +80,16 @@ fn thread_method<'a>(
     say(restater, out, "public void", tree.span.first)?;
     say_word(restater, out, name, token)?;
     say(restater, out, "( ) {", token)?;
-    say_thread(restater, out, bodies, lambda)?;
+    say_thread(restater, out, trees, lambda)?;
     say(restater, out, "}", tree.span.last)
 }
 
 /// `main`: a method for each thread that it makes, if it only makes, starts and joins threads, and prints. Otherwise it
 /// is left out.
 pub(crate) fn main_method<'a>(
-    restater: &mut Restater<'a>,
+    restater: &mut Restater,
     out: &mut Text,
-    bodies: &'a [Body],
+    trees: Trees<'a>,
     tree: &'a MethodTree,
 ) -> Result<(), Stop> {
     let token = tree.name.token;
@@ -102,7 +102,7 @@ pub(crate) fn main_method<'a>(
     note(restater, token, What::Main)?;
     for statement in &block.statements {
         if let StatementKind::Locals(declaration) = &statement.kind {
-            thread_method(restater, out, bodies, declaration)?;
+            thread_method(restater, out, trees, declaration)?;
         }
     }
     Ok(())

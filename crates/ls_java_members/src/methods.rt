@@ -2,7 +2,7 @@
 
 use crate::main_method::main_method;
 use crate::places::{
-    enter_member, keep_unless_refused, say_declared, say_modifiers, say_parameters,
+    Trees, enter_member, keep_unless_refused, say_declared, say_modifiers, say_parameters,
 };
 use ls_java_expressions::writing::emit;
 use ls_java_statements::bodies::body;
@@ -14,7 +14,7 @@ use ls_java_tables::spelling::{append, say, say_word, word};
 use ls_java_tables::types::type_text;
 use ls_java_tables::values::Kind;
 use ls_java_tables::words::WordId;
-use ls_java_tree::declarations::{Body, Member, Method as MethodTree, TypeDeclaration};
+use ls_java_tree::declarations::{Member, Method as MethodTree, TypeDeclaration};
 use ls_java_tree::statements::Block;
 
 // What is known of a method, copied from the table.
@@ -95,8 +95,9 @@ fn say_head(
 // The body of a method. If `wait` is called on its object and the method is synchronized, the object's lock is held in
 // it.
 fn say_body<'a>(
-    restater: &mut Restater<'a>,
+    restater: &mut Restater,
     out: &mut Text,
+    trees: Trees<'a>,
     tree: &'a Block,
     waits: bool,
 ) -> Result<(), Stop> {
@@ -107,7 +108,7 @@ fn say_body<'a>(
         emit(restater, out, first, "{ # . lock ( ) ; try", &[monitor])?;
     }
     say(restater, out, "{", first)?;
-    body(restater, out, tree)?;
+    body(restater, out, tree, trees.lists)?;
     say(restater, out, "}", last)?;
     if waits {
         emit(
@@ -123,8 +124,9 @@ fn say_body<'a>(
 
 // A method that isn't `main`.
 fn plain_method<'a>(
-    restater: &mut Restater<'a>,
+    restater: &mut Restater,
     out: &mut Text,
+    trees: Trees<'a>,
     tree: &'a MethodTree,
     signature: &Signature,
 ) -> Result<(), Stop> {
@@ -133,7 +135,7 @@ fn plain_method<'a>(
         return refuse_word(restater, tree.name.token, signature.out, Why::NoBody);
     };
     say_head(restater, out, tree, signature)?;
-    say_body(restater, out, block, signature.waits)
+    say_body(restater, out, trees, block, signature.waits)
 }
 
 // What is known of the method of a number.
@@ -165,9 +167,9 @@ fn has_two_monitors(restater: &Restater, class: usize) -> bool {
 
 // The method of a number.
 fn method<'a>(
-    restater: &mut Restater<'a>,
+    restater: &mut Restater,
     out: &mut Text,
-    bodies: &'a [Body],
+    trees: Trees<'a>,
     number: usize,
     tree: &'a MethodTree,
 ) -> Result<(), Stop> {
@@ -182,12 +184,12 @@ fn method<'a>(
     enter_member(restater, signature.class, is_static)?;
     restater.place.method = Some(number);
     if is_main {
-        return main_method(restater, out, bodies, tree);
+        return main_method(restater, out, trees, tree);
     }
     if signature.is_synchronized && has_two_monitors(restater, signature.class) {
         return refuse_word(restater, tree.name.token, signature.out, Why::TwoMonitors);
     }
-    plain_method(restater, out, tree, &signature)
+    plain_method(restater, out, trees, tree, &signature)
 }
 
 // The number of a method that is written, or none where it was refused, is left out, or belongs to the other part of a
@@ -203,9 +205,9 @@ fn written_number(restater: &Restater, tree: &MethodTree, is_static: bool) -> Op
 
 /// The methods of a class; where it is split, of its static part or of its objects.
 pub(crate) fn all_methods<'a>(
-    restater: &mut Restater<'a>,
+    restater: &mut Restater,
     out: &mut Text,
-    bodies: &'a [Body],
+    trees: Trees<'a>,
     class: &'a TypeDeclaration,
     is_static: bool,
 ) -> Result<(), Stop> {
@@ -217,7 +219,7 @@ pub(crate) fn all_methods<'a>(
             continue;
         };
         let before = *out;
-        let done = method(restater, out, bodies, number, tree);
+        let done = method(restater, out, trees, number, tree);
         keep_unless_refused(done, out, before)?;
     }
     Ok(())

@@ -14,9 +14,17 @@ use ls_java_tables::spelling::{append, say, say_word, word};
 use ls_java_tables::types::type_text;
 use ls_java_tables::values::Kind;
 use ls_java_tables::words::WordId;
-use ls_java_tree::expressions::Parameter;
+use ls_java_tree::declarations::Body;
+use ls_java_tree::expressions::{Expression, Parameter};
 use ls_java_tree::names::{Modifier, ModifierKind};
 use ls_lexer::sign::Sign;
+
+/// The bodies of a file, and the lists of expressions that are kept.
+#[derive(Clone, Copy)]
+pub struct Trees<'a> {
+    pub bodies: &'a [Body],
+    pub lists: &'a [&'a [Expression]],
+}
 
 /// A member of a class is restated next, in its static part or not.
 pub(crate) fn enter_member(

@@ -1,10 +1,11 @@
 // `if` (JLS 14.9) and `try` (JLS 14.20).
 
 use crate::statements::{block, body};
-use ls_java_expressions::expressions::{EXPRESSION_LIMIT, part};
+use ls_java_expressions::expressions::{part, whole};
 use ls_java_expressions::writing::emit;
+use ls_java_tables::kept::{Depth, down};
 use ls_java_tables::remarks::{Stop, What, Why};
-use ls_java_tables::restater::{Around, Restater, deeper, note, refuse};
+use ls_java_tables::restater::{Around, Restater, note, refuse};
 use ls_java_tables::ropes::Text;
 use ls_java_tables::spelling::{append, say};
 use ls_java_tables::values::Value;
@@ -14,27 +15,27 @@ use ls_java_tree::types::{Type, TypeKind};
 /// `if`.
 #[cycle(statements)]
 pub(crate) fn if_statement<'a>(
-    restater: &mut Restater<'a>,
+    restater: &mut Restater,
     out: &mut Text,
     tree: &'a Statement,
-    limit: usize,
+    depth: Depth<'a>,
 ) -> Result<(), Stop> {
     let StatementKind::If { condition, .. } = &tree.kind else {
         return refuse(restater, tree.span.first, Why::Other);
     };
-    let test = part(restater, condition, EXPRESSION_LIMIT)?;
+    let test = part(restater, condition, whole(depth))?;
     append(restater, out, test.before)?;
-    branches(restater, out, tree, test.value, limit)
+    branches(restater, out, tree, test.value, depth)
 }
 
 // The branches of an `if` whose condition is restated.
 #[cycle(statements)]
 fn branches<'a>(
-    restater: &mut Restater<'a>,
+    restater: &mut Restater,
     out: &mut Text,
     tree: &'a Statement,
     test: Value,
-    limit: usize,
+    depth: Depth<'a>,
 ) -> Result<(), Stop> {
     let at = tree.span.first;
     let StatementKind::If {
@@ -46,9 +47,9 @@ fn branches<'a>(
         return refuse(restater, at, Why::Other);
     };
     emit(restater, out, at, "if ( # )", &[test.text])?;
-    body(restater, out, then, Around::If, limit)?;
+    body(restater, out, then, Around::If, depth)?;
     match otherwise {
-        Some(otherwise) => else_branch(restater, out, otherwise, limit),
+        Some(otherwise) => else_branch(restater, out, otherwise, depth),
         None => Ok(()),
     }
 }
@@ -56,18 +57,18 @@ fn branches<'a>(
 // `else`. An `if` follows it as it is, if its condition needs no statements.
 #[cycle(statements)]
 fn else_branch<'a>(
-    restater: &mut Restater<'a>,
+    restater: &mut Restater,
     out: &mut Text,
     tree: &'a Statement,
-    limit: usize,
+    depth: Depth<'a>,
 ) -> Result<(), Stop> {
     let at = tree.span.first;
     say(restater, out, "else", at)?;
     let StatementKind::If { condition, .. } = &tree.kind else {
-        return body(restater, out, tree, Around::If, limit);
+        return body(restater, out, tree, Around::If, depth);
     };
-    let inner = deeper(limit)?;
-    let test = part(restater, condition, EXPRESSION_LIMIT)?;
+    let inner = down(depth)?;
+    let test = part(restater, condition, whole(depth))?;
     if test.before == Text::EMPTY {
         return branches(restater, out, tree, test.value, inner);
     }
@@ -98,10 +99,10 @@ fn check_catches(restater: &mut Restater, catches: &[Catch]) -> Result<(), Stop>
 /// `try`.
 #[cycle(statements)]
 pub(crate) fn try_statement<'a>(
-    restater: &mut Restater<'a>,
+    restater: &mut Restater,
     out: &mut Text,
     tree: &'a Statement,
-    limit: usize,
+    depth: Depth<'a>,
 ) -> Result<(), Stop> {
     let at = tree.span.first;
     let StatementKind::Try {
@@ -114,10 +115,10 @@ pub(crate) fn try_statement<'a>(
     };
     check_catches(restater, catches)?;
     let Some(finally) = finally else {
-        return block(restater, out, body, Around::Block, limit);
+        return block(restater, out, body, Around::Block, depth);
     };
     say(restater, out, "try", at)?;
-    block(restater, out, body, Around::Block, limit)?;
+    block(restater, out, body, Around::Block, depth)?;
     say(restater, out, "finally", finally.span.first)?;
-    block(restater, out, finally, Around::Block, limit)
+    block(restater, out, finally, Around::Block, depth)
 }

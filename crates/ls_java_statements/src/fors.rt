@@ -5,10 +5,11 @@ use crate::loops::{flagged, leave_unless};
 use crate::statements::{inside, label_text};
 use ls_java_expressions::arguments::add_argument;
 use ls_java_expressions::arrays::{counting, element, length};
-use ls_java_expressions::expressions::{EXPRESSION_LIMIT, part};
+use ls_java_expressions::expressions::{part, whole};
 use ls_java_expressions::parts::{Part, keep};
 use ls_java_expressions::targets::effect;
 use ls_java_expressions::writing::{emit, single};
+use ls_java_tables::kept::Depth;
 use ls_java_tables::remarks::{Stop, Why};
 use ls_java_tables::restater::{Around, Local, Restater, declare, leave, mark, name_of, refuse};
 use ls_java_tables::ropes::Text;
@@ -27,15 +28,16 @@ struct Effects {
 
 // The effects of expressions, in their order (JLS 14.14.1).
 fn all_effects<'a>(
-    restater: &mut Restater<'a>,
+    restater: &mut Restater,
     at: usize,
     trees: &'a [Expression],
+    depth: Depth<'a>,
 ) -> Result<Effects, Stop> {
     let mut statements = Text::EMPTY;
     let mut list = Some(Text::EMPTY);
     for tree in trees {
         let mut one = Text::EMPTY;
-        effect(restater, &mut one, tree, EXPRESSION_LIMIT)?;
+        effect(restater, &mut one, tree, whole(depth))?;
         if one == Text::EMPTY {
             continue;
         }
@@ -52,12 +54,17 @@ fn all_effects<'a>(
 }
 
 // What a `for` begins with: a declaration, or effects.
-fn opening<'a>(restater: &mut Restater<'a>, at: usize, tree: &'a Opening) -> Result<Effects, Stop> {
+fn opening<'a>(
+    restater: &mut Restater,
+    at: usize,
+    tree: &'a Opening,
+    depth: Depth<'a>,
+) -> Result<Effects, Stop> {
     match tree {
-        Opening::Expressions(trees) => all_effects(restater, at, trees),
+        Opening::Expressions(trees) => all_effects(restater, at, trees, depth),
         Opening::Locals(declaration) => {
             let mut statements = Text::EMPTY;
-            locals(restater, &mut statements, declaration)?;
+            locals(restater, &mut statements, declaration, depth)?;
             let list = single(restater, statements);
             Ok(Effects { statements, list })
         }
@@ -74,7 +81,11 @@ struct Head {
 }
 
 // The parts of the head of a `for`.
-fn head_of<'a>(restater: &mut Restater<'a>, tree: &'a Statement) -> Result<Head, Stop> {
+fn head_of<'a>(
+    restater: &mut Restater,
+    tree: &'a Statement,
+    depth: Depth<'a>,
+) -> Result<Head, Stop> {
     let at = tree.span.first;
     let StatementKind::For {
         opening: first,
@@ -86,12 +97,12 @@ fn head_of<'a>(restater: &mut Restater<'a>, tree: &'a Statement) -> Result<Head,
         return refuse(restater, at, Why::Other);
     };
     let label = label_text(restater, at)?;
-    let opening = opening(restater, at, first)?;
+    let opening = opening(restater, at, first, depth)?;
     let test = match condition {
-        Some(condition) => Some(part(restater, condition, EXPRESSION_LIMIT)?),
+        Some(condition) => Some(part(restater, condition, whole(depth))?),
         None => None,
     };
-    let updates = all_effects(restater, at, updates)?;
+    let updates = all_effects(restater, at, updates, depth)?;
     Ok(Head {
         label,
         opening,
@@ -136,17 +147,17 @@ fn as_flagged(restater: &mut Restater, out: &mut Text, at: usize, head: Head) ->
 /// `for` (JLS 14.14.1). What its head can't have stands before it, in a block.
 #[cycle(statements)]
 pub(crate) fn for_statement<'a>(
-    restater: &mut Restater<'a>,
+    restater: &mut Restater,
     out: &mut Text,
     tree: &'a Statement,
-    limit: usize,
+    depth: Depth<'a>,
 ) -> Result<(), Stop> {
     let at = tree.span.first;
     let StatementKind::For { body, .. } = &tree.kind else {
         return refuse(restater, at, Why::Other);
     };
     let mark = mark(restater);
-    let head = head_of(restater, tree)?;
+    let head = head_of(restater, tree, depth)?;
     let before = match (head.opening.list, head.updates.list) {
         (Some(opening), Some(updates)) => {
             as_for(restater, out, at, head, (opening, updates))?;
@@ -163,7 +174,7 @@ pub(crate) fn for_statement<'a>(
             true
         }
     };
-    inside(restater, out, body, Around::Loop, limit)?;
+    inside(restater, out, body, Around::Loop, depth)?;
     say(restater, out, "}", tree.span.last)?;
     if before {
         say(restater, out, "}", tree.span.last)?;
@@ -174,14 +185,15 @@ pub(crate) fn for_statement<'a>(
 
 // The array of a `for` over items goes to a local, and the loop over its indices begins, with the item as a local.
 fn begin_each<'a>(
-    restater: &mut Restater<'a>,
+    restater: &mut Restater,
     out: &mut Text,
     at: usize,
     item: &'a Item,
     items: &'a Expression,
+    depth: Depth<'a>,
 ) -> Result<(), Stop> {
     let label = label_text(restater, at)?;
-    let found = part(restater, items, EXPRESSION_LIMIT)?;
+    let found = part(restater, items, whole(depth))?;
     if !matches!(&found.value.kind, Kind::Array(_)) {
         return refuse(restater, at, Why::LoopOver);
     }
@@ -209,18 +221,18 @@ fn begin_each<'a>(
 /// `for` over the items of an array (JLS 14.14.2).
 #[cycle(statements)]
 pub(crate) fn for_each<'a>(
-    restater: &mut Restater<'a>,
+    restater: &mut Restater,
     out: &mut Text,
     tree: &'a Statement,
-    limit: usize,
+    depth: Depth<'a>,
 ) -> Result<(), Stop> {
     let at = tree.span.first;
     let StatementKind::ForEach { item, items, body } = &tree.kind else {
         return refuse(restater, at, Why::Other);
     };
     let mark = mark(restater);
-    begin_each(restater, out, at, item, items)?;
-    inside(restater, out, body, Around::Loop, limit)?;
+    begin_each(restater, out, at, item, items, depth)?;
+    inside(restater, out, body, Around::Loop, depth)?;
     say(restater, out, "} }", tree.span.last)?;
     leave(restater, mark);
     Ok(())

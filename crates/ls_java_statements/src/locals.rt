@@ -1,10 +1,11 @@
 // Declarations of locals (JLS 14.4).
 
 use ls_java_expressions::arguments::add_argument;
-use ls_java_expressions::expressions::{EXPRESSION_LIMIT, part_as};
+use ls_java_expressions::expressions::{part_as, whole};
 use ls_java_expressions::parts::Part;
 use ls_java_expressions::writing::{emit, write};
 use ls_java_tables::halves::kind_by_value;
+use ls_java_tables::kept::Depth;
 use ls_java_tables::remarks::{Stop, Why};
 use ls_java_tables::restater::{Local, Restater, declare, name_of, refuse};
 use ls_java_tables::ropes::Text;
@@ -105,13 +106,14 @@ fn add(
 
 // The value that a local begins with.
 fn value_of<'a>(
-    restater: &mut Restater<'a>,
+    restater: &mut Restater,
     one: &'a Declarator,
     kind: Kind,
+    depth: Depth<'a>,
 ) -> Result<Option<Part>, Stop> {
     match &one.value {
         Some(value) => {
-            let part = part_as(restater, value, kind, EXPRESSION_LIMIT)?;
+            let part = part_as(restater, value, kind, whole(depth))?;
             Ok(Some(part))
         }
         None => Ok(None),
@@ -120,14 +122,15 @@ fn value_of<'a>(
 
 /// Locals. Those that need no statements before their values are declared together.
 pub fn locals<'a>(
-    restater: &mut Restater<'a>,
+    restater: &mut Restater,
     out: &mut Text,
     tree: &'a Declaration,
+    depth: Depth<'a>,
 ) -> Result<(), Stop> {
     let mut together = None;
     for one in &tree.declarators {
         let kind = local_kind(restater, &tree.type_name, one)?;
-        let value = value_of(restater, one, kind)?;
+        let value = value_of(restater, one, kind, depth)?;
         let name = name_of(restater, &one.name);
         declare(
             restater,

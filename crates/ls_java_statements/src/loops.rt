@@ -2,10 +2,11 @@
 
 use crate::endings::{continues, reaches_end};
 use crate::statements::{STATEMENT_LIMIT, body, inside, label_text};
-use ls_java_expressions::expressions::{EXPRESSION_LIMIT, part};
+use ls_java_expressions::expressions::{part, whole};
 use ls_java_expressions::parts::Part;
 use ls_java_expressions::writing::{emit, write};
 use ls_java_tables::constants::fold;
+use ls_java_tables::kept::Depth;
 use ls_java_tables::remarks::{Stop, Why};
 use ls_java_tables::restater::{Around, Restater, fresh, refuse};
 use ls_java_tables::ropes::Text;
@@ -29,10 +30,10 @@ pub(crate) fn leave_unless(restater: &mut Restater, at: usize, test: Part) -> Re
 /// `while`. Where its condition needs statements, these and a `break` stand at the head of the body.
 #[cycle(statements)]
 pub(crate) fn while_statement<'a>(
-    restater: &mut Restater<'a>,
+    restater: &mut Restater,
     out: &mut Text,
     tree: &'a Statement,
-    limit: usize,
+    depth: Depth<'a>,
 ) -> Result<(), Stop> {
     let at = tree.span.first;
     let StatementKind::While {
@@ -45,17 +46,17 @@ pub(crate) fn while_statement<'a>(
     let label = label_text(restater, at)?;
     if is_always(restater, condition) {
         emit(restater, out, at, "# while ( true )", &[label])?;
-        return body(restater, out, inner, Around::Loop, limit);
+        return body(restater, out, inner, Around::Loop, depth);
     }
-    let test = part(restater, condition, EXPRESSION_LIMIT)?;
+    let test = part(restater, condition, whole(depth))?;
     if test.before == Text::EMPTY {
         let parts = [label, test.value.text];
         emit(restater, out, at, "# while ( # )", &parts)?;
-        return body(restater, out, inner, Around::Loop, limit);
+        return body(restater, out, inner, Around::Loop, depth);
     }
     let leaving = leave_unless(restater, at, test)?;
     emit(restater, out, at, "# while ( true ) { #", &[label, leaving])?;
-    inside(restater, out, inner, Around::Loop, limit)?;
+    inside(restater, out, inner, Around::Loop, depth)?;
     say(restater, out, "}", tree.span.last)
 }
 
@@ -78,10 +79,10 @@ pub(crate) fn flagged(
 /// second turn on.
 #[cycle(statements)]
 pub(crate) fn do_statement<'a>(
-    restater: &mut Restater<'a>,
+    restater: &mut Restater,
     out: &mut Text,
     tree: &'a Statement,
-    limit: usize,
+    depth: Depth<'a>,
 ) -> Result<(), Stop> {
     let at = tree.span.first;
     let StatementKind::DoWhile {
@@ -95,11 +96,11 @@ pub(crate) fn do_statement<'a>(
     let label = label_text(restater, at)?;
     if is_always(restater, condition) {
         emit(restater, out, at, "# while ( true )", &[label])?;
-        return body(restater, out, inner, Around::Loop, limit);
+        return body(restater, out, inner, Around::Loop, depth);
     }
     let mut turn = Text::EMPTY;
-    inside(restater, &mut turn, inner, Around::Loop, limit)?;
-    let test = part(restater, condition, EXPRESSION_LIMIT)?;
+    inside(restater, &mut turn, inner, Around::Loop, depth)?;
+    let test = part(restater, condition, whole(depth))?;
     let end = condition.span.first;
     let leaving = leave_unless(restater, end, test)?;
     if continues(restater, inner, name) {

@@ -1,12 +1,13 @@
 // `synchronized` (JLS 14.19).
 
 use crate::statements::block;
-use ls_java_expressions::expressions::{EXPRESSION_LIMIT, part};
+use ls_java_expressions::expressions::{part, whole};
 use ls_java_expressions::members::is_around;
 use ls_java_expressions::parts::keep_reading;
 use ls_java_expressions::waiting::monitor;
 use ls_java_expressions::writing::emit;
 use ls_java_tables::finding::{object_of, owner_kind};
+use ls_java_tables::kept::Depth;
 use ls_java_tables::remarks::{Stop, Why};
 use ls_java_tables::restater::{Around, Restater, is_waited_on, refuse};
 use ls_java_tables::ropes::Text;
@@ -49,15 +50,16 @@ fn class_monitor(restater: &mut Restater, at: usize, class: &Type) -> Result<Val
 
 // The object whose monitor is locked.
 fn locked<'a>(
-    restater: &mut Restater<'a>,
+    restater: &mut Restater,
     out: &mut Text,
     target: &'a Expression,
+    depth: Depth<'a>,
 ) -> Result<Value, Stop> {
     let at = target.span.first;
     if let Some(class) = class_object(target) {
         return class_monitor(restater, at, class);
     }
-    let found = part(restater, target, EXPRESSION_LIMIT)?;
+    let found = part(restater, target, whole(depth))?;
     append(restater, out, found.before)?;
     match found.value.kind {
         Kind::Class(_) => Ok(found.value),
@@ -70,23 +72,23 @@ fn locked<'a>(
 /// `synchronized`. Where `wait` is called on such objects, a lock stands for the monitor.
 #[cycle(statements)]
 pub(crate) fn synchronized<'a>(
-    restater: &mut Restater<'a>,
+    restater: &mut Restater,
     out: &mut Text,
     tree: &'a Statement,
-    limit: usize,
+    depth: Depth<'a>,
 ) -> Result<(), Stop> {
     let at = tree.span.first;
     let StatementKind::Synchronized { target, body } = &tree.kind else {
         return refuse(restater, at, Why::Other);
     };
-    let object = locked(restater, out, target)?;
+    let object = locked(restater, out, target, depth)?;
     if !is_waited_on(restater, object.kind) {
         emit(restater, out, at, "synchronized ( # )", &[object.text])?;
-        return block(restater, out, body, Around::Block, limit);
+        return block(restater, out, body, Around::Block, depth);
     }
     let kept = keep_reading(restater, out, at, object)?;
     let lock = monitor(restater, at, kept)?;
     emit(restater, out, at, "# . lock ( ) ; try", &[lock])?;
-    block(restater, out, body, Around::Block, limit)?;
+    block(restater, out, body, Around::Block, depth)?;
     emit(restater, out, at, "finally { # . unlock ( ) ; }", &[lock])
 }

@@ -1,4 +1,4 @@
-// Blocks and statements. Each function of the cycle `statements` goes at most as many statements down as its limit
+// Blocks and statements. Each function of the cycle `statements` goes at most as many statements down as its depth
 // says.
 
 use crate::branches::{if_statement, try_statement};
@@ -8,11 +8,12 @@ use crate::loops::{do_statement, while_statement};
 use crate::monitors::synchronized;
 use crate::switches::switch_statement;
 use crate::throws::throw_statement;
-use ls_java_expressions::expressions::{EXPRESSION_LIMIT, expression_as};
+use ls_java_expressions::expressions::{expression_as, whole};
 use ls_java_expressions::targets::effect;
 use ls_java_expressions::writing::emit;
+use ls_java_tables::kept::{Depth, down};
 use ls_java_tables::remarks::{Stop, What, Why};
-use ls_java_tables::restater::{Around, Restater, deeper, leave, mark, name_of, note, refuse};
+use ls_java_tables::restater::{Around, Restater, leave, mark, name_of, note, refuse};
 use ls_java_tables::ropes::Text;
 use ls_java_tables::spelling::{say, word};
 use ls_java_tables::values::Kind;
@@ -38,15 +39,15 @@ pub(crate) fn leave_part(restater: &mut Restater, mark: usize) {
 /// A block (JLS 14.2).
 #[cycle(statements)]
 pub fn block<'a>(
-    restater: &mut Restater<'a>,
+    restater: &mut Restater,
     out: &mut Text,
     tree: &'a Block,
     around: Around,
-    limit: usize,
+    depth: Depth<'a>,
 ) -> Result<(), Stop> {
     let mark = enter_part(restater, around)?;
     say(restater, out, "{", tree.span.first)?;
-    statements(restater, out, &tree.statements, limit)?;
+    statements(restater, out, &tree.statements, depth)?;
     say(restater, out, "}", tree.span.last)?;
     leave_part(restater, mark);
     Ok(())
@@ -55,13 +56,13 @@ pub fn block<'a>(
 /// Statements in their order.
 #[cycle(statements)]
 pub(crate) fn statements<'a>(
-    restater: &mut Restater<'a>,
+    restater: &mut Restater,
     out: &mut Text,
     trees: &'a [Statement],
-    limit: usize,
+    depth: Depth<'a>,
 ) -> Result<(), Stop> {
     for tree in trees {
-        statement(restater, out, tree, limit)?;
+        statement(restater, out, tree, depth)?;
     }
     Ok(())
 }
@@ -69,16 +70,16 @@ pub(crate) fn statements<'a>(
 /// The statements that a body is, without braces.
 #[cycle(statements)]
 pub(crate) fn inside<'a>(
-    restater: &mut Restater<'a>,
+    restater: &mut Restater,
     out: &mut Text,
     tree: &'a Statement,
     around: Around,
-    limit: usize,
+    depth: Depth<'a>,
 ) -> Result<(), Stop> {
     let mark = enter_part(restater, around)?;
     match &tree.kind {
-        StatementKind::Block(inner) => statements(restater, out, &inner.statements, limit)?,
-        _ => statement(restater, out, tree, limit)?,
+        StatementKind::Block(inner) => statements(restater, out, &inner.statements, depth)?,
+        _ => statement(restater, out, tree, depth)?,
     }
     leave_part(restater, mark);
     Ok(())
@@ -87,26 +88,26 @@ pub(crate) fn inside<'a>(
 /// A body, in braces.
 #[cycle(statements)]
 pub(crate) fn body<'a>(
-    restater: &mut Restater<'a>,
+    restater: &mut Restater,
     out: &mut Text,
     tree: &'a Statement,
     around: Around,
-    limit: usize,
+    depth: Depth<'a>,
 ) -> Result<(), Stop> {
     say(restater, out, "{", tree.span.first)?;
-    inside(restater, out, tree, around, limit)?;
+    inside(restater, out, tree, around, depth)?;
     say(restater, out, "}", tree.span.last)
 }
 
 /// A statement (JLS 14.5) of at most so many statements from top to bottom.
 #[cycle(statements)]
 pub fn statement<'a>(
-    restater: &mut Restater<'a>,
+    restater: &mut Restater,
     out: &mut Text,
     tree: &'a Statement,
-    limit: usize,
+    depth: Depth<'a>,
 ) -> Result<(), Stop> {
-    let inner = deeper(limit)?;
+    let inner = down(depth)?;
     match &tree.kind {
         StatementKind::Block(tree) => block(restater, out, tree, Around::Block, inner),
         StatementKind::If { .. } => if_statement(restater, out, tree, inner),
@@ -118,18 +119,18 @@ pub fn statement<'a>(
         StatementKind::Try { .. } => try_statement(restater, out, tree, inner),
         StatementKind::Synchronized { .. } => synchronized(restater, out, tree, inner),
         StatementKind::Labeled { label, body } => { labeled(restater, out, label, body, inner) }
-        _ => simple(restater, out, tree),
+        _ => simple(restater, out, tree, depth),
     }
 }
 
 // A label and its loop (JLS 14.7).
 #[cycle(statements)]
 fn labeled<'a>(
-    restater: &mut Restater<'a>,
+    restater: &mut Restater,
     out: &mut Text,
     label: &'a Name,
     body: &'a Statement,
-    limit: usize,
+    depth: Depth<'a>,
 ) -> Result<(), Stop> {
     match &body.kind {
         StatementKind::While { .. } => {}
@@ -139,7 +140,7 @@ fn labeled<'a>(
         _ => return refuse(restater, label.token, Why::LabelHere),
     }
     restater.place.label = Some(name_of(restater, label));
-    statement(restater, out, body, limit)
+    statement(restater, out, body, depth)
 }
 
 /// The label of a loop, with its colon, or nothing. A label is that of the next loop alone.
@@ -155,15 +156,16 @@ pub(crate) fn label_text(restater: &mut Restater, at: usize) -> Result<Text, Sto
 
 // A statement that holds no others.
 fn simple<'a>(
-    restater: &mut Restater<'a>,
+    restater: &mut Restater,
     out: &mut Text,
     tree: &'a Statement,
+    depth: Depth<'a>,
 ) -> Result<(), Stop> {
     let at = tree.span.first;
     match &tree.kind {
-        StatementKind::Locals(declaration) => locals(restater, out, declaration),
-        StatementKind::Expression(written) => { effect(restater, out, written, EXPRESSION_LIMIT) }
-        StatementKind::Return(value) => returned(restater, out, at, value.as_ref()),
+        StatementKind::Locals(declaration) => locals(restater, out, declaration, depth),
+        StatementKind::Expression(written) => { effect(restater, out, written, whole(depth)) }
+        StatementKind::Return(value) => returned(restater, out, at, value.as_ref(), depth),
         StatementKind::Throw(thrown) => throw_statement(restater, out, at, thrown),
         StatementKind::Break(label) => break_statement(restater, out, at, label.as_ref()),
         StatementKind::Continue(label) => jump(restater, out, at, "continue", label.as_ref()),
@@ -175,15 +177,16 @@ fn simple<'a>(
 
 // `return` (JLS 14.17).
 fn returned<'a>(
-    restater: &mut Restater<'a>,
+    restater: &mut Restater,
     out: &mut Text,
     at: usize,
     value: Option<&'a Expression>,
+    depth: Depth<'a>,
 ) -> Result<(), Stop> {
     let kind = restater.place.result;
     match value {
         Some(value) => {
-            let value = expression_as(restater, out, value, kind)?;
+            let value = expression_as(restater, out, value, kind, depth)?;
             emit(restater, out, at, "return # ;", &[value.text])
         }
         None if kind == Kind::Void => say(restater, out, "return ;", at),

@@ -2,13 +2,14 @@
 
 use crate::endings::is_break;
 use crate::statements::{enter_part, leave_part, statement, statements};
-use ls_java_expressions::expressions::{EXPRESSION_LIMIT, part};
+use ls_java_expressions::expressions::{part, whole};
 use ls_java_expressions::members::enum_value;
 use ls_java_expressions::operators::joined;
 use ls_java_expressions::parts::keep_as;
 use ls_java_expressions::writing::emit;
 use ls_java_tables::constants::fold;
 use ls_java_tables::finding::enum_constant;
+use ls_java_tables::kept::Depth;
 use ls_java_tables::kinds::is_number;
 use ls_java_tables::remarks::{Stop, Why};
 use ls_java_tables::restater::{Around, Restater, name_of, refuse};
@@ -102,12 +103,13 @@ fn test(restater: &mut Restater, subject: Value, group: &SwitchGroup) -> Result<
 
 // The subject of a `switch`, in a local.
 fn subject_of<'a>(
-    restater: &mut Restater<'a>,
+    restater: &mut Restater,
     out: &mut Text,
     tree: &'a Expression,
+    depth: Depth<'a>,
 ) -> Result<Value, Stop> {
     let at = tree.span.first;
-    let found = part(restater, tree, EXPRESSION_LIMIT)?;
+    let found = part(restater, tree, whole(depth))?;
     append(restater, out, found.before)?;
     if !is_number(found.value.kind) {
         return refuse(restater, at, Why::SwitchOn);
@@ -124,16 +126,16 @@ fn subject_of<'a>(
 /// `switch`. Each group but the last one has to end in a jump.
 #[cycle(statements)]
 pub(crate) fn switch_statement<'a>(
-    restater: &mut Restater<'a>,
+    restater: &mut Restater,
     out: &mut Text,
     tree: &'a Statement,
-    limit: usize,
+    depth: Depth<'a>,
 ) -> Result<(), Stop> {
     let at = tree.span.first;
     let StatementKind::Switch { subject, groups } = &tree.kind else {
         return refuse(restater, at, Why::Other);
     };
-    let subject = subject_of(restater, out, subject)?;
+    let subject = subject_of(restater, out, subject, depth)?;
     for (place, group) in groups.iter().enumerate() {
         let is_last = place.saturating_add(1) == groups.len();
         check_group(restater, group, is_last)?;
@@ -145,7 +147,7 @@ pub(crate) fn switch_statement<'a>(
             let test = test(restater, subject, group)?;
             emit(restater, out, at, "if ( # )", &[test])?;
         }
-        case_body(restater, out, group, limit)?;
+        case_body(restater, out, group, depth)?;
     }
     Ok(())
 }
@@ -153,18 +155,18 @@ pub(crate) fn switch_statement<'a>(
 // The statements of a group, without the `break` at their end.
 #[cycle(statements)]
 fn case_body<'a>(
-    restater: &mut Restater<'a>,
+    restater: &mut Restater,
     out: &mut Text,
     group: &'a SwitchGroup,
-    limit: usize,
+    depth: Depth<'a>,
 ) -> Result<(), Stop> {
     let mark = enter_part(restater, Around::Switch)?;
     say(restater, out, "{", group.span.first)?;
     let all = but_break(&group.statements);
     match all.split_last() {
         Some((last, others)) => {
-            statements(restater, out, others, limit)?;
-            case_end(restater, out, last, limit)?;
+            statements(restater, out, others, depth)?;
+            case_end(restater, out, last, depth)?;
         }
         None => {}
     }
@@ -176,17 +178,17 @@ fn case_body<'a>(
 // The last statement of a group. A block may end in the `break` of the group.
 #[cycle(statements)]
 fn case_end<'a>(
-    restater: &mut Restater<'a>,
+    restater: &mut Restater,
     out: &mut Text,
     tree: &'a Statement,
-    limit: usize,
+    depth: Depth<'a>,
 ) -> Result<(), Stop> {
     let StatementKind::Block(block) = &tree.kind else {
-        return statement(restater, out, tree, limit);
+        return statement(restater, out, tree, depth);
     };
     let mark = enter_part(restater, Around::Switch)?;
     say(restater, out, "{", block.span.first)?;
-    statements(restater, out, but_break(&block.statements), limit)?;
+    statements(restater, out, but_break(&block.statements), depth)?;
     say(restater, out, "}", block.span.last)?;
     leave_part(restater, mark);
     Ok(())

@@ -2,9 +2,10 @@
 
 use crate::collecting::{collect, find_interfaces, unless_refused};
 use crate::declaring::{
-    declare_fields, declare_methods, find_constants, find_constructors, find_returned, find_split,
+    declare_fields, declare_methods, find_constants, find_constructors, find_split,
 };
 use crate::generics::find_parameters;
+use crate::kept::{Kept, find_returned};
 use crate::needs::Needs;
 use crate::remarks::Stop;
 use crate::restater::{Added, Facts, Place, Restater, fresh};
@@ -73,10 +74,9 @@ pub fn no_place(class: usize) -> Place {
 }
 
 // Nothing is known yet but the words.
-fn empty<'a>(alloc: Global, tokens: &[Token], facts: Facts) -> Result<Restater<'a>, Stop> {
+fn empty(alloc: Global, tokens: &[Token], facts: Facts) -> Result<Restater, Stop> {
     Ok(Restater {
         alloc,
-        kept: Vec::new(alloc),
         shapes: shapes_of(alloc, tokens)?,
         words: Words::of_tokens(alloc, tokens)?,
         ropes: Ropes::new(alloc)?,
@@ -120,33 +120,40 @@ fn name_added(restater: &mut Restater) -> Result<(), Stop> {
 
 // What the members of the classes declare. The trees of the classes are by their numbers.
 fn fill_members<'a>(
-    restater: &mut Restater<'a>,
+    restater: &mut Restater,
+    kept: &mut Kept<'a>,
     classes: &[&'a TypeDeclaration],
 ) -> Result<(), Stop> {
-    let mut values = Vec::new(restater.alloc);
     for (class, tree) in classes.iter().enumerate() {
-        declare_fields(restater, &mut values, class, *tree)?;
+        declare_fields(restater, kept, class, *tree)?;
     }
-    find_constants(restater, &values);
+    find_constants(restater, &kept.values);
     for (class, tree) in classes.iter().enumerate() {
         find_split(restater, class)?;
-        declare_methods(restater, class, *tree)?;
+        declare_methods(restater, kept, class, *tree)?;
         find_constructors(restater, class)?;
     }
     Ok(())
 }
 
 // What the classes declare.
-fn fill<'a>(restater: &mut Restater<'a>, file: &'a File) -> Result<(), Stop> {
+fn fill<'a>(restater: &mut Restater, kept: &mut Kept<'a>, file: &'a File) -> Result<(), Stop> {
     name_added(restater)?;
-    find_returned(restater, &file.bodies)?;
+    find_returned(restater, kept, &file.bodies)?;
     let mut classes = Vec::new(restater.alloc);
     for tree in &file.types {
         collect(restater, &mut classes, tree, None)?;
     }
     find_interfaces(restater)?;
     unless_refused(find_parameters(restater))?;
-    fill_members(restater, &classes)
+    fill_members(restater, kept, &classes)
+}
+
+/// What is known of a file before its members are restated, with the expressions that are kept.
+#[derive(Drop)]
+pub struct Begun<'a> {
+    pub restater: Restater,
+    pub kept: Kept<'a>,
 }
 
 /// What is known of a file before its members are restated, with the facts that were found before.
@@ -155,10 +162,14 @@ pub fn begin<'a>(
     file: &'a File,
     tokens: &[Token],
     facts: Facts,
-) -> Result<Restater<'a>, Stop> {
+) -> Result<Begun<'a>, Stop> {
     let mut restater = empty(alloc, tokens, facts)?;
+    let mut kept = Kept {
+        lists: Vec::new(alloc),
+        values: Vec::new(alloc),
+    };
     restater.tables.has_keys = has_keys(tokens);
-    fill(&mut restater, file)?;
+    fill(&mut restater, &mut kept, file)?;
     restater.place = no_place(0);
-    Ok(restater)
+    Ok(Begun { restater, kept })
 }

@@ -4,15 +4,16 @@ use crate::collecting::{flags_of, unless_refused};
 use crate::constants::{fold, may_be_constant};
 use crate::finding::field_in;
 use crate::halves::{kind_by_value, own_name};
+use crate::kept::{Kept, keep};
 use crate::remarks::{Stop, What};
-use crate::restater::{Restater, fresh, is_named, keep, name_of, note, note_word};
+use crate::restater::{Restater, fresh, is_named, name_of, note, note_word};
 use crate::scanning::is_made;
 use crate::tables::{Condition, Constructor, Field, Method, VariableRun};
 use crate::types::{Site, kind_at, kind_of};
 use crate::values::{Constant, Kind};
 use crate::words::WordId;
 use ls_java_tree::declarations::{
-    Body, Constructor as ConstructorTree, Member, Method as MethodTree, TypeDeclaration,
+    Constructor as ConstructorTree, Member, Method as MethodTree, TypeDeclaration,
 };
 use ls_java_tree::expressions::{Expression, ExpressionKind, Parameter};
 use ls_java_tree::names::Name;
@@ -55,13 +56,14 @@ fn lock_of(expression: &Expression) -> Option<&Expression> {
 
 // A field or a constructor gives a name a value: if that is a condition, it goes into the table.
 fn add_condition<'a>(
-    restater: &mut Restater<'a>,
+    restater: &mut Restater,
+    kept: &mut Kept<'a>,
     class: usize,
     name: WordId,
     value: &'a Expression,
 ) -> Result<(), Stop> {
     if let Some(lock) = lock_of(value) {
-        let lock = keep(restater, slice::from_ref(lock))?;
+        let lock = keep(kept, slice::from_ref(lock))?;
         restater
             .tables
             .conditions
@@ -72,8 +74,8 @@ fn add_condition<'a>(
 
 // One field. Its value goes to the end of those of all fields.
 fn add_field<'a>(
-    restater: &mut Restater<'a>,
-    values: &mut Vec<Option<&'a Expression>>,
+    restater: &mut Restater,
+    kept: &mut Kept<'a>,
     class: usize,
     tree: &Declaration,
     declarator: &'a Declarator,
@@ -91,22 +93,22 @@ fn add_field<'a>(
         kind,
         constant: None,
     })?;
-    values.push(declarator.value.as_ref())?;
+    kept.values.push(declarator.value.as_ref())?;
     match &declarator.value {
-        Some(value) => add_condition(restater, class, name, value),
+        Some(value) => add_condition(restater, kept, class, name, value),
         None => Ok(()),
     }
 }
 
 // The fields of a declaration.
 fn add_fields<'a>(
-    restater: &mut Restater<'a>,
-    values: &mut Vec<Option<&'a Expression>>,
+    restater: &mut Restater,
+    kept: &mut Kept<'a>,
     class: usize,
     tree: &'a Declaration,
 ) -> Result<(), Stop> {
     for declarator in &tree.declarators {
-        unless_refused(add_field(restater, values, class, tree, declarator))?;
+        unless_refused(add_field(restater, kept, class, tree, declarator))?;
     }
     Ok(())
 }
@@ -264,14 +266,19 @@ fn see_half(restater: &mut Restater, class: usize, name: WordId, value: &Express
 }
 
 // The conditions that a constructor makes, and the locks of a ReadWriteLock that it keeps.
-fn add_given<'a>(restater: &mut Restater<'a>, class: usize, body: &'a Block) -> Result<(), Stop> {
+fn add_given<'a>(
+    restater: &mut Restater,
+    kept: &mut Kept<'a>,
+    class: usize,
+    body: &'a Block,
+) -> Result<(), Stop> {
     for statement in &body.statements {
         let Some((name, value)) = given(statement) else {
             continue;
         };
         let name = name_of(restater, name);
         see_half(restater, class, name, value);
-        add_condition(restater, class, name, value)?;
+        add_condition(restater, kept, class, name, value)?;
     }
     Ok(())
 }
@@ -287,7 +294,8 @@ fn parameter_names(restater: &Restater, parameters: &[Parameter]) -> Result<Vec<
 
 // A constructor goes into the table.
 fn add_constructor<'a>(
-    restater: &mut Restater<'a>,
+    restater: &mut Restater,
+    kept: &mut Kept<'a>,
     class: usize,
     tree: &'a ConstructorTree,
 ) -> Result<(), Stop> {
@@ -295,9 +303,9 @@ fn add_constructor<'a>(
     let parameters = parameter_kinds(restater, Site { class, variables }, &tree.parameters)?;
     let out = name_of(restater, &tree.name);
     let names = parameter_names(restater, &tree.parameters)?;
-    add_given(restater, class, &tree.body)?;
+    add_given(restater, kept, class, &tree.body)?;
     let delegate = match delegate_of(&tree.body) {
-        Some(arguments) => Some(keep(restater, arguments)?),
+        Some(arguments) => Some(keep(kept, arguments)?),
         None => None,
     };
     restater.tables.constructors.push(Constructor {
@@ -314,14 +322,14 @@ fn add_constructor<'a>(
 
 /// The fields of a class. Their values go to the end of those of all fields.
 pub fn declare_fields<'a>(
-    restater: &mut Restater<'a>,
-    values: &mut Vec<Option<&'a Expression>>,
+    restater: &mut Restater,
+    kept: &mut Kept<'a>,
     class: usize,
     tree: &'a TypeDeclaration,
 ) -> Result<(), Stop> {
     for member in &tree.members {
         if let Member::Field(field) = member {
-            add_fields(restater, values, class, field)?;
+            add_fields(restater, kept, class, field)?;
         }
     }
     Ok(())
@@ -329,50 +337,18 @@ pub fn declare_fields<'a>(
 
 /// The methods and constructors of a class.
 pub fn declare_methods<'a>(
-    restater: &mut Restater<'a>,
+    restater: &mut Restater,
+    kept: &mut Kept<'a>,
     class: usize,
     tree: &'a TypeDeclaration,
 ) -> Result<(), Stop> {
     for member in &tree.members {
         let done = match member {
             Member::Method(method) => add_method(restater, class, method),
-            Member::Constructor(constructor) => add_constructor(restater, class, constructor),
+            Member::Constructor(constructor) => add_constructor(restater, kept, class, constructor),
             _ => Ok(()),
         };
         unless_refused(done)?;
-    }
-    Ok(())
-}
-
-// The value that a method of one `return` returns.
-fn returned(member: &Member) -> Option<&Expression> {
-    let Member::Method(method) = member else {
-        return None;
-    };
-    match method.body.as_ref()?.statements.first()? {
-        statement => match &statement.kind {
-            StatementKind::Return(value) => value.as_ref(),
-            _ => None,
-        },
-    }
-}
-
-// The value that the first method of an anonymous class returns which is one `return`.
-fn returned_by(body: &Body) -> Option<&Expression> {
-    let Body::Class(members) = body else {
-        return None;
-    };
-    members.iter().find_map(|member| returned(member))
-}
-
-/// What the bodies of anonymous classes return.
-pub fn find_returned<'a>(restater: &mut Restater<'a>, bodies: &'a [Body]) -> Result<(), Stop> {
-    for body in bodies {
-        let number = match returned_by(body) {
-            Some(value) => Some(keep(restater, slice::from_ref(value))?),
-            None => None,
-        };
-        restater.tables.returned.push(number)?;
     }
     Ok(())
 }

@@ -9,6 +9,7 @@ pub mod declaring;
 pub mod finding;
 pub mod generics;
 pub mod halves;
+pub mod kept;
 pub mod kinds;
 pub mod library;
 pub mod needs;

@@ -9,7 +9,6 @@ use crate::shapes::Shape;
 use crate::tables::Tables;
 use crate::values::Kind;
 use crate::words::{WordId, Words};
-use ls_java_tree::expressions::Expression;
 use ls_java_tree::names::Name;
 use std::alloc::Global;
 
@@ -66,12 +65,10 @@ pub struct Added {
     pub me: WordId,
 }
 
-/// What is known, found and written of a file. `kept` has the expressions that are restated where they don't stand: the
-/// arguments of a `this(..)`, the lock of a condition, and what a body returns.
+/// What is known, found and written of a file.
 #[derive(Drop)]
-pub struct Restater<'a> {
+pub struct Restater {
     pub alloc: Global,
-    pub kept: Vec<&'a [Expression]>,
     pub shapes: Vec<Shape>,
     pub words: Words,
     pub ropes: Ropes,
@@ -84,21 +81,6 @@ pub struct Restater<'a> {
     pub locals: Vec<Local>,
     pub around: Vec<Around>,
     pub place: Place,
-}
-
-/// Expressions are kept. The answer is their number.
-pub fn keep<'a>(restater: &mut Restater<'a>, all: &'a [Expression]) -> Result<usize, Stop> {
-    let number = restater.kept.len();
-    restater.kept.push(all)?;
-    Ok(number)
-}
-
-/// The expressions of a number.
-pub fn kept_trees<'a>(restater: &Restater<'a>, number: usize) -> &'a [Expression] {
-    match restater.kept.get(number) {
-        Some(all) => *all,
-        None => &[],
-    }
 }
 
 /// The height that is left for what is one node deeper.

@@ -3,4 +3,4 @@
 use Rattle.ls_java_expressions.proofs.targets.+effect.Given as goal
 
 abbrev pub decreases-effect : goal.decreases-effect
-decreases-effect l = l.limit
+decreases-effect l = l.depth.left
