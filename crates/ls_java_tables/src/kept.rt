@@ -9,9 +9,9 @@ use ls_java_tree::expressions::Expression;
 use ls_java_tree::statements::StatementKind;
 use std::slice;
 
-/// Lists of expressions by number, which are restated where they don't stand: the arguments of a `this(..)`, the lock of
-/// a condition, and what a body returns. `values` has what each field begins with where it is declared, by the field's
-/// number.
+/// Lists of expressions by number, which are restated where they don't stand: the arguments of a `this(..)`, the lock
+/// of a condition, and what a body returns. `values` has what each field begins with where it is declared, by the
+/// field's number.
 #[derive(Drop)]
 pub struct Kept<'a> {
     pub lists: Vec<&'a [Expression]>,

@@ -40,8 +40,8 @@ pub struct Class {
     pub implements: Vec<WordId>,
 }
 
-/// A field of the class of a number, with the token of its name, what it is and, if it is one, the constant that it is.
-/// `has_value` says that it has its value where it is declared.
+/// A field of the class of a number, with the token of its name, what it is and, if it is one, the constant that it
+/// is. `has_value` says that it has its value where it is declared.
 #[derive(Clone, Copy)]
 pub struct Field {
     pub class: usize,
@@ -55,7 +55,8 @@ pub struct Field {
 }
 
 /// A method of the class of a number, with the token of its name. `out` is the name that it gets. `me` is the name of
-/// the parameter for the thread's number, if it needs one. `main` is known by its form, and its parameters have no kind.
+/// the parameter for the thread's number, if it needs one. `main` is known by its form, and its parameters have no
+/// kind.
 #[derive(Drop)]
 pub struct Method {
     pub class: usize,
