@@ -124,7 +124,7 @@ pub fn own_call(
     if is_waiting(name) {
         let kind = ls_java_tables::finding::this_kind(restater);
         let object = fixed(restater, "this", kind, name.token)?;
-        return waiting_call(restater, out, name, object);
+        return waiting_call(restater, out, name, object, arguments);
     }
     if is_named(name, "hashCode") {
         return refuse_word(restater, name.token, wanted, Why::HashCode);
@@ -156,7 +156,7 @@ pub fn object_call(
         }
     }
     if is_waiting(name) {
-        return waiting_call(restater, out, name, object);
+        return waiting_call(restater, out, name, object, arguments);
     }
     if is_number(object.kind) || object.kind == Kind::Boolean {
         return number_call(restater, out, name, object, arguments);

@@ -45,9 +45,11 @@ pub(crate) fn call<'a>(
         Receiver::Class(class) => class_call(restater, out, tree, class, wanted, depth),
         Receiver::Printing => printing(restater, name, arguments),
         Receiver::ThisThread => thread_call(restater, name),
-        Receiver::Condition(lock) => {
+        Receiver::Condition { condition, lock } => {
+            let values = operands(restater, out, at, arguments, depth)?;
+            let condition = expression(restater, out, condition, depth)?;
             let lock = expression(restater, out, lock, depth)?;
-            condition_call(restater, out, name, lock, !arguments.is_empty())
+            condition_call(restater, out, name, [condition, lock], &values)
         }
         Receiver::Object(object) => {
             let first = part(restater, object, depth)?;

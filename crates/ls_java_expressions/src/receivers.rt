@@ -16,7 +16,10 @@ pub enum Receiver<'t> {
     Class(&'t Name),
     Printing,
     ThisThread,
-    Condition(&'t Expression),
+    Condition {
+        condition: &'t Expression,
+        lock: &'t Expression,
+    },
     Object(&'t Expression),
 }
 
@@ -73,7 +76,8 @@ pub fn receiver_of<'a>(
         return Receiver::Own;
     };
     if let Some(lock) = condition_lock(restater, target, depth) {
-        return Receiver::Condition(lock);
+        let condition = target;
+        return Receiver::Condition { condition, lock };
     }
     if library_field(restater, target) {
         return Receiver::Printing;

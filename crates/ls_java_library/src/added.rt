@@ -3,8 +3,10 @@
 use crate::arrays::{array_class, shape_of};
 use crate::atomics::{boolean_class, integer_class};
 use crate::patterns::{NO_TOKEN, Names, fill};
-use crate::synchronizers::{KEY, LATCH, READ_WRITE, SEMAPHORE, WAITED_KEY};
-use ls_java_tables::needs::{ArrayClass, Helper, HelperClass};
+use crate::synchronizers::{
+    CONDITION, KEY, LATCH, READ_WRITE, SEMAPHORE, WAITED_KEY, WAITED_KEY_REST,
+};
+use ls_java_tables::needs::{ArrayClass, Helper, HelperClass, helper_class};
 use ls_java_tables::remarks::Stop;
 use ls_java_tables::restater::{Restater, is_waited_on};
 use ls_java_tables::ropes::Text;
@@ -26,6 +28,17 @@ fn helper_names(restater: &mut Restater, class: HelperClass) -> Result<Names, St
     })
 }
 
+// The class for Object, where `wait` is called on objects of it.
+fn waited_key(restater: &mut Restater, out: &mut Text, names: Names) -> Result<(), Stop> {
+    fill(restater, out, WAITED_KEY, names)?;
+    let condition = helper_class(restater, Helper::Condition)?;
+    let rest = Names {
+        class: word(restater, condition, NO_TOKEN)?,
+        other: word(restater, restater.added.waiters, NO_TOKEN)?,
+    };
+    fill(restater, out, WAITED_KEY_REST, rest)
+}
+
 fn helper(restater: &mut Restater, out: &mut Text, class: HelperClass) -> Result<(), Stop> {
     let names = helper_names(restater, class)?;
     match class.helper {
@@ -34,10 +47,9 @@ fn helper(restater: &mut Restater, out: &mut Text, class: HelperClass) -> Result
         Helper::ReadWrite => fill(restater, out, READ_WRITE, names),
         Helper::Semaphore => fill(restater, out, SEMAPHORE, names),
         Helper::Latch => fill(restater, out, LATCH, names),
-        Helper::Key => {
-            let waited = is_waited_on(restater, Kind::Key);
-            fill(restater, out, if waited { WAITED_KEY } else { KEY }, names)
-        }
+        Helper::Key if is_waited_on(restater, Kind::Key) => waited_key(restater, out, names),
+        Helper::Key => fill(restater, out, KEY, names),
+        Helper::Condition => fill(restater, out, CONDITION, names),
     }
 }
 

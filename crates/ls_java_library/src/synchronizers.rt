@@ -28,5 +28,11 @@ pub const LATCH: &str =
 /// For Object, where objects of it are made.
 pub const KEY: &str = "class $ { }";
 
-/// For Object, where `wait` is called on objects of it.
-pub const WAITED_KEY: &str = "class $ { Lock @ = new ReentrantLock ( ) ; }";
+/// For Object, where `wait` is called on objects of it: its head with the lock, and the rest with the condition.
+pub const WAITED_KEY: &str = "class $ { Lock @ = new ReentrantLock ( ) ;";
+
+pub const WAITED_KEY_REST: &str = "$ @ = new $ ( ) ; }";
+
+/// For Condition, and for those that wait for an object: how many have waited, and how many of them, from the first,
+/// may go on.
+pub const CONDITION: &str = "class $ { int waiting ; int woken ; }";

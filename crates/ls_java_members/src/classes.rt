@@ -8,6 +8,7 @@ use crate::places::{
 };
 use ls_java_expressions::writing::emit;
 use ls_java_tables::finding::{class_at, is_split, outer_of};
+use ls_java_tables::needs::{Helper, helper_class};
 use ls_java_tables::remarks::{Stop, What};
 use ls_java_tables::restater::{Restater, is_handed_outer, is_waited_on, note_word};
 use ls_java_tables::ropes::Text;
@@ -36,12 +37,15 @@ fn say_class(
     say(restater, out, "{", brace)?;
     if is_waited_on(restater, kind) {
         let monitor = word(restater, restater.added.monitor, brace)?;
+        let waiters = word(restater, restater.added.waiters, brace)?;
+        let condition = helper_class(restater, Helper::Condition)?;
+        let condition = word(restater, condition, brace)?;
         emit(
             restater,
             out,
             brace,
-            "Lock # = new ReentrantLock ( ) ;",
-            &[monitor],
+            "Lock # = new ReentrantLock ( ) ; # # = new # ( ) ;",
+            &[monitor, condition, waiters, condition],
         )?;
     }
     Ok(())

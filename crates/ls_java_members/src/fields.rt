@@ -7,6 +7,7 @@ use ls_java_statements::bodies::body;
 use ls_java_tables::collecting::flags_of;
 use ls_java_tables::finding::is_split;
 use ls_java_tables::kept::Depth;
+use ls_java_tables::needs::{Helper, helper_class};
 use ls_java_tables::remarks::{Stop, What};
 use ls_java_tables::restater::{Restater, note_word};
 use ls_java_tables::ropes::Text;
@@ -37,13 +38,13 @@ fn field_at(restater: &Restater, token: usize) -> Option<Field> {
         .copied()
 }
 
-// A field that isn't written: a constant, a condition, or chance.
+// A field that isn't written: a constant, or chance.
 fn why_left_out(field: &Field) -> Option<What> {
     if field.constant.is_some() {
         return Some(What::ConstantInPlace);
     }
     match field.kind {
-        Kind::Condition | Kind::Random => Some(What::FieldLeftOut),
+        Kind::Random => Some(What::FieldLeftOut),
         _ => None,
     }
 }
@@ -102,6 +103,25 @@ fn valued_field<'a>(
     )
 }
 
+// A condition: an object that counts who waits. It is made where the field is declared, with its lock or without.
+fn condition(
+    restater: &mut Restater,
+    out: &mut Text,
+    tree: &Declaration,
+    field: &Field,
+) -> Result<(), Stop> {
+    let at = tree.type_name.span.first;
+    let token = field.token;
+    say_modifiers(restater, out, &tree.modifiers, "")?;
+    let class = helper_class(restater, Helper::Condition)?;
+    let written = word(restater, class, at)?;
+    append(restater, out, written)?;
+    say_word(restater, out, field.name, token)?;
+    let made = word(restater, class, token)?;
+    emit(restater, out, token, "= new # ( )", &[made])?;
+    say(restater, out, ";", tree.span.last)
+}
+
 // One field of a declaration.
 fn field<'a>(
     restater: &mut Restater,
@@ -113,6 +133,9 @@ fn field<'a>(
 ) -> Result<(), Stop> {
     if let Some(what) = why_left_out(field) {
         return note_word(restater, field.token, field.name, what);
+    }
+    if field.kind == Kind::Condition {
+        return condition(restater, &mut fields.declared, tree, field);
     }
     enter_member(restater, field.class, field.is_static)?;
     valued_field(restater, trees, fields, tree, value, field)

@@ -87,6 +87,7 @@ fn empty(alloc: Global, tokens: &[Token], facts: Facts) -> Result<Restater, Stop
             outer: Words::NONE,
             statics: Words::NONE,
             monitor: Words::NONE,
+            waiters: Words::NONE,
             me: Words::NONE,
         },
         notes: Vec::new(alloc),
@@ -113,6 +114,7 @@ fn name_added(restater: &mut Restater) -> Result<(), Stop> {
         outer: fresh(restater, "outer")?,
         statics: fresh(restater, "statics")?,
         monitor: fresh(restater, "monitor")?,
+        waiters: fresh(restater, "waiters")?,
         me: fresh(restater, "me")?,
     };
     Ok(())

@@ -15,6 +15,7 @@ pub enum Helper {
     Semaphore,
     Latch,
     Key,
+    Condition,
 }
 
 /// A method of a class that stands for one of the library.
@@ -77,13 +78,17 @@ fn helper_base(helper: Helper) -> &'static str {
         Helper::Semaphore => "Semaphore",
         Helper::Latch => "CountDownLatch",
         Helper::Key => "Key",
+        Helper::Condition => "Condition",
     }
 }
 
 // The name of a class that is added. A class of the library keeps its name where the file declares none of that name.
 fn helper_name(restater: &mut Restater, helper: Helper) -> Result<WordId, Stop> {
     let base = helper_base(helper);
-    if matches!(&helper, Helper::Semaphore | Helper::Latch) {
+    if matches!(
+        &helper,
+        Helper::Semaphore | Helper::Latch | Helper::Condition
+    ) {
         let name = word_of(restater, base)?;
         if !declares(restater, name) {
             return Ok(name);

@@ -112,7 +112,6 @@ pub enum Why {
     ThrowOf = 507,
     Catch = 508,
     WaitOutsideLoop = 509,
-    WaitWithTime = 510,
     SynchronizedOn = 511,
     TwoMonitors = 512,
     // limits
@@ -172,8 +171,10 @@ pub enum What {
     CatchInterrupted,
     Throw,
     Notify,
+    Signal,
     Wait,
     Await,
+    WaitTime,
 }
 
 /// What was restated otherwise, with a token of the file, and the word that is meant, which may be empty.

@@ -62,6 +62,7 @@ pub struct Added {
     pub outer: WordId,
     pub statics: WordId,
     pub monitor: WordId,
+    pub waiters: WordId,
     pub me: WordId,
 }
 
@@ -169,7 +170,7 @@ fn found(restater: &mut Restater) {
     restater.facts.again = true;
 }
 
-/// `wait` is called on an object of a kind: its class gets a lock.
+/// `wait` is called on an object of a kind: its class gets a lock and a condition.
 pub fn waits_on(restater: &mut Restater, kind: Kind) -> Result<(), Stop> {
     if !restater.facts.waiters.contains(&kind) {
         restater.facts.waiters.push(kind)?;

@@ -4,7 +4,7 @@ use crate::remarks::{What, Why};
 use std::fmt::{Display, Error, Formatter, Write};
 
 // Of each reason what can't be restated, and what to write.
-static REFUSALS: [(Why, &str); 76] = [
+static REFUSALS: [(Why, &str); 75] = [
     (
         Why::Extends,
         "a class that extends another: write one class with all members",
@@ -201,7 +201,6 @@ static REFUSALS: [(Why, &str); 76] = [
         Why::WaitOutsideLoop,
         "a wait outside of a loop on its condition: Java may end a wait unwoken (JLS 17.2.1): write `while`",
     ),
-    (Why::WaitWithTime, "a wait with a time: write a loop"),
     (
         Why::SynchronizedOn,
         "`synchronized` on this: write an object of `new Object()`",
@@ -216,7 +215,7 @@ static REFUSALS: [(Why, &str); 76] = [
 ];
 
 // Of each note what was restated otherwise.
-static NOTES: [(What, &str); 46] = [
+static NOTES: [(What, &str); 48] = [
     (What::ClassLeftOut, "a class that is left out"),
     (What::Beside, "a class that stands beside the others"),
     (What::ClassRenamed, "a class that is named otherwise"),
@@ -326,14 +325,22 @@ static NOTES: [(What, &str); 46] = [
         "catch of InterruptedException: left out, no thread is interrupted",
     ),
     (What::Throw, "throw: the trap is ArithmeticException"),
-    (What::Notify, "notify: left out"),
+    (What::Notify, "notify: left out, no thread waits"),
+    (
+        What::Signal,
+        "notify, signal: of those that wait, the one that waits longest goes on",
+    ),
     (
         What::Wait,
-        "wait: lets go of the monitor and takes it again; a lost notify isn't seen",
+        "wait: lets go of the monitor, waits for a notify, and takes the monitor again",
     ),
     (
         What::Await,
-        "await: lets go of the lock and takes it again; a lost signal isn't seen",
+        "await: lets go of the lock, waits for a signal, and takes the lock again",
+    ),
+    (
+        What::WaitTime,
+        "a wait with a time: lets go of the lock and takes it again, as if the time had passed",
     ),
 ];
 
