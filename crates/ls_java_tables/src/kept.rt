@@ -42,7 +42,7 @@ pub fn kept_list<'a>(depth: Depth<'a>, number: usize) -> &'a [Expression] {
 
 /// What is left one node deeper.
 pub fn down<'a>(depth: Depth<'a>) -> Result<Depth<'a>, Stop>
-    ensures { IfOk result (λ inner. inner.left + 1 ≡ depth.left) }
+    ensures { IfOk result (λ inner. inner.left + 1 ≡ depth.entry.left) }
 {
     let left = deeper(depth.left)?;
     Ok(Depth {
