@@ -10,7 +10,7 @@ pub const READ_WRITE: &str = "class $ { Lock gate = new ReentrantLock ( ) ; int 
 
 /// For Semaphore.
 pub const SEMAPHORE: &str =
-    "class $ { Lock gate = new ReentrantLock ( ) ; int permits ; $ ( int n ) { permits = n ; } \
+    "class $ { Lock gate = new ReentrantLock ( ) ; volatile int permits ; $ ( int n ) { permits = n ; } \
     void acquire ( ) { while ( true ) { gate . lock ( ) ; \
         if ( permits > 0 ) { permits -- ; gate . unlock ( ) ; return ; } gate . unlock ( ) ; } } \
     boolean tryAcquire ( ) { gate . lock ( ) ; boolean free = permits > 0 ; \
@@ -20,7 +20,7 @@ pub const SEMAPHORE: &str =
 
 /// For CountDownLatch.
 pub const LATCH: &str =
-    "class $ { Lock gate = new ReentrantLock ( ) ; int count ; $ ( int n ) { count = n ; } \
+    "class $ { Lock gate = new ReentrantLock ( ) ; volatile int count ; $ ( int n ) { count = n ; } \
     void countDown ( ) { gate . lock ( ) ; if ( count > 0 ) { count -- ; } gate . unlock ( ) ; } \
     void await ( ) { while ( count > 0 ) { } } \
     int getCount ( ) { return count ; } }";
@@ -35,4 +35,4 @@ pub const WAITED_KEY_REST: &str = "$ @ = new $ ( ) ; }";
 
 /// For Condition, and for those that wait for an object: how many have waited, and how many of them, from the first,
 /// may go on.
-pub const CONDITION: &str = "class $ { int waiting ; int woken ; }";
+pub const CONDITION: &str = "class $ { int waiting ; volatile int woken ; }";
