@@ -24,3 +24,5 @@ pub mod Layers
 pub mod Dropped
 pub mod Joined
 pub mod Treed
+pub mod Untaken
+pub mod Excused

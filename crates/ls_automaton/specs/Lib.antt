@@ -10,3 +10,4 @@ pub mod States
 pub mod Held
 pub mod Layers
 pub mod Merged
+pub mod Excuses

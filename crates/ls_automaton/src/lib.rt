@@ -3,6 +3,7 @@
 #![tactic(auto)]
 
 mod event_hashing;
+pub mod excuses;
 pub mod fate;
 pub mod laws;
 pub mod merging;

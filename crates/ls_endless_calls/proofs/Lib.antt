@@ -1,5 +1,6 @@
 pub mod Ahead
 pub mod Breaks
+pub mod Deciding
 pub mod Excused
 pub mod Fine
 pub mod Left
