@@ -14,7 +14,6 @@ use Rattle.ls_automaton.specs.declared.outcome.Outcome.{Outcome}
 use Rattle.ls_automaton.specs.Held.{AreAmong, Covers, Held, IsCovered, NoneIsCovered, begins, begun, begun_held, ended}
 use Rattle.ls_automaton.specs.Held.{ends, entry_at, further, goes_along, has_taken, is_at, is_noted, is_open, kept}
 use Rattle.ls_automaton.specs.Held.{leaves_none, may_take, row_of, taken, taking}
-use Rattle.ls_automaton.specs.Excuses.{AreSameUntaken, NoneTaken, all_left, left_of}
 use Rattle.ls_automaton.proofs.Ending.{both_ways, one_goes}
 use Rattle.ls_automaton.proofs.Entries.{at_parts, at_same, back_of, begun_entries, changed, ended_entries, front_of}
 use Rattle.ls_automaton.proofs.Entries.{lesser, not_both, opens, opens_few, opens_less, taken_entries, true_or_false}
@@ -372,98 +371,3 @@ module _ (rows : List (Vec Outcome Global)) where
       ((q : Held) → Contains left q → IsCovered rows pairs q → ⊥) → NoneIsCovered rows left
   none_among pairs left among none q there k =
       none q there (record { pair = k.pair; there = among k.pair k.there; covers = k.covers })
-
-  -- ---- pairs that are left of a pair that is covered
-
-  -- in a pair that is covered a pending call has taken effect
-  covered_taken : (p q : Held) → Covers rows p q → NoneTaken q.pending → ⊥
-  covered_taken p q c none =
-      let o : Outcome = c.outcome in
-      let may = may_by p o c.is.0 in
-      not_both (ap (λ (z : Held). has_taken (entry_at z.pending o.end.thread o.end.call)) (sym c.is.1)
-      ∙ ap has_taken (taken_entries o.end p.pending o.end.thread o.end.call may.0.call may.0.is)
-      ∙ ap (λ b. has_taken (if b then Some o.end else entry_at p.pending o.end.thread o.end.call))
-      (at_same o.end.thread o.end.call o.end refl refl)
-      ∙ ap not may.1) (none o.end.thread o.end.call)
-
-  -- a pair without effects that is left of one is left of each that covers that
-  abbrev LeavesToo : List Event → Type 0
-  LeavesToo h = (y z : Held) → Covers rows y z → (r : Held) → NoneTaken r.pending → Contains (left_of rows h z) r →
-      Contains (left_of rows h y) r
-
-  pub covered_leaves : (h : List Event) → LeavesToo h
-  covered_leaves [] p q c r none there =
-      absurd (covered_taken p q c (subst (λ (z : Held). NoneTaken z.pending) (sym (only q r there)) none))
-  covered_leaves (e ∷ h) p q c r none there = by_event (covered_leaves h) (is_called e.happening) there
-    where
-      by_taken : LeavesToo h → (x : Held) → Contains (ends rows (length q.pending) e q) x →
-          Contains (left_of rows h x) r →
-          (has_taken (entry_at p.pending e.thread e.call) ≡ true)
-          ⊎ (has_taken (entry_at p.pending e.thread e.call) ≡ false) →
-          Contains (flat_map (left_of rows h) (ends rows (length p.pending) e p)) r
-      by_taken more x ends_there left (inr hasnt) =
-          in_flat (left_of rows h) (ends rows (length p.pending) e p) x r (ends_too p q c e x hasnt ends_there) left
-      by_taken more x ends_there left (inl has) =
-          let may = may_by p c.outcome c.is.0 in
-          let differ = taken_apart p.pending e c.outcome.end has (ap is_open may.0.is ∙ may.0.is_call) in
-          let noted = noted_of p q c e differ in
-          let there_kept = subst (λ l. Contains l x) (ends_taken (length q.pending) e q (ap has_taken noted ∙ has))
-          ends_there in
-          let k = kept_only e q x there_kept in
-          in_flat (left_of rows h) (ends rows (length p.pending) e p)
-          (record { state = p.state; pending = ended e p.pending }) r
-          (subst (λ l. Contains l (record { state = p.state; pending = ended e p.pending }))
-          (sym (ends_taken (length p.pending) e p has))
-          (kept_there e p (ap (is_noted e) (sym noted) ∙ k.0)))
-          (more (record { state = p.state; pending = ended e p.pending })
-          (record { state = q.state; pending = ended e q.pending }) (ended_covers p q c e differ) r none
-          (subst (λ z. Contains (left_of rows h z) r) (sym k.1) left))
-
-      by_event : LeavesToo h → (b : Bool) →
-          Contains (flat_map (left_of rows h) (if b then begins e q else ends rows (length q.pending) e q)) r →
-          Contains (flat_map (left_of rows h) (if b then begins e p else ends rows (length p.pending) e p)) r
-      by_event more true one =
-          let f = of_flat (left_of rows h) (begins e q) r one in
-          let b = begins_only e q f.0 f.1 in
-          let n = none_noted p q c e b.0 in
-          in_flat (left_of rows h) (begins e p) (begun_held e p) r (begins_new e p n.0)
-          (more (begun_held e p) (begun_held e q) (begun_covers p q c e n.1) r none
-          (subst (λ z. Contains (left_of rows h z) r) (sym b.1) f.2))
-      by_event more false one =
-          let f = of_flat (left_of rows h) (ends rows (length q.pending) e q) r one in
-          by_taken more f.0 f.1 f.2 (true_or_false (has_taken (entry_at p.pending e.thread e.call)))
-
-  module _ (pairs left : List Held) (lost : (q : Held) → Contains pairs q → Contains left q ⊎ IsCovered rows pairs q)
-      (h : List Event) (r : Held) (none : NoneTaken r.pending) where
-    some_leaves : (n : ℕ) (q : Held) → Contains pairs q → length q.pending ≤ opens q.pending + n →
-        Contains (left_of rows h q) r → Contains (all_left rows h left) r
-    some_leaves zero q there few leaves = by_place (lost q there)
-      where
-        by_place : Contains left q ⊎ IsCovered rows pairs q → Contains (all_left rows h left) r
-        by_place (inl is_left) = in_flat (left_of rows h) left q r is_left leaves
-        by_place (inr k) =
-            let less = open_less k.pair q k.covers in
-            let long = same_length k.pair q k.covers in
-            let most = opens_few k.pair.pending in
-            absurd (omega (arith, few, less, long, most))
-    some_leaves (suc n) q there few leaves = by_place (some_leaves n) (lost q there)
-      where
-        by_place : ((p : Held) → Contains pairs p → length p.pending ≤ opens p.pending + n →
-            Contains (left_of rows h p) r → Contains (all_left rows h left) r) →
-            Contains left q ⊎ IsCovered rows pairs q → Contains (all_left rows h left) r
-        by_place more (inl is_left) = in_flat (left_of rows h) left q r is_left leaves
-        by_place more (inr k) =
-            let less = open_less k.pair q k.covers in
-            let long = same_length k.pair q k.covers in
-            more k.pair k.there (omega (arith, few, less, long)) (covered_leaves h k.pair q k.covers r none leaves)
-
-  -- where each that isn't left is covered, the same pairs without effects are left of them
-  pub covered_untaken : (pairs left : List Held) → AreAmong left pairs →
-      ((q : Held) → Contains pairs q → Contains left q ⊎ IsCovered rows pairs q) → (h : List Event) →
-      AreSameUntaken (all_left rows h left) (all_left rows h pairs)
-  covered_untaken pairs left among lost h r none = (
-    λ there. let f = of_flat (left_of rows h) left r there in
-        in_flat (left_of rows h) pairs f.0 r (among f.0 f.1) f.2,
-    λ there. let f = of_flat (left_of rows h) pairs r there in
-        some_leaves pairs left lost h r none (length f.0.pending) f.0 f.1 (omega arith) f.2,
-  )

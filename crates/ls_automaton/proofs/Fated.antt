@@ -1,5 +1,5 @@
 -- What comes of calls in states, one call and one state more.
-use Rattle.std.proofs.Common.{◌≡◌, ◌⊎◌, inl, inr, ℕ, ◌+◌, ◌<◌, ◌≤◌, false, List, [], ◌∷◌, ◌++◌, Some, None}
+use Rattle.std.proofs.Common.{◌≡◌, ◌⊎◌, inl, inr, ℕ, ◌+◌, ◌<◌, ◌≤◌, List, [], ◌∷◌, ◌++◌, Some, None}
 use Rattle.std.proofs.Common.{length, slice_get, sym, ap, ◌∙◌, subst, arith}
 use Rattle.std.proofs.lemmas.Bool.{cases_lt}
 use Rattle.std.specs.declared.vec.Vec.{Vec}
@@ -9,40 +9,13 @@ use Rattle.ls_checked.specs.CheckedProgram.{Program}
 use Rattle.ls_serial.proofs.Lists.{get_there, get_within, some_is}
 use Rattle.ls_automaton.specs.declared.fate.Fate.{Fate}
 use Rattle.ls_automaton.specs.declared.spots.Spot.{Spot}
-use Rattle.ls_automaton.specs.Fates.{AreFates, AreFatesTo, AreShort, AreShortIn, AreStates, HasFate, is_long}
+use Rattle.ls_automaton.specs.Fates.{AreFates, AreFatesTo, AreStates, HasFate}
 use Rattle.ls_automaton.specs.Spots.{AreSpots, Grows, schedules_of}
 use Rattle.ls_automaton.proofs.Filled.{acting_to, pushed_get, serial_to}
 use Rattle.ls_automaton.proofs.Reaching.{schedule_kept}
 
 no_element : {A : Type 0} {x : A} → None ≡ Some x → ⊥
 no_element h = cc
-
--- ---- calls that don't go on
-
--- of no call
-pub short_none : (fates : List Fate) → fates ≡ [] → AreShortIn fates
-short_none fates is t f at = absurd (no_element (sym (ap (λ l. slice_get l t) is) ∙ at))
-
--- of one call more
-pub short_more : (fates : List Fate) (f : Fate) → AreShortIn fates → is_long f ≡ false → AreShortIn (fates ++ f ∷ [])
-short_more fates f before last t g at = by_place (pushed_get fates f g t at)
-  where
-    by_place : (slice_get fates t ≡ Some g) ⊎ ((t ≡ length fates) × (f ≡ g)) → is_long g ≡ false
-    by_place (inl there) = before t g there
-    by_place (inr (same, is)) = subst (λ x. is_long x ≡ false) is last
-
--- of no state
-pub shorts_none : (rows : List (Vec Fate Global)) → rows ≡ [] → AreShort rows
-shorts_none rows is n row at = absurd (no_element (sym (ap (λ l. slice_get l n) is) ∙ at))
-
--- of one state more
-pub shorts_more : (rows : List (Vec Fate Global)) (row : Vec Fate Global) → AreShort rows → AreShortIn row.items →
-    AreShort (rows ++ row ∷ [])
-shorts_more rows row before last n z at = by_place (pushed_get rows row z n at)
-  where
-    by_place : (slice_get rows n ≡ Some z) ⊎ ((n ≡ length rows) × (row ≡ z)) → AreShortIn z.items
-    by_place (inl there) = before n z there
-    by_place (inr (same, is)) = subst (λ (v : Vec Fate Global). AreShortIn v.items) is last
 
 module _ (file : File) (program : Program) (bound : ℕ) where
   -- ---- of one state

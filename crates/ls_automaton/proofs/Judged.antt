@@ -16,8 +16,7 @@ use Rattle.ls_automaton.specs.Automaton.{Idle, Open, Took, Pair, status_of, with
 use Rattle.ls_automaton.specs.Automaton.{Starts, Calls, Ends}
 use Rattle.ls_automaton.specs.Held.{Held, begins, begun, begun_held, ended, ends, entry_at, first_held, further}
 use Rattle.ls_automaton.specs.Held.{goes_along, has_taken, is_at, is_noted, is_open, kept, may_take, row_of, taken}
-use Rattle.ls_automaton.specs.Held.{moved, taking}
-use Rattle.ls_automaton.specs.Excuses.{left_of}
+use Rattle.ls_automaton.specs.Held.{taking}
 use Rattle.ls_automaton.specs.Laws.{RunsAreOnce}
 use Rattle.ls_automaton.specs.Tables.{Goes}
 use Rattle.ls_automaton.proofs.Holding.{IsLinked, IsSo, linked, once_first}
@@ -72,7 +71,7 @@ opened (Some x) c is = by_test (is_called x.happening) refl is
     by_test true h is = let same : x ≡ c = cc in (ap Some same, subst IsCall same h)
     by_test false h is = absurd cc
 
-pub took : (o : Option Event) (e : Event) → as_status o ≡ Took e → (o ≡ Some e) × IsEnd e
+took : (o : Option Event) (e : Event) → as_status o ≡ Took e → (o ≡ Some e) × IsEnd e
 took None e is = absurd cc
 took (Some x) e is = by_test (is_called x.happening) refl is
   where
@@ -411,62 +410,3 @@ module _ (rows : List (Vec Outcome Global)) where
     λ p. ap (λ l. goes_along rows l first_held) (sym (append-nil h))
         ∙ goes_before runs h p.0 once p.1 [] (λ r is. refl),
   )
-
-  -- ---- the pairs that are left after a history are those that the observer holds
-
-  -- one event more
-  left_more : (g : List Event) (e : Event) (p r z : Held) → Contains (left_of rows g p) r →
-      Contains (moved rows e r) z → Contains (left_of rows (g ++ e ∷ []) p) z
-  left_more [] e p r z there new = in_flat (left_of rows []) (moved rows e p) z z
-      (subst (λ x. Contains (moved rows e x) z) (sym (only p r there)) new) (there_first z [])
-  left_more (d ∷ g) e p r z there new =
-      let f = of_flat (left_of rows g) (moved rows d p) r there in
-      in_flat (left_of rows (g ++ e ∷ [])) (moved rows d p) f.0 z f.1 (left_more g e f.0 r z f.2 new)
-
-  -- a pair that is left is held
-  pub left_held : (h g : List Event) (p r : Held) → Holds goes 0 g (pair_of p) → Contains (left_of rows h p) r →
-      Holds goes 0 (g ++ h) (pair_of r)
-  left_held [] g p r held there = subst (λ l. Holds goes 0 l (pair_of r)) (sym (append-nil g))
-      (subst (λ z. Holds goes 0 g (pair_of z)) (only p r there) held)
-  left_held (e ∷ h) g p r held there = subst (λ l. Holds goes 0 l (pair_of r)) (append_assoc g (e ∷ []) h)
-      (by_event (λ q. left_held h (g ++ e ∷ []) q r) (is_called e.happening) refl there)
-    where
-      by_event : ((q : Held) → Holds goes 0 (g ++ e ∷ []) (pair_of q) → Contains (left_of rows h q) r →
-          Holds goes 0 ((g ++ e ∷ []) ++ h) (pair_of r)) → (b : Bool) → is_called e.happening ≡ b →
-          Contains (flat_map (left_of rows h) (if b then begins e p else ends rows (length p.pending) e p)) r →
-          Holds goes 0 ((g ++ e ∷ []) ++ h) (pair_of r)
-      by_event more true call one =
-          let f = of_flat (left_of rows h) (begins e p) r one in
-          more f.0 (subst (λ z. Holds goes 0 (g ++ e ∷ []) (pair_of z)) (begins_only e p f.0 f.1).1
-          (subst (Holds goes 0 (g ++ e ∷ [])) (sym (begun_pair e p call)) (Calls g (pair_of p) e held call))) f.2
-      by_event more false end one =
-          let f = of_flat (left_of rows h) (ends rows (length p.pending) e p) r one in
-          let left = ends_left (length p.pending) e p f.0 end f.1 in
-          more f.0 (subst (Holds goes 0 (g ++ e ∷ [])) (sym (ended_pair e left.pair) ∙ ap pair_of left.is)
-          (Ends g (pair_of p) (pair_of left.pair) e held left.takes end left.took)) f.2
-
-  -- and one that is held is left
-  pub held_left : RunsAreOnce goes 0 → (h : List Event) (q : Pair ℕ) → AreOnce h → Holds goes 0 h q →
-      (r : Held) × Contains (left_of rows h first_held) r × (pair_of r ≡ q)
-  held_left runs h q once Starts = (first_held, there_first first_held [], refl)
-  held_left runs h q once (Calls g p c held call) =
-      let r = held_left runs g p (once_first g c once) held in
-      let none = none_pending runs g p c r.0 call once held r.2 in (
-        begun_held c r.0,
-        left_more g c first_held r.0 (begun_held c r.0) r.1
-            (subst (λ b. Contains (if b then begins c r.0 else ends rows (length r.0.pending) c r.0) (begun_held c r.0))
-            (sym call) (begins_new c r.0 none)),
-        begun_pair c r.0 call
-            ∙ ap (λ (z : Pair ℕ). record { state = z.state; calls = with_status z.calls c (Open c) }) r.2,
-      )
-  held_left runs h q once (Ends g p z e held takes end took_e) =
-      let r = held_left runs g p (once_first g e once) held in
-      let f = ends_found e p z takes took_e (length r.0.pending) r.0 (sym r.2) (opens_few r.0.pending) in
-      let new : Held = record { state = f.pair.state; pending = ended e f.pair.pending } in (
-        new,
-        left_more g e first_held r.0 new r.1
-            (subst (λ b. Contains (if b then begins e r.0 else ends rows (length r.0.pending) e r.0) new)
-            (sym end) f.there),
-        ended_pair e f.pair
-            ∙ ap (λ (y : Pair ℕ). record { state = y.state; calls = with_status y.calls e Idle }) f.is,
-      )

@@ -24,5 +24,3 @@ pub mod Layers
 pub mod Dropped
 pub mod Joined
 pub mod Treed
-pub mod Untaken
-pub mod Excused

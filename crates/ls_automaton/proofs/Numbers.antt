@@ -41,10 +41,6 @@ happens (Trapped k) c is call =
     no : IsCall (record { thread = 0; call = 0; happening = Trapped k }) → ⊥
     no h = cc
 
--- a call has only its numbers
-pub call_is : (c : Event) → IsCall c → c ≡ called c.thread c.call
-call_is c call = happens c.happening c refl call
-
 -- the call of an end
 pub call_of_end : (c e : Event) → IsCall c → IsEndOf c e → c ≡ called e.thread e.call
 call_of_end c e call end = happens c.happening c refl call
@@ -190,33 +186,19 @@ module _ (file : File) (program : Program) (bound : ℕ) (goes_on : Bool) (rows 
       let p = played file program g (start program) r.0 r.1 in
       (p.path, p.history)
 
-  -- and leads to the state of its number
-  pub numbered : (g : List Event) (last : ℕ) → Serially (Goes rows) 0 g last →
-      (schedule : List ℕ) × (source_history file program schedule ≡ g) ×
-      IsAlike (source_run file program schedule) last
-  numbered g last run =
-      let r = comes_to (Goes rows) 0 (Leads file program) (start program) IsLeft goes_like g 0 last (start program)
-      begins run in
-      let p = played file program g (start program) r.last r.serially in
-      (p.path, p.history, subst (λ s. IsAlike s last) (sym p.state) r.alike)
-
   pub is_linearizable : (h : List Event) → IsExplainedFrom (Goes rows) 0 h → IsLinearizable file program h
   is_linearizable h e = (programs_are file program h).1
       (alike_explain (Goes rows) 0 (Leads file program) (start program) IsLeft goes_like h e)
 
-  -- a serial run leads to a state that has a number, and it is one by numbers
-  pub reached_so : goes_on ≡ false → (g : List Event) (s : State) → Serially (Leads file program) (start program) g s →
-      (n : ℕ) × Serially (Goes rows) 0 g n × IsAlike s n
-  reached_so known g s run =
+  -- a serial run leads to a state that has a number
+  pub reached : goes_on ≡ false → (g : List Event) (s : State) → Serially (Leads file program) (start program) g s →
+      (n : ℕ) × IsAlike s n
+  reached known g s run =
       let r = comes_to (Leads file program) (start program) (Goes rows) 0 IsAlike (record {
         begins = begins;
         goes_on = λ s n c e m a call end l. goes s n c e m a call end l (inr known);
       }) g (start program) s 0 begins run in
-      (r.last, r.serially, r.alike)
-
-  pub reached : goes_on ≡ false → (g : List Event) (s : State) → Serially (Leads file program) (start program) g s →
-      (n : ℕ) × IsAlike s n
-  reached known g s run = let r = reached_so known g s run in (r.0, r.2)
+      (r.last, r.alike)
 
   pub is_explained : goes_on ≡ false → (h : List Event) → IsLinearizable file program h →
       IsExplainedFrom (Goes rows) 0 h

@@ -45,14 +45,6 @@ pub record AreFates (file : File) (program : Program) (bound : ℕ) (schedule : 
   pub each : AreFatesTo file program bound schedule fates
   pub many : length fates ≡ length program.threads
 
--- no call goes on within the bound
-abbrev pub AreShortIn : List Fate → Type 0
-AreShortIn fates = (t : ℕ) (f : Fate) → slice_get fates t ≡ Some f → is_long f ≡ false
-
--- so it is in each state
-abbrev pub AreShort : List (Vec Fate Global) → Type 0
-AreShort rows = (n : ℕ) (row : Vec Fate Global) → slice_get rows n ≡ Some row → AreShortIn row.items
-
 -- Each way is a schedule of calls that run one at a time, each step of which acts. The first states have their fates.
 pub record AreStates (file : File) (program : Program) (bound : ℕ) (ways : List (List ℕ))
     (rows : List (Vec Fate Global)) : Type 0 where

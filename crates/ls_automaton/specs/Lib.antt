@@ -10,4 +10,3 @@ pub mod States
 pub mod Held
 pub mod Layers
 pub mod Merged
-pub mod Excuses

@@ -1,9 +1,9 @@
 -- States of a program between calls that run one at a time.
-use Rattle.std.specs.Prelude.{◌≡◌, ◌≤◌, ℕ, false, List, length}
+use Rattle.std.specs.Prelude.{◌≡◌, ◌≤◌, ℕ, List, length}
 use Rattle.ls_checked.specs.CheckedTree.{File}
 use Rattle.ls_checked.specs.CheckedProgram.{Program}
 use Rattle.ls_automaton.specs.declared.states.States.{States}
-use Rattle.ls_automaton.specs.Fates.{AreShort, AreStates}
+use Rattle.ls_automaton.specs.Fates.{AreStates}
 use Rattle.ls_automaton.specs.Spots.{schedules_of}
 use Rattle.ls_automaton.specs.Tables.{AreOutcomes}
 
@@ -14,9 +14,8 @@ ways_of s = schedules_of s.spots.list.items
 abbrev pub AreStatesOf : File → Program → ℕ → States → Type 0
 AreStatesOf file program bound s = AreStates file program bound (ways_of s) s.fates.items
 
--- Each call leads from a state to a state. All states have their fates. If no call goes on, none of them says so.
+-- Each call leads from a state to a state. All states have their fates.
 pub record HaveOutcomes (file : File) (program : Program) (bound : ℕ) (s : States) : Type 0 where
   pub outcomes : AreOutcomes file program bound s.goes_on s.rows.items
   pub ways : outcomes.spots ≡ ways_of s
   pub all : length (ways_of s) ≤ length s.fates.items
-  pub short : s.goes_on ≡ false → AreShort s.fates.items

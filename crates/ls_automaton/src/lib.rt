@@ -3,7 +3,6 @@
 #![tactic(auto)]
 
 mod event_hashing;
-pub mod excuses;
 pub mod fate;
 pub mod laws;
 pub mod merging;

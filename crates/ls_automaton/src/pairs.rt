@@ -5,11 +5,9 @@ ghost use Rattle.std.specs.Prelude.{slice_get};
 ghost use Rattle.std.specs.List.{flat_map};
 ghost use Rattle.std.specs.declared.alloc.Global.{Global};
 ghost use Rattle.std.specs.declared.vec.Vec.{Vec};
-ghost use Rattle.ls_events.specs.declared.event.Event.{Event as EventValue};
 ghost use Rattle.ls_linearizable.specs.Judging.{later};
 ghost use Rattle.ls_serial.specs.Serial.{IsEnd};
 ghost use Rattle.ls_automaton.specs.declared.outcome.Outcome.{Outcome};
-ghost use Rattle.ls_automaton.specs.Excuses.{AreSameUntaken, all_left};
 ghost use Rattle.ls_automaton.specs.Held.{AreAmong, AreSame, Covers, Held, IsCovered, IsTaking, NoneIsCovered, begins};
 ghost use Rattle.ls_automaton.specs.Held.{begun_held, ends, first_held, further, held_of, helds_of, kept};
 ghost use Rattle.ls_automaton.specs.Held.{leaves_none};
@@ -431,8 +429,8 @@ fn uncovered(alloc: Global, rows: &[Vec<Outcome>], pairs: &[Pair]) -> Result<Vec
     Ok(left)
 }
 
-/// What is left of pairs after an event, but for those that another one covers. In each of these a pending call has
-/// taken effect. The only refusal is that memory ran out.
+/// What is left of pairs after an event, but for those that another one covers. The only refusal is that memory ran
+/// out.
 pub fn pairs_after(
     alloc: Global,
     rows: &[Vec<Outcome>],
@@ -441,9 +439,6 @@ pub fn pairs_after(
 ) -> Result<Vec<Pair>, AllocError>
     ensures left { IfOk result (λ v. leaves_none rows.now (helds_of v.items) ≡
         later (leaves_none rows.now (helds_of pairs.now)) event.now) }
-    ensures untaken { IfOk result (λ v. (h : List EventValue) →
-        AreSameUntaken (all_left rows.now h (helds_of v.items))
-        (all_left rows.now (event.now ∷ h) (helds_of pairs.now))) }
     ensures none_covered { IfOk result (λ v. NoneIsCovered rows.now (helds_of v.items)) }
 {
     let found = all_moved(alloc, rows, pairs, event)?;

@@ -11,7 +11,7 @@ ghost use Rattle.ls_serial_search.specs.Open.{HasLongCall, HasManyOrders};
 ghost use Rattle.ls_serial_search.specs.Orders.{progress_at};
 ghost use Rattle.ls_serial_search.specs.Tree.{IsTree};
 ghost use Rattle.ls_source.specs.Stands.{StandsFor};
-ghost use Rattle.ls_automaton.specs.Fates.{AreFates, AreShortIn, HasFate, is_long};
+ghost use Rattle.ls_automaton.specs.Fates.{AreFates, HasFate, is_long};
 ghost use Rattle.ls_automaton.specs.Spots.{AreSpots, IsAsked, IsFound, schedules_of};
 ghost use Rattle.ls_automaton.specs.States.{AreStatesOf, HaveOutcomes};
 
@@ -151,7 +151,6 @@ fn row_of<'a>(
     requires acts { ActAll (plain_file task.now.file.now) (plain_program task.now.program.now) steps.now }
     ensures fates { IfOk result (λ r. AreFates (plain_file task.now.file.now) (plain_program task.now.program.now)
         task.now.most_steps steps.now r.fates.items) }
-    ensures short { IfOk result (λ r. r.goes_on ≡ false → AreShortIn r.fates.items) }
     ensures row { IfOk result (λ r. IsFound (plain_file task.now.file.now) (plain_program task.now.program.now)
         task.now.most_steps r.goes_on spots.old.list.items spots.new.list.items steps.now r.outcomes.items) }
     ensures long { IfOk result (λ r. r.goes_on ≡ true →

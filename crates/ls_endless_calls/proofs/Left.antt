@@ -8,7 +8,6 @@ use Rattle.std.specs.declared.alloc.Global.{Global}
 use Rattle.std.proofs.lemmas.List.{length-map, replicate-append-replicate}
 use Rattle.std.proofs.lemmas.Option.{get_or_from_slice_get}
 use Rattle.ls_events.specs.declared.event.Event.{Event}
-use Rattle.ls_automaton.specs.declared.states.States.{States}
 use Rattle.ls_checked.specs.CheckedTree.{File}
 use Rattle.ls_checked.specs.CheckedProgram.{Program}
 use Rattle.ls_meaning.specs.declared.step.Did.{Did}
@@ -34,12 +33,13 @@ use Rattle.ls_search.proofs.Likeness.{other_same}
 use Rattle.ls_search.proofs.Pairs.{map_from, map_there}
 use Rattle.ls_source_rows.proofs.Rowing.{states_are}
 use Rattle.ls_source_rows.proofs.Whole.{First, Found, Next, found, is_search, of_schedule, pairs}
+use Rattle.ls_serial_search.specs.Endless.{AreEndlessRuns}
 use Rattle.ls_serial_search.proofs.NeverEnding.{same_after}
 use Rattle.ls_spinning.specs.Turning.{TurnsForEver}
 use Rattle.ls_spinning.proofs.Hearing.{ahead_run, run_at, turns_later}
 use Rattle.ls_spinning.proofs.Staying.{acts_before}
-use Rattle.ls_endless_calls.specs.Laws.{AreKnown, ExcusedNeverEnds, NeverEndsSo}
-use Rattle.ls_endless_calls.specs.Waits.{AreExcusedByAll, IsPending}
+use Rattle.ls_endless_calls.specs.Laws.{AmongNeverEnds, NeverEndsSo}
+use Rattle.ls_endless_calls.specs.Waits.{AreExcused, IsPending}
 use Rattle.ls_endless_calls.specs.Breaking.{AreFine, AreThere, Breaks, IsFine}
 use Rattle.ls_endless_calls.specs.Turning.{NoneTurnsUnexcused}
 use Rattle.ls_endless_calls.proofs.Breaks.{breaks_other, not_endless}
@@ -61,11 +61,11 @@ module _ (sfile : File) (sprogram : Program) (file : File) (program : Program) (
     (seen : List Seen)
     (expanded : AreExpanded First Next file program (pairs_at First t (map Some histories) nodes)
     (length program.threads) seen)
-    (all : length seen ≡ length nodes) (serial : States) (excused : List Bool)
+    (all : length seen ≡ length nodes) (runs : List (List Event)) (excused : List Bool)
     (marked : (i : ℕ) (h : List Event) → slice_get histories i ≡ Some h → slice_get excused i ≡ Some true →
-    AreExcusedByAll serial h)
-    (fine : AreFine file (length program.threads) t excused seen nodes (length nodes)) (never : ExcusedNeverEnds)
-    (known : AreKnown sfile sprogram serial) where
+    AreExcused runs h)
+    (fine : AreFine file (length program.threads) t excused seen nodes (length nodes)) (among : AmongNeverEnds)
+    (are : AreEndlessRuns sfile sprogram runs) where
   abbrev pub Pair : Type 0
   Pair = Noticed (Option (List Event))
 
@@ -113,8 +113,8 @@ module _ (sfile : File) (sprogram : Program) (file : File) (program : Program) (
         let is : h.0 ≡ source_history file program schedule =
         of_schedule file program k up t histories nodes sound begins seen expanded all schedule h.0
         (sym a.noted ∙ f.noted h.0 h.1) in
-        let one = subst (AreExcusedByAll serial) is (marked f.node.place.noted h.0 h.1 flag) in
-        never sfile sprogram serial file program schedule c known one.0 pending (one.1 c pending)
+        among sfile sprogram runs (source_history file program schedule) c are
+        (subst (AreExcused runs) is (marked f.node.place.noted h.0 h.1 flag) c pending)
     by_fine c pending (inr (inr breaks)) =
         absurd (not_endless file program breaks.0 schedule turns
         (breaks_other file (length program.threads) a.other.names a.other.renaming breaks.0 a.pair.configuration
@@ -208,14 +208,14 @@ module _ (file : File) (program : Program) (t : Table) (values : List (Vec Event
       AreExpanded First Next file program (pairs_at First t (map (λ v. Some v.items) values) nodes)
       (length program.threads) seen →
       length seen ≡ length nodes →
-      (serial : States) (lent : List (Vec Event Global)) (excused : List Bool) →
+      (runs : List (List Event)) (lent : List (Vec Event Global)) (excused : List Bool) →
       lent ≡ values →
-      AreMarked serial lent excused →
+      AreMarked runs lent excused →
       AreFine t.file (length program.threads) t excused seen nodes (length nodes) →
-      ExcusedNeverEnds →
-      (sfile : File) (sprogram : Program) → AreKnown sfile sprogram serial →
+      AmongNeverEnds →
+      (sfile : File) (sprogram : Program) → AreEndlessRuns sfile sprogram runs →
       NoneTurnsUnexcused sfile sprogram file program
-  none_left k up begins seen expanded all serial lent excused same marked fine never sfile sprogram known =
+  none_left k up begins seen expanded all runs lent excused same marked fine among sfile sprogram are =
       let histories : List (List Event) = map (λ (v : Vec Event Global). v.items) values in
       let states = states_are values in
       none_turns sfile sprogram file program k up t histories nodes
@@ -226,10 +226,10 @@ module _ (file : File) (program : Program) (t : Table) (values : List (Vec Event
       seen
       (subst (λ (l : List (Option (List Event))). AreExpanded First Next file program (pairs_at First t l nodes)
       (length program.threads) seen) states expanded)
-      all serial excused
+      all runs excused
       (λ i h there flag.
       let v = map_from (λ (v : Vec Event Global). v.items) values i h there in
-      subst (AreExcusedByAll serial) v.2
+      subst (AreExcused runs) v.2
       (marked i v.0 (ap (λ (l : List (Vec Event Global)). slice_get l i) same ∙ v.1) flag))
       (subst (λ (f : File). AreFine f (length program.threads) t excused seen nodes (length nodes)) sound.file_is fine)
-      never known
+      among are

@@ -1,6 +1,5 @@
 pub mod Ahead
 pub mod Breaks
-pub mod Deciding
 pub mod Excused
 pub mod Fine
 pub mod Left

@@ -1,8 +1,5 @@
 -- Which programs have threads that wait for ever.
-use Rattle.std.specs.Prelude.{◌≡◌, ℕ, false, List}
-use Rattle.ls_automaton.specs.declared.states.States.{States}
-use Rattle.ls_automaton.specs.Excuses.{IsExcusedIn}
-use Rattle.ls_automaton.specs.States.{AreStatesOf, HaveOutcomes}
+use Rattle.std.specs.Prelude.{◌≡◌, ℕ, List}
 use Rattle.ls_events.specs.declared.event.Event.{Event}
 use Rattle.ls_checked.specs.CheckedTree.{File}
 use Rattle.ls_checked.specs.CheckedProgram.{Program}
@@ -68,28 +65,3 @@ abbrev pub NeverEndsIsAmong : Type 0
 NeverEndsIsAmong =
     (file : File) (program : Program) (runs : List (List Event)) (h : List Event) (c : Event) →
     TellEndlessRuns file program runs → NeverEndsSo file program h c → IsRunAmong runs h c
-
--- ---- what states between calls tell
-
--- The states of a program between calls that run one at a time, with what comes of each call there. If there aren't too
--- many, each call leads from one of them to one of them.
-pub record AreKnown (file : File) (program : Program) (s : States) : Type 0 where
-  pub bound : ℕ
-  pub states : AreStatesOf file program bound s
-  pub outcomes : s.many ≡ false → HaveOutcomes file program bound s
-
--- a pending call that is excused by all states never ends so
-abbrev pub ExcusedNeverEnds : Type 0
-ExcusedNeverEnds =
-    (sfile : File) (sprogram : Program) (s : States) (file : File) (program : Program) (schedule : List ℕ) (c : Event) →
-    AreKnown sfile sprogram s → s.many ≡ false → IsPending (source_history file program schedule) c →
-    IsExcusedIn s (source_history file program schedule) c →
-    NeverEndsSo sfile sprogram (source_history file program schedule) c
-
--- if no call goes on, each call that never ends so is excused
-abbrev pub NeverEndsIsExcused : Type 0
-NeverEndsIsExcused =
-    (sfile : File) (sprogram : Program) (s : States) (file : File) (program : Program) (schedule : List ℕ) (c : Event) →
-    AreKnown sfile sprogram s → s.many ≡ false → s.goes_on ≡ false →
-    NeverEndsSo sfile sprogram (source_history file program schedule) c →
-    IsExcusedIn s (source_history file program schedule) c

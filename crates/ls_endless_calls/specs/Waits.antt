@@ -1,7 +1,5 @@
 -- Calls that wait, and whether they wait so in calls that run one at a time.
-use Rattle.std.specs.Prelude.{◌≡◌, ℕ, false, List, [], ◌∷◌, ◌++◌, Contains, Some, slice_get, take}
-use Rattle.ls_automaton.specs.declared.states.States.{States}
-use Rattle.ls_automaton.specs.Excuses.{IsExcusedIn}
+use Rattle.std.specs.Prelude.{◌≡◌, ℕ, List, [], ◌∷◌, ◌++◌, Contains, Some, slice_get, take}
 use Rattle.ls_events.specs.declared.event.Event.{Event}
 use Rattle.ls_serial.specs.Serial.{AreEnded, Explains, IsCall, IsEndOf}
 
@@ -57,28 +55,3 @@ KeepsPair g j h i =
 abbrev pub KeepsAt : List Event → List Event → ℕ → Type 0
 KeepsAt g h i = (c : Event) (j : ℕ) → IsCall c → slice_get h i ≡ Some c → slice_get g j ≡ Some c →
     AreEnded (take i h) (take j g)
-
--- ---- by the states between calls
-
--- no call is pending
-abbrev pub NonePends : List Event → Type 0
-NonePends h = (c : Event) → IsPending h c → ⊥
-
--- each call that is pending is excused by the states between calls
-abbrev pub AreExcusedBy : States → List Event → Type 0
-AreExcusedBy s h = (c : Event) → IsPending h c → IsExcusedIn s h c
-
--- so it is, and there aren't too many states
-abbrev pub AreExcusedByAll : States → List Event → Type 0
-AreExcusedByAll s h = (s.many ≡ false) × AreExcusedBy s h
-
--- the one at this place is excused, if it is pending
-abbrev pub IsExcusedByAt : States → List Event → ℕ → Type 0
-IsExcusedByAt s h place = (c : Event) → slice_get h place ≡ Some c → IsPending h c → IsExcusedIn s h c
-
--- the call at this place is pending, and isn't excused
-pub record IsUnexcusedBy (s : States) (h : List Event) (place : ℕ) : Type 0 where
-  pub call : Event
-  pub at : slice_get h place ≡ Some call
-  pub pending : IsPending h call
-  pub unexcused : IsExcusedIn s h call → ⊥

@@ -1,20 +1,12 @@
 // The laws, each as the contract of a function that computes nothing.
 
-ghost use Rattle.ls_endless_calls.specs.Laws.{AmongNeverEnds, ExcusedNeverEnds, NeverEndsIsAmong, NeverEndsIsExcused};
-ghost use Rattle.ls_endless_calls.specs.Laws.{NoWaitNoneForEver, PendingWaits};
+ghost use Rattle.ls_endless_calls.specs.Laws.{AmongNeverEnds, NoWaitNoneForEver, PendingWaits, NeverEndsIsAmong};
 
 /// If one of some runs up to a call that never ends is to a call, then the call never ends so. If the runs are all, no
 /// other call does.
 pub fn runs_decide()
     ensures among { AmongNeverEnds }
     ensures all { NeverEndsIsAmong }
-{}
-
-/// A pending call that is excused by all states between calls never ends so. If no call goes on in them, no other call
-/// does.
-pub fn states_decide()
-    ensures excused { ExcusedNeverEnds }
-    ensures all { NeverEndsIsExcused }
 {}
 
 /// Where no thread acts, the thread of a pending call waits. So if no thread waits where none acts, no call waits for

@@ -7,9 +7,7 @@ mod explaining;
 mod finding;
 pub mod laws;
 mod listing;
-mod unexcused;
 mod waiting;
 
 pub use finding::{Endless, find_endless};
-pub use unexcused::{first_pending, first_unexcused_by};
 pub use waiting::first_unexcused;

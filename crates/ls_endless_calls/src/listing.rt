@@ -8,19 +8,20 @@ ghost use Rattle.ls_checked.specs.Plain.{plain_file};
 ghost use Rattle.ls_checked.specs.PlainProgram.{plain_program};
 ghost use Rattle.ls_search.specs.declared.places.Node.{Node as NodeValue};
 ghost use Rattle.ls_search.specs.declared.places.Seen.{Seen as SeenValue};
+ghost use Rattle.ls_serial_search.specs.Endless.{AreEndlessRuns};
+ghost use Rattle.ls_serial_search.specs.Histories.{lists_of};
 ghost use Rattle.ls_transitions.specs.Seen.{table_of};
 ghost use Rattle.ls_transitions.specs.Tables.{Grows};
 ghost use Rattle.ls_endless_calls.specs.Breaking.{AreFine, AreThere, IsFine};
-ghost use Rattle.ls_endless_calls.specs.Laws.{AreKnown};
 ghost use Rattle.ls_endless_calls.specs.Turning.{NoneTurnsUnexcused};
 ghost use Rattle.ls_endless_calls.specs.declared.listing.Left.TheVariants.{Nothing};
 
 use crate::breaking::comes_to_break;
 use crate::excusing::excused_of;
-use crate::laws::states_decide;
-use ls_automaton::states::States as SerialStates;
+use crate::laws::runs_decide;
 use ls_checked::program::Program;
 use ls_checked::tree::File;
+use ls_events::event::Event;
 use ls_search::listing::Listing;
 use ls_search::nameless::Nameless;
 use ls_search::places::{Node, Seen};
@@ -133,23 +134,23 @@ fn steps_with_setup(
     Ok(steps)
 }
 
-/// Looks through all states of a program for one at which a thread acts, some of whose pending calls isn't excused by
-/// the states between calls, and from which no steps that were tried come to an event or to rest. At most so many states
-/// are kept. A refusal is that memory ran out, that a store, a work or a state has no number left, that a call answers
-/// an object, or that a constant of the file names one: a program that was read has neither.
+/// Looks through all states of a program for one at which a thread acts, some of whose pending calls isn't the last of
+/// one of the runs, and from which no steps that were tried come to an event or to rest. At most so many states are
+/// kept. A refusal is that memory ran out, that a store, a work or a state has no number left, that a call answers an
+/// object, or that a constant of the file names one: a program that was read has neither.
 pub(crate) fn left_over(
     alloc: Global,
     file: &File,
     program: &Program,
-    serial: &SerialStates<'_>,
+    runs: &[Vec<Event>],
     limit: usize,
 ) -> Result<Left, AllocError>
     requires room { 1 ≤ limit }
     ensures { IfOk result (λ left. left ≡ Nothing → (sfile : FileValue) (sprogram : ProgramValue) →
-        AreKnown sfile sprogram serial.now →
+        AreEndlessRuns sfile sprogram (lists_of runs.now) →
         NoneTurnsUnexcused sfile sprogram (plain_file file.now) (plain_program program.now)) }
 {
-    states_decide();
+    runs_decide();
     let histories = Histories;
     let observer = Nameless {
         observer: &histories,
@@ -177,7 +178,7 @@ pub(crate) fn left_over(
         found,
         seen,
     } = search;
-    let excused = excused_of(alloc, serial, &pool.values)?;
+    let excused = excused_of(alloc, runs, &pool.values)?;
     let states = States {
         nodes: &found.nodes,
         seen: &seen,

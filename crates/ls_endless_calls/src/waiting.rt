@@ -18,7 +18,7 @@ fn is_end_of(call: &Event, end: &Event) -> bool
 }
 
 /// Whether the event at a place of a history is a call that hasn't ended.
-pub(crate) fn is_pending(history: &[Event], at: usize) -> bool
+fn is_pending(history: &[Event], at: usize) -> bool
     requires { at < length history.now }
     ensures { Decides result (IsPendingAt history.now at) }
 {

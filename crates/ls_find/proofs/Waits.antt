@@ -1,5 +1,5 @@
 -- Whether a thread waits for ever, by the rows of a whole exploration.
-use Rattle.std.proofs.Common.{◌≡◌, ◌∙◌, ℕ, List, Some, true, false, ap, inl, inr, refl, sym, subst}
+use Rattle.std.proofs.Common.{◌≡◌, ◌∙◌, ℕ, List, [], Some, true, ap, inl, inr, refl, sym, subst, arith}
 use Rattle.std.specs.Prelude.{◌≢◌, Contains, slice_get}
 use Rattle.ls_checked.specs.CheckedTree.{File}
 use Rattle.ls_checked.specs.CheckedProgram.{Program}
@@ -9,14 +9,13 @@ use Rattle.ls_explore.specs.Rows.{IsEnd, NoneEnds, Told}
 use Rattle.ls_explore.specs.declared.rows.Ending.{Ending}
 use Rattle.ls_explore.specs.declared.rows.Ending.TheVariants.{GoesOn, NotSeen, OutOfCells, Over}
 use Rattle.ls_explore.specs.Tellings.{TellTruth, TellWhole, schedule_of}
-use Rattle.ls_automaton.specs.declared.states.States.{States}
-use Rattle.ls_automaton.specs.Excuses.{IsExcusedIn}
-use Rattle.ls_endless_calls.specs.Laws.{AreKnown, ExcusedNeverEnds, NeverEndsIsExcused}
+use Rattle.ls_serial_search.specs.Endless.{AreEndlessRuns, TellEndlessRuns}
+use Rattle.ls_endless_calls.specs.Laws.{AmongNeverEnds, NeverEndsSo, NeverEndsIsAmong}
 use Rattle.ls_endless_calls.specs.Waits.{IsPending}
 use Rattle.ls_find.specs.Said.{HasWaitingCall, IsVerdict, IsVerdictIfAny, IsWaitingVerdict, LongSchedule}
 use Rattle.ls_specification.specs.Specification.{Given, given_file, given_program}
-use Rattle.ls_find.specs.Verdicts.{AllExcused, AllLinearizable, AllQuiet, HasWaiting, IsAsked, IsBadSchedule, NoneWaits}
-use Rattle.ls_find.specs.Verdicts.{PendsAt, ShowsRow, WaitsAt}
+use Rattle.ls_find.specs.Verdicts.{AllExcused, AllLinearizable, HasWaiting, IsAsked, IsBadSchedule, NoneWaits, ShowsRow}
+use Rattle.ls_find.specs.Verdicts.{WaitsAt}
 use Rattle.ls_find.specs.declared.sought.Sought.{Sought}
 use Rattle.ls_find.specs.declared.verdict.Reason.{Reason}
 use Rattle.ls_find.specs.declared.verdict.Reason.TheVariants.{Waits}
@@ -27,46 +26,24 @@ use Rattle.ls_find.proofs.Shown.{got_there}
 some_is : {X : Type 0} {x y : X} → Some x ≡ Some y → x ≡ y
 some_is e = cc
 
--- if no call is pending where a row ends, none waits
-pub none_quiet : (given : Given) (file : File) (program : Program) (rows : List Told) → TellWhole file program rows →
-    AllQuiet rows →
-    NoneWaits given file program
-none_quiet given file program rows whole quiet schedule c over pending =
-    let e = whole.ended schedule over in
-    absurd (quiet e.row e.there e.ends c (subst (λ (h : List Event). IsPending h c) (sym e.same) pending))
+pub none_endless : (file : File) (program : Program) → AreEndlessRuns file program []
+none_endless file program run there = absurd (omega (arith, there.1))
 
--- if each call that is pending where a row ends is excused by all states between calls, none waits for ever
-pub none_waits : (given : Given) (file : File) (program : Program) (rows : List Told) (s : States) →
-    ExcusedNeverEnds → TellWhole file program rows →
-    AreKnown (given_file given file) (given_program given program) s → s.many ≡ false → AllExcused s rows →
+-- if each call that is pending where a row ends is the last of a run in which it waits, none waits for ever
+pub none_waits : (given : Given) (file : File) (program : Program) (rows : List Told) (runs : List (List Event)) →
+    AmongNeverEnds → TellWhole file program rows →
+    AreEndlessRuns (given_file given file) (given_program given program) runs → AllExcused runs rows →
     NoneWaits given file program
-none_waits given file program rows s never whole known few excused schedule c over pending =
+none_waits given file program rows runs among whole are excused schedule c over pending =
+    let sfile = given_file given file in
+    let sprogram = given_program given program in
     let e = whole.ended schedule over in
     let here = subst (λ (h : List Event). IsPending h c) (sym e.same) pending in
-    never (given_file given file) (given_program given program) s file program schedule c known few pending
-    (subst (λ (h : List Event). IsExcusedIn s h c) e.same (excused e.row e.there e.ends c here))
+    subst (λ (h : List Event). NeverEndsSo sfile sprogram h c) e.same
+    (among sfile sprogram runs e.row.history c are (excused e.row e.there e.ends c here))
 
--- where a call is pending at the end of a row, a call waits
-pub call_waits : (file : File) (program : Program) (k : ℕ) (rows : List Told) (at : ℕ) →
-    TellTruth file program k rows → PendsAt rows at → NoneEnds OutOfCells rows → HasWaitingCall file program
-call_waits file program k rows at truth p cells = record {
-  schedule = schedule_of k p.row;
-  over = truth.over p.row there (is_over p.row.ending p.pends.ends (cells p.row there));
-  call = p.pends.pending.0;
-  pending = subst (λ (h : List Event). IsPending h p.pends.pending.0) (truth.told p.row there) p.pends.pending.2;
-}
-  where
-    there : Contains rows p.row
-    there = got_there rows at p.row p.is
-
-    is_over : (e : Ending) → IsEnd e → e ≢ OutOfCells → e ≡ Over
-    is_over Over ends not = refl
-    is_over OutOfCells ends not = absurd (not refl)
-    is_over GoesOn ends not = absurd ends
-    is_over NotSeen ends not = absurd ends
-
-module _ (file : File) (program : Program) (k : ℕ) (rows : List Told) (s : States) (at : ℕ)
-    (truth : TellTruth file program k rows) (w : WaitsAt s rows at) where
+module _ (file : File) (program : Program) (k : ℕ) (rows : List Told) (runs : List (List Event)) (at : ℕ)
+    (truth : TellTruth file program k rows) (w : WaitsAt runs rows at) where
   there : Contains rows w.row
   there = got_there rows at w.row w.is
 
@@ -75,35 +52,51 @@ module _ (file : File) (program : Program) (k : ℕ) (rows : List Told) (s : Sta
   pending = subst (λ (h : List Event). IsPending h w.waits.unexcused.call) (truth.told w.row there)
       w.waits.unexcused.pending
 
-  -- if no call goes on, and a call that is pending where a row is over isn't excused, it waits for ever
-  row_waits : (given : Given) → NeverEndsIsExcused → AreKnown (given_file given file) (given_program given program) s →
-      s.many ≡ false → s.goes_on ≡ false → w.row.ending ≡ Over →
+  -- and no thread acts, if the row ends and isn't out of cells
+  pub call_waits : NoneEnds OutOfCells rows → HasWaitingCall file program
+  call_waits cells = record {
+    schedule = schedule_of k w.row;
+    over = truth.over w.row there (is_over w.row.ending w.waits.ends (cells w.row there));
+    call = w.waits.unexcused.call;
+    pending = pending;
+  }
+    where
+      is_over : (e : Ending) → IsEnd e → e ≢ OutOfCells → e ≡ Over
+      is_over Over ends not = refl
+      is_over OutOfCells ends not = absurd (not refl)
+      is_over GoesOn ends not = absurd ends
+      is_over NotSeen ends not = absurd ends
+
+  -- if the runs are all, and a call that is pending where a row is over is the last of none, it waits for ever
+  row_waits : (given : Given) → NeverEndsIsAmong →
+      TellEndlessRuns (given_file given file) (given_program given program) runs → w.row.ending ≡ Over →
       HasWaiting given file program (schedule_of k w.row)
-  row_waits given all known few short over = (
+  row_waits given all tell over = (
     w.waits.unexcused.call,
     record {
       over = truth.over w.row there over;
       pending = pending;
       alone = λ so. w.waits.unexcused.unexcused
-          (subst (λ (h : List Event). IsExcusedIn s h w.waits.unexcused.call) (sym (truth.told w.row there))
-          (all (given_file given file) (given_program given program) s file program (schedule_of k w.row)
-          w.waits.unexcused.call known few short so));
+          (all (given_file given file) (given_program given program) runs w.row.history w.waits.unexcused.call tell
+          (subst (λ (h : List Event).
+          NeverEndsSo (given_file given file) (given_program given program) h w.waits.unexcused.call)
+          (sym (truth.told w.row there)) so));
     },
   )
 
-  pub one_waits : (given : Given) → NeverEndsIsExcused →
-      AreKnown (given_file given file) (given_program given program) s → s.many ≡ false → s.goes_on ≡ false →
+  pub one_waits : (given : Given) → NeverEndsIsAmong →
+      TellEndlessRuns (given_file given file) (given_program given program) runs →
       (r : Told) × (slice_get rows at ≡ Some r) × (r.ending ≡ Over) → (v : ProgramVerdict) →
       ShowsRow Waits k rows at v →
       (states : ℕ) → IsWaitingVerdict states given file program v
-  one_waits given all known few short over v shows states = by_verdict v shows
+  one_waits given all tell over v shows states = by_verdict v shows
     where
       same : over.0 ≡ w.row
       same = some_is (sym over.1 ∙ w.is)
 
       bad : IsBadSchedule Waits given file program (schedule_of k w.row)
       bad = record {
-        bad = row_waits given all known few short (subst (λ (q : Told). q.ending ≡ Over) same over.2);
+        bad = row_waits given all tell (subst (λ (q : Told). q.ending ≡ Over) same over.2);
         acts = truth.acts w.row there;
       }
 

@@ -16,8 +16,7 @@ use Rattle.ls_find.specs.declared.verdict.ProgramVerdict.TheVariants as verdicts
 use Rattle.ls_source_judge.specs.Judged.{AllLike, IsNotLike}
 use Rattle.ls_specification.specs.Specification.{Given, given_file, given_program}
 use Rattle.ls_endless_calls.specs.Laws.{NoneWaitsForEver, WaitsForEver}
-use Rattle.ls_automaton.specs.declared.states.States.{States}
-use Rattle.ls_endless_calls.specs.Waits.{AreExcusedBy, IsPendingAt, IsUnexcusedBy, NonePends}
+use Rattle.ls_endless_calls.specs.Waits.{AreExcused, IsUnexcused}
 use Rattle.ls_verdicts.specs.Verdicts as sets
 use Rattle.ls_verdicts.specs.declared.verdicts.Verdict.TheVariants as legality
 
@@ -104,34 +103,18 @@ ShowsRow reason setup rows at (verdicts.Bad said schedule) =
 
 -- ---- waiting
 
--- no call is pending where a row ends
-abbrev pub AllQuiet : List Told → Type 0
-AllQuiet rows = (r : Told) → Contains rows r → IsEnd r.ending → NonePends r.history
-
--- at the end of a row a call is pending
-pub record HasPending (row : Told) : Type 0 where
-  pub ends : IsEnd row.ending
-  pub place : ℕ
-  pub pending : IsPendingAt row.history place
-
--- so at the end of the row at this place
-pub record PendsAt (rows : List Told) (at : ℕ) : Type 0 where
-  pub row : Told
-  pub is : slice_get rows at ≡ Some row
-  pub pends : HasPending row
-
--- each call that is pending where a row ends is excused by the states between calls
-abbrev pub AllExcused : States → List Told → Type 0
-AllExcused s rows = (r : Told) → Contains rows r → IsEnd r.ending → AreExcusedBy s r.history
+-- each call that is pending where a row ends is the last of one of the runs
+abbrev pub AllExcused : List (List Event) → List Told → Type 0
+AllExcused runs rows = (r : Told) → Contains rows r → IsEnd r.ending → AreExcused runs r.history
 
 -- at the end of a row a call is pending that isn't
-pub record HasUnexcused (s : States) (row : Told) : Type 0 where
+pub record HasUnexcused (runs : List (List Event)) (row : Told) : Type 0 where
   pub ends : IsEnd row.ending
   pub place : ℕ
-  pub unexcused : IsUnexcusedBy s row.history place
+  pub unexcused : IsUnexcused runs row.history place
 
 -- so at the end of the row at this place
-pub record WaitsAt (s : States) (rows : List Told) (at : ℕ) : Type 0 where
+pub record WaitsAt (runs : List (List Event)) (rows : List Told) (at : ℕ) : Type 0 where
   pub row : Told
   pub is : slice_get rows at ≡ Some row
-  pub waits : HasUnexcused s row
+  pub waits : HasUnexcused runs row

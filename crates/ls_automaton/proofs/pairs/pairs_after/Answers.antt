@@ -1,15 +1,10 @@
 -- Why `pairs_after` in src/pairs.rt keeps its contract.
 
-use Rattle.std.proofs.Common.{◌∷◌, ◌⊎◌, ◌∙◌, Contains, List, subst}
+use Rattle.std.proofs.Common.{◌⊎◌, ◌∙◌, Contains, subst}
 use Rattle.std.specs.List.{flat_map}
-use Rattle.std.specs.declared.vec.Vec.{Vec}
-use Rattle.std.specs.declared.alloc.Global.{Global}
-use Rattle.ls_automaton.specs.declared.outcome.Outcome.{Outcome}
-use Rattle.ls_automaton.specs.Excuses.{all_left}
 use Rattle.ls_automaton.specs.Held.{AreAmong, Held, IsCovered, helds_of, moved}
-use Rattle.ls_automaton.proofs.Covering.{covered_judge, covered_untaken, none_among}
+use Rattle.ls_automaton.proofs.Covering.{covered_judge, none_among}
 use Rattle.ls_automaton.proofs.Ending.{moved_judge, same_judge}
-use Rattle.ls_automaton.proofs.Untaken.{moved_untaken, same_untaken, untaken_along}
 use Rattle.ls_automaton.proofs.pairs.pairs_after.Goals as goal
 
 pub returns-clause-left : goal.returns-clause-left
@@ -25,27 +20,6 @@ returns-clause-left c =
     (flat_map (moved c.args.rows.now c.args.event.now) (helds_of c.args.pairs.now)) c.in_ok-found.ensures.0
     c.in_ok-found.ensures.1
     ∙ moved_judge c.args.rows.now (helds_of c.args.pairs.now) c.args.event.now
-
-pub returns-clause-untaken : goal.returns-clause-untaken
-returns-clause-untaken c = λ h.
-    let rows : List (Vec Outcome Global) = c.args.rows.now in
-    let left : List Held = helds_of c.in_ok-left.left.items in
-    let once : List Held = helds_of c.in_ok-once.once.items in
-    let found : List Held = helds_of c.in_ok-found.found.items in
-    let moved_on : List Held = flat_map (moved rows c.args.event.now) (helds_of c.args.pairs.now) in
-    untaken_along (all_left rows h left) (all_left rows h once)
-    (all_left rows (c.args.event.now ∷ h) (helds_of c.args.pairs.now))
-    (covered_untaken rows once left
-    (subst (λ l. AreAmong left (helds_of l)) c.as_slice.ensures.value c.in_ok-left.ensures.none_new)
-    (subst (λ l. (q : Held) → Contains (helds_of l) q → Contains left q ⊎ IsCovered rows (helds_of l) q)
-    c.as_slice.ensures.value c.in_ok-left.ensures.none_lost) h)
-    (untaken_along (all_left rows h once) (all_left rows h found)
-    (all_left rows (c.args.event.now ∷ h) (helds_of c.args.pairs.now))
-    (same_untaken rows once found c.in_ok-once.ensures.none_new c.in_ok-once.ensures.none_lost h)
-    (untaken_along (all_left rows h found) (all_left rows h moved_on)
-    (all_left rows (c.args.event.now ∷ h) (helds_of c.args.pairs.now))
-    (same_untaken rows found moved_on c.in_ok-found.ensures.0 c.in_ok-found.ensures.1 h)
-    (moved_untaken rows (helds_of c.args.pairs.now) c.args.event.now h)))
 
 pub returns-clause-none_covered : goal.returns-clause-none_covered
 returns-clause-none_covered c =

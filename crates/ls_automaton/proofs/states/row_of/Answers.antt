@@ -8,9 +8,9 @@ use Rattle.ls_checked.specs.Plain.{plain_file}
 use Rattle.ls_checked.specs.PlainProgram.{plain_program, plain_thread}
 use Rattle.ls_serial_search.specs.Open.{HasLongCall}
 use Rattle.ls_serial_search.proofs.Apart.{tree_next}
-use Rattle.ls_automaton.specs.Fates.{AreFatesTo, AreShortIn, is_long}
+use Rattle.ls_automaton.specs.Fates.{AreFatesTo, is_long}
 use Rattle.ls_automaton.specs.Spots.{schedules_of}
-use Rattle.ls_automaton.proofs.Fated.{fates_more, fates_none, short_more, short_none}
+use Rattle.ls_automaton.proofs.Fated.{fates_more, fates_none}
 use Rattle.ls_automaton.proofs.Reaching.{schedule_kept}
 use Rattle.ls_automaton.proofs.Filled.{either_long, filled_all, filled_more, filled_none}
 use Rattle.ls_automaton.proofs.states.row_of.Goals as goal
@@ -31,10 +31,6 @@ loop-thread-preserved c =
           (fates_more file program c.args.task.now.most_steps c.args.steps.now c.loop-thread.thread
           c.loop-thread.fates.items c.in_ok-fate.fate c.loop-thread.invariant.as_many c.loop-thread.invariant.fates
           c.in_ok-fate.ensures.fate);
-      short = λ none. let r = c.either-goes_on.ensures.none none in
-          subst AreShortIn (sym c.in_ok-push.ensures.items)
-          (short_more c.loop-thread.fates.items c.in_ok-fate.fate (c.loop-thread.invariant.short r.0)
-          (sym c.is_long.ensures ∙ r.1));
       as_many = ap (λ n. n + 1) c.loop-thread.invariant.as_many
           ∙ sym (ap length c.in_ok-push.ensures.items
           ∙ length-append c.loop-thread.fates.items (c.in_ok-fate.fate ∷ []));
@@ -73,7 +69,6 @@ loop-thread-init c =
           c.new-outcomes.result.items c.new-outcomes.ensures.items c.requires.spots;
       fates = fates_none file program c.args.task.now.most_steps c.args.steps.now c.new-fates.result.items
           c.new-fates.ensures.items;
-      short = λ none. short_none c.new-fates.result.items c.new-fates.ensures.items;
       as_many = sym (ap length c.new-fates.ensures.items);
       long = λ goes. absurd (apart goes);
       tree = λ place at tree. tree;

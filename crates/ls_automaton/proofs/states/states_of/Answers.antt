@@ -18,8 +18,8 @@ use Rattle.ls_serial_search.specs.Open.{HasLongCall}
 use Rattle.ls_automaton.specs.Spots.{IsFound, schedules_of}
 use Rattle.ls_automaton.proofs.Filled.{AreFilled, acting_to, either_long, filled_whole, filled_first, filled_on}
 use Rattle.ls_automaton.proofs.Filled.{map_length, serial_to}
-use Rattle.ls_automaton.proofs.Fated.{AreFated, fated_none, fated_on, fated_states, shorts_more, shorts_none}
-use Rattle.ls_automaton.specs.Fates.{AreFates, AreShort}
+use Rattle.ls_automaton.proofs.Fated.{AreFated, fated_none, fated_on, fated_states}
+use Rattle.ls_automaton.specs.Fates.{AreFates}
 use Rattle.ls_automaton.proofs.states.states_of.Goals as goal
 
 pub loop-task-init : goal.loop-task-init
@@ -33,7 +33,6 @@ loop-task-init c =
       long = λ goes. absurd (apart goes);
       fated = fated_none file program c.args.most_steps c.in_ok-spots.spots.list.items c.new-fates.result.items
           c.new-fates.ensures.items;
-      short = λ none. shorts_none c.new-fates.result.items c.new-fates.ensures.items;
       as_many = ap length c.new-fates.ensures.items ∙ sym (ap length c.new-rows.ensures.items);
       tree = subst (λ (l : List (Vec Outcome Global)). IsTree file program
           (schedules_of c.in_ok-spots.spots.list.items) (length l) 0) (sym c.new-rows.ensures.items)
@@ -93,10 +92,6 @@ loop-task-preserved c =
           c.as_slice.ensures.value c.in_ok-steps.ensures))
           (subst (λ l. AreFates file program c.args.most_steps l c.in_ok-row.row.fates.items)
           c.as_slice-in-loop-task.ensures.value c.in_ok-row.ensures.fates));
-      short = λ none. let r = c.either-goes_on.ensures.none none in
-          subst AreShort (sym c.in_ok-push-2.ensures.items)
-          (shorts_more c.loop-task.fates.items c.in_ok-row.row.fates (c.loop-task.invariant.short r.0)
-          (c.in_ok-row.ensures.short r.1));
       as_many = ap length c.in_ok-push-2.ensures.items
           ∙ length-append c.loop-task.fates.items (c.in_ok-row.row.fates ∷ [])
           ∙ ap (λ n. n + 1) c.loop-task.invariant.as_many
@@ -139,7 +134,6 @@ returns-clause-outcomes c = λ whole.
         c.loop-task-test.false,
         c.loop-task.invariant.as_many,
       );
-      short = c.loop-task.invariant.short;
     }
 
 pub returns-then-len-most_states-clause-outcomes : goal.returns-then-len-most_states-clause-outcomes

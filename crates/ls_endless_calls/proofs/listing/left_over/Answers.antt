@@ -9,6 +9,7 @@ use Rattle.ls_checked.specs.Plain.{plain_file}
 use Rattle.ls_checked.specs.PlainProgram.{plain_program, plain_thread}
 use Rattle.ls_search.specs.declared.places.Node.{Node}
 use Rattle.ls_search.specs.declared.places.Seen.{Seen}
+use Rattle.ls_serial_search.specs.Histories.{lists_of}
 use Rattle.ls_transitions.specs.Tables.{Table}
 use Rattle.ls_transitions.specs.Seen.{table_of}
 use Rattle.ls_endless_calls.specs.Breaking.{AreFine}
@@ -27,7 +28,7 @@ first_left-requires c =
     }
 
 pub returns-in-None : goal.returns-in-None
-returns-in-None c = λ nothing sfile sprogram known.
+returns-in-None c = λ nothing sfile sprogram are.
     let file : File = plain_file c.args.file.now in
     let program : Program = plain_program c.args.program.now in
     let t : Table = table_of c.in_ok-setup.field-0.listing.search.transitions in
@@ -49,5 +50,5 @@ returns-in-None c = λ nothing sfile sprogram known.
     c.deref-2.ensures.value found))) in
     none_left file program t c.in_ok-setup.field-0.listing.search.pool.values.items nodes c.in_ok-setup.ensures.sound
     c.in_ok-setup.field-0.setup c.in_ok-setup.ensures.up c.in_ok-setup.ensures.root seen c.in_ok-setup.ensures.expanded
-    (c.in_ok-setup.ensures.all c.if-not-complete.false) c.args.serial.now c.deref.result.now excused
-    c.deref.ensures.value c.in_ok-excused.ensures fine c.states_decide.ensures.excused sfile sprogram known
+    (c.in_ok-setup.ensures.all c.if-not-complete.false) (lists_of c.args.runs.now) c.deref.result.now excused
+    c.deref.ensures.value c.in_ok-excused.ensures fine c.runs_decide.ensures.among sfile sprogram are

@@ -1,9 +1,0 @@
--- What the loop `at` of `first_without` in src/unexcused.rt keeps.
-
-use Rattle.ls_automaton.specs.Excuses.{IsExcusedIn}
-use Rattle.ls_endless_calls.specs.Waits.{IsPending}
-use Rattle.ls_endless_calls.proofs.Places.{AreSo}
-use Rattle.ls_endless_calls.proofs.unexcused.first_without.Given as goal
-
-abbrev pub invariant-loop-at : goal.invariant-loop-at
-invariant-loop-at l = AreSo l.history (λ k y. IsPending l.history y → IsExcusedIn l.states l.history y) l.at
